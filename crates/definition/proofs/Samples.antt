@@ -1,0 +1,170 @@
+-- The starred samples of document 01, and two more: one table, and one statement, proved by computing.
+use mathlib.Core.Path.{_≡_, refl}
+use Prim.Native.Nat.{ℕ}
+use mathlib.Core.Bool.{Bool, true, false, _&&_}
+use mathlib.Core.List.{List, [], _∷_, _++_, map}
+use mathlib.Core.Option.{Option, none, some}
+use lib.Dec.{eqb}
+use lib.IntN.{ℤ, pos, negsuc}
+use Rattle.definition.specs.Basic
+use Rattle.definition.specs.Basic.{Answer, ok, refused, sameBytes}
+use Rattle.definition.specs.Syntax.{Bytes, Identifier, Index, number, named, FuncType}
+use Rattle.definition.specs.Syntax
+use Rattle.definition.specs.Spaces
+use Rattle.definition.specs.Reader
+use Rattle.definition.specs.Token
+use Rattle.definition.specs.Instructions
+use Rattle.definition.specs.Records
+use Rattle.definition.specs.Read
+use Rattle.definition.specs.Deinline
+use Rattle.definition.specs.Types
+use Rattle.definition.specs.Names
+use Rattle.definition.specs.Binary
+use Rattle.definition.specs.Assemble
+
+-- ## What a row says
+
+pub data Sample : Type 0 where
+  -- a stream, its count of records, its module
+  assembles : Bytes → ℕ → Bytes → Sample
+  -- a stream, a refusal's number and record
+  refuses : Bytes → ℕ → ℕ → Sample
+  -- a number, or an integer, and its groups
+  groups : ℕ → Bytes → Sample
+  signedGroups : ℤ → Bytes → Sample
+  -- the labels of the open blocks, innermost first; an index; its depth or a refusal
+  labelled : List (Option Identifier) → Index Identifier → Answer ℕ → Sample
+  -- declared signatures, used ones, and the numbers that the uses get
+  interned : List FuncType → List FuncType → List ℕ → Sample
+
+-- `Depth` is the sort of a label's depth: here its number
+abbrev depthIs : Answer Syntax.Depth → Answer ℕ → Bool
+depthIs (ok d) (ok n) = eqb (d .depth) n
+depthIs (ok d) (refused n r) = false
+depthIs (refused n r) (ok m) = false
+depthIs (refused n r) (refused m t) = eqb n m && eqb r t
+
+abbrev says : Assemble.Said → ℕ → ℕ → Bytes → Bool
+says a n r bs = eqb (a .number) n && eqb (a .rec) r && sameBytes (a .bytes) bs
+
+-- with a work area just long enough and the program's 65,536 bytes of output
+abbrev assembled : Bytes → Assemble.Said
+assembled stream = Assemble.assemble stream 16384 65536
+
+abbrev emptyScope : Names.Scope Identifier
+emptyScope = record { eq = sameBytes; items = []; allTypes = [] }
+
+abbrev numbersAre : List FuncType → List ℕ → Answer (List FuncType) → Bool
+numbersAre us ns (ok ts) = sameBytes (map (λ u. Types.typeNumber u ts) us) ns
+numbersAre us ns (refused n r) = false
+
+abbrev holds : Sample → Bool
+holds (assembles stream count bytes) = says (assembled stream) 0 count bytes
+holds (refuses stream n r) = says (assembled stream) n r []
+holds (groups n bs) = sameBytes (Binary.u n) bs
+holds (signedGroups z bs) = sameBytes (Binary.s z) bs
+holds (labelled blocks x a) = depthIs (Names.depthOf emptyScope blocks 0 x) a
+holds (interned ds us ns) = numbersAre us ns (Types.intern ds (map (λ u. (0, u)) us))
+
+abbrev every : List Sample → Bool
+every [] = true
+every (x ∷ xs) = holds x && every xs
+
+-- ## The table
+
+abbrev S1 : Bytes
+S1 = 0x00 ∷ 0x61 ∷ 0x73 ∷ 0x6D ∷ 0x01 ∷ 0x00 ∷ 0x00 ∷ 0x00 ∷ []
+
+-- the parameter x, and the local that the body gets
+abbrev S7 : ℕ → Bytes
+S7 x = 0x03 ∷ 0x00 ∷ 0x01 ∷ 0x01 ∷ 0x66 ∷ 0x00 ∷ 0x00 ∷ 0x01 ∷ 0x01 ∷ 0x78 ∷ 0x7F ∷ 0x01 ∷ 0x7F ∷ 0x00 ∷ 0x20 ∷ 0x02 ∷ 0x01 ∷ x ∷ 0xFF ∷ []
+
+-- open from outside in: a, b, unnamed, a
+abbrev S5 : List (Option Identifier)
+S5 = some (0x61 ∷ []) ∷ none ∷ some (0x62 ∷ []) ∷ some (0x61 ∷ []) ∷ []
+
+abbrev takes : List ℕ → FuncType
+takes ps = record { params = ps; results = [] }
+
+abbrev samples : List Sample
+samples =
+    -- S1
+    assembles [] 0 S1
+    -- S2
+    ∷ groups 0 (0x00 ∷ [])
+    ∷ groups 127 (0x7F ∷ [])
+    ∷ groups 128 (0x80 ∷ 0x01 ∷ [])
+    ∷ groups 4294967295 (0xFF ∷ 0xFF ∷ 0xFF ∷ 0xFF ∷ 0x0F ∷ [])
+    -- S3
+    ∷ signedGroups (pos 63) (0x3F ∷ [])
+    ∷ signedGroups (pos 64) (0xC0 ∷ 0x00 ∷ [])
+    ∷ signedGroups (negsuc 0) (0x7F ∷ [])
+    ∷ signedGroups (negsuc 63) (0x40 ∷ [])
+    ∷ signedGroups (negsuc 64) (0xBF ∷ 0x7F ∷ [])
+    -- S5: a is 0, b is 2, c is refused, number 9 stays 9
+    ∷ labelled S5 (named (0x61 ∷ [])) (ok 0)
+    ∷ labelled S5 (named (0x62 ∷ [])) (ok 2)
+    ∷ labelled S5 (named (0x63 ∷ [])) (refused 14 0)
+    ∷ labelled S5 (number 9) (ok 9)
+    -- and as streams: br a, br b, br 9; br c
+    ∷ assembles
+    (0x03 ∷ 0x00 ∷ 0x00 ∷ 0x00 ∷ 0x00 ∷ 0x00 ∷ 0x00 ∷ 0x00 ∷ 0x02 ∷ 0x01 ∷ 0x61 ∷ 0x00 ∷ 0x00 ∷ 0x00 ∷ 0x02 ∷ 0x01 ∷ 0x62 ∷ 0x00 ∷ 0x00 ∷ 0x00 ∷ 0x02 ∷ 0x00 ∷ 0x00 ∷ 0x00 ∷ 0x00 ∷ 0x02 ∷ 0x01 ∷ 0x61 ∷ 0x00 ∷ 0x00 ∷ 0x00 ∷ 0x0C ∷ 0x02 ∷ 0x01 ∷ 0x61 ∷ 0x0C ∷ 0x02 ∷ 0x01 ∷ 0x62 ∷ 0x0C ∷ 0x01 ∷ 0x09 ∷ 0x0B ∷ 0x00 ∷ 0x0B ∷ 0x00 ∷ 0x0B ∷ 0x00 ∷ 0x0B ∷ 0x00 ∷ 0xFF ∷ [])
+    13
+    (S1 ++ (0x01 ∷ 0x04 ∷ 0x01 ∷ 0x60 ∷ 0x00 ∷ 0x00 ∷ 0x03 ∷ 0x02 ∷ 0x01 ∷ 0x00 ∷ 0x0A ∷ 0x16 ∷ 0x01 ∷ 0x14 ∷ 0x00 ∷ 0x02 ∷ 0x40 ∷ 0x02 ∷ 0x40 ∷ 0x02 ∷ 0x40 ∷ 0x02 ∷ 0x40 ∷ 0x0C ∷ 0x00 ∷ 0x0C ∷ 0x02 ∷ 0x0C ∷ 0x09 ∷ 0x0B ∷ 0x0B ∷ 0x0B ∷ 0x0B ∷ 0x0B ∷ []))
+    ∷ refuses
+    (0x03 ∷ 0x00 ∷ 0x00 ∷ 0x00 ∷ 0x00 ∷ 0x00 ∷ 0x00 ∷ 0x00 ∷ 0x02 ∷ 0x01 ∷ 0x61 ∷ 0x00 ∷ 0x00 ∷ 0x00 ∷ 0x02 ∷ 0x01 ∷ 0x62 ∷ 0x00 ∷ 0x00 ∷ 0x00 ∷ 0x02 ∷ 0x00 ∷ 0x00 ∷ 0x00 ∷ 0x00 ∷ 0x02 ∷ 0x01 ∷ 0x61 ∷ 0x00 ∷ 0x00 ∷ 0x00 ∷ 0x0C ∷ 0x02 ∷ 0x01 ∷ 0x63 ∷ 0x0B ∷ 0x00 ∷ 0x0B ∷ 0x00 ∷ 0x0B ∷ 0x00 ∷ 0x0B ∷ 0x00 ∷ 0xFF ∷ [])
+    14 5
+    -- S6
+    ∷ interned
+    (takes (0x7F ∷ []) ∷ takes [] ∷ takes (0x7F ∷ []) ∷ [])
+    (takes (0x7F ∷ []) ∷ takes (0x7E ∷ []) ∷ takes [] ∷ takes (0x7E ∷ []) ∷ [])
+    (0 ∷ 3 ∷ 1 ∷ 3 ∷ [])
+    -- S7, and with the second x made y
+    ∷ assembles (S7 0x78) 3 (S1 ++ (0x01 ∷ 0x06 ∷ 0x01 ∷ 0x60 ∷ 0x01 ∷ 0x7F ∷ 0x01 ∷ 0x7F ∷ 0x03 ∷ 0x02 ∷ 0x01 ∷ 0x00 ∷ 0x07 ∷ 0x05 ∷ 0x01 ∷ 0x01 ∷ 0x66 ∷ 0x00 ∷ 0x00 ∷ 0x0A ∷ 0x06 ∷ 0x01 ∷ 0x04 ∷ 0x00 ∷ 0x20 ∷ 0x00 ∷ 0x0B ∷ []))
+    ∷ refuses (S7 0x79) 14 1
+    -- S8: l is 2
+    ∷ assembles
+    (0x01 ∷ 0x00 ∷ 0x02 ∷ 0x7F ∷ 0x7E ∷ 0x00 ∷ 0x03 ∷ 0x00 ∷ 0x00 ∷ 0x00 ∷ 0x01 ∷ 0x00 ∷ 0x00 ∷ 0x00 ∷ 0x01 ∷ 0x01 ∷ 0x6C ∷ 0x7F ∷ 0x20 ∷ 0x02 ∷ 0x01 ∷ 0x6C ∷ 0xFF ∷ [])
+    4
+    (S1 ++ (0x01 ∷ 0x06 ∷ 0x01 ∷ 0x60 ∷ 0x02 ∷ 0x7F ∷ 0x7E ∷ 0x00 ∷ 0x03 ∷ 0x02 ∷ 0x01 ∷ 0x00 ∷ 0x0A ∷ 0x08 ∷ 0x01 ∷ 0x06 ∷ 0x01 ∷ 0x01 ∷ 0x7F ∷ 0x20 ∷ 0x02 ∷ 0x0B ∷ []))
+    -- S9
+    ∷ assembles (0x05 ∷ 0x00 ∷ 0x00 ∷ 0x02 ∷ 0x00 ∷ 0x03 ∷ 0x61 ∷ 0x62 ∷ 0x63 ∷ []) 1 (S1 ++ (0x05 ∷ 0x04 ∷ 0x01 ∷ 0x01 ∷ 0x01 ∷ 0x01 ∷ 0x0B ∷ 0x09 ∷ 0x01 ∷ 0x00 ∷ 0x41 ∷ 0x00 ∷ 0x0B ∷ 0x03 ∷ 0x61 ∷ 0x62 ∷ 0x63 ∷ []))
+    -- a block with no index, no parameter and a single result adds no type
+    ∷ assembles
+    (0x03 ∷ 0x00 ∷ 0x00 ∷ 0x00 ∷ 0x00 ∷ 0x00 ∷ 0x00 ∷ 0x00 ∷ 0x02 ∷ 0x00 ∷ 0x00 ∷ 0x00 ∷ 0x01 ∷ 0x7F ∷ 0x41 ∷ 0x05 ∷ 0x0B ∷ 0x00 ∷ 0x1A ∷ 0xFF ∷ [])
+    6
+    (S1 ++ (0x01 ∷ 0x04 ∷ 0x01 ∷ 0x60 ∷ 0x00 ∷ 0x00 ∷ 0x03 ∷ 0x02 ∷ 0x01 ∷ 0x00 ∷ 0x0A ∷ 0x0A ∷ 0x01 ∷ 0x08 ∷ 0x00 ∷ 0x02 ∷ 0x7F ∷ 0x41 ∷ 0x05 ∷ 0x0B ∷ 0x1A ∷ 0x0B ∷ []))
+    -- the natural exponents of 28 to 3E
+    ∷ assembles
+    (0x03 ∷ 0x00 ∷ 0x00 ∷ 0x00 ∷ 0x00 ∷ 0x00 ∷ 0x00 ∷ 0x00 ∷ 0x28 ∷ 0x00 ∷ 0x00 ∷ 0x00 ∷ 0x29 ∷ 0x00 ∷ 0x00 ∷ 0x00 ∷ 0x2A ∷ 0x00 ∷ 0x00 ∷ 0x00 ∷ 0x2B ∷ 0x00 ∷ 0x00 ∷ 0x00 ∷ 0x2C ∷ 0x00 ∷ 0x00 ∷ 0x00 ∷ 0x2D ∷ 0x00 ∷ 0x00 ∷ 0x00 ∷ 0x2E ∷ 0x00 ∷ 0x00 ∷ 0x00 ∷ 0x2F ∷ 0x00 ∷ 0x00 ∷ 0x00 ∷ 0x30 ∷ 0x00 ∷ 0x00 ∷ 0x00 ∷ 0x31 ∷ 0x00 ∷ 0x00 ∷ 0x00 ∷ 0x32 ∷ 0x00 ∷ 0x00 ∷ 0x00 ∷ 0x33 ∷ 0x00 ∷ 0x00 ∷ 0x00 ∷ 0x34 ∷ 0x00 ∷ 0x00 ∷ 0x00 ∷ 0x35 ∷ 0x00 ∷ 0x00 ∷ 0x00 ∷ 0x36 ∷ 0x00 ∷ 0x00 ∷ 0x00 ∷ 0x37 ∷ 0x00 ∷ 0x00 ∷ 0x00 ∷ 0x38 ∷ 0x00 ∷ 0x00 ∷ 0x00 ∷ 0x39 ∷ 0x00 ∷ 0x00 ∷ 0x00 ∷ 0x3A ∷ 0x00 ∷ 0x00 ∷ 0x00 ∷ 0x3B ∷ 0x00 ∷ 0x00 ∷ 0x00 ∷ 0x3C ∷ 0x00 ∷ 0x00 ∷ 0x00 ∷ 0x3D ∷ 0x00 ∷ 0x00 ∷ 0x00 ∷ 0x3E ∷ 0x00 ∷ 0x00 ∷ 0x00 ∷ 0xFF ∷ [])
+    25
+    (S1 ++ (0x01 ∷ 0x04 ∷ 0x01 ∷ 0x60 ∷ 0x00 ∷ 0x00 ∷ 0x03 ∷ 0x02 ∷ 0x01 ∷ 0x00 ∷ 0x0A ∷ 0x49 ∷ 0x01 ∷ 0x47 ∷ 0x00 ∷ 0x28 ∷ 0x02 ∷ 0x00 ∷ 0x29 ∷ 0x03 ∷ 0x00 ∷ 0x2A ∷ 0x02 ∷ 0x00 ∷ 0x2B ∷ 0x03 ∷ 0x00 ∷ 0x2C ∷ 0x00 ∷ 0x00 ∷ 0x2D ∷ 0x00 ∷ 0x00 ∷ 0x2E ∷ 0x01 ∷ 0x00 ∷ 0x2F ∷ 0x01 ∷ 0x00 ∷ 0x30 ∷ 0x00 ∷ 0x00 ∷ 0x31 ∷ 0x00 ∷ 0x00 ∷ 0x32 ∷ 0x01 ∷ 0x00 ∷ 0x33 ∷ 0x01 ∷ 0x00 ∷ 0x34 ∷ 0x02 ∷ 0x00 ∷ 0x35 ∷ 0x02 ∷ 0x00 ∷ 0x36 ∷ 0x02 ∷ 0x00 ∷ 0x37 ∷ 0x03 ∷ 0x00 ∷ 0x38 ∷ 0x02 ∷ 0x00 ∷ 0x39 ∷ 0x03 ∷ 0x00 ∷ 0x3A ∷ 0x00 ∷ 0x00 ∷ 0x3B ∷ 0x01 ∷ 0x00 ∷ 0x3C ∷ 0x00 ∷ 0x00 ∷ 0x3D ∷ 0x01 ∷ 0x00 ∷ 0x3E ∷ 0x02 ∷ 0x00 ∷ 0x0B ∷ []))
+    ∷ []
+
+pub samples-hold : every samples ≡ true
+unfolding Basic._>>=_ Basic.each Basic.concatMap Basic.same Basic.sameBytes Basic.firstAt Basic.at Basic.isSome Basic.between
+    Spaces.externSpace Spaces.ownSpace Spaces.sourceSpace Spaces.segments Spaces.brings Spaces.count Reader.byte Reader.many Token.groups
+    Token.u32 Token.u64 Token.upTo Token.counted Token.idchar Token.idByte Token.identifier Token.identifier₁ Token.stringByte
+    Token.string Token.bytes Token.isRef Token.isVal Token.valType Token.refType Token.flag Token.flag64 Token.isLimits Token.bound
+    Token.maximum Token.limits Token.tableType Token.globalType Token.numberIndex Token.namedIndex Token.present Token.optional
+    Token.param Token.typeUse Instructions.opcodes Instructions.formIn Instructions.formOf Instructions.naturals Instructions.exponent
+    Instructions.alignment Instructions.plainOf Instructions.constant Instructions.instruction Instructions.bodyRec Records.importName
+    Records.funcExtern Records.tableExtern Records.memExtern Records.globalExtern Records.importOf Records.importRec Records.itemRec
+    Records.importForm Records.ownFuncForm Records.funcRec Records.ownTableForm Records.inlineTableForm Records.tableRec
+    Records.ownMemForm Records.inlineMemForm Records.memRec Records.ownGlobalForm Records.globalRec Records.typeRec Records.kind
+    Records.exportRec Records.startRec Records.activeMode Records.mode Records.elemRec Records.dataRec Records.fieldRecs Records.fieldRec
+    Read.nothingSeen Read.room Read.ownBody Read.sourceBody Read.fieldBody Read.isStart Read.openAfter Read.seenAfter Read.oneRecord
+    Read.records Read.read Deinline.exactly Deinline.pages Deinline.zeroOffset Deinline.sourceFields Deinline.fieldsOf Deinline.bodyOf
+    Deinline.deinlineFrom Deinline.deinline Deinline.importsFrom Deinline.importOrder Types.signature Types.sameType Types.typeAt
+    Types.typeNumber Types.isInline Types.isShort Types.useOf Types.instrUses Types.bodyUses Types.externUses Types.ownUses
+    Types.fieldUses Types.uses Types.declaredBy Types.declared Types.intern Types.allTypes Names.find Names.taken Names.distinct
+    Names.space Names.itemOf Names.register Names.numberIn Names.isAbsent Names.paramNames Names.localsOf Names.blocksAfter Names.itemNo
+    Names.checked Names.typeNoOf Names.typeNo Names.blockType Names.localNo Names.depthOf Names.immediate Names.plainOp Names.constOp
+    Names.closes Names.instrOp Names.body Names.distinctLocals Names.ownItem Names.externNo Names.tableNo Names.modeOf Names.resolve
+    Names.resolveAll Binary.unsigned Binary.u Binary.low7 Binary.over128 Binary.fits7 Binary.signed Binary.s Binary.integer Binary.vec
+    Binary.sized Binary.byte Binary.funcType Binary.limits Binary.tableType Binary.globalType Binary.externType Binary.blockType
+    Binary.memarg Binary.imm Binary.instruction Binary.expr Binary.runs Binary.run Binary.func-code Binary.elem Binary.data′
+    Binary.entries Binary.inSection Binary.joined Binary.content Binary.section Binary.preamble Binary.sectionNumbers Binary.sections
+    Binary.module′ Assemble.items Assemble.resolved Assemble.moduleIn Assemble.say Assemble.sayRead Assemble.assemble Assemble.outputAfter
+    Assemble.workAfter Assemble.outcome Assemble.call
+samples-hold = refl

@@ -1,0 +1,117 @@
+-- The instruction records of a body, and constants (document 01; opcodes as in the standard, 5.4).
+use Prim.Native.Nat.{ℕ, zero, suc, _+_, _-_}
+use mathlib.Core.Bool.{Bool}
+use mathlib.Core.List.{List, [], _∷_}
+use mathlib.Core.Option.{Option, none, some}
+use lib.Dec.{eqb, leb, ltb}
+use lib.ListN.{getD}
+use Rattle.definition.specs.Basic.{if_then_else_, between}
+use Rattle.definition.specs.Syntax.{Identifier, funcs, mems, globals}
+use Rattle.definition.specs.Syntax.{Operand, nothing, label, labels, local, item, access, int32, int64, raw, Plain, Instr, opens, elses, ends, indirect, plain, Rec, instr, bodyEnd}
+use Rattle.definition.specs.Reader.{Reader, _>>=_, _>>_, give, refuse, require, byte, byteOf, many, choose}
+use Rattle.definition.specs.Token.{u32, u64, counted, identifier, refType, present, optional, typeUse}
+
+-- ## What stands after an opcode
+
+-- the operands of an instruction that opens and closes no block and has no type use, by the standard's names
+pub data Operands : Type 0 where
+  bare labelidx labelidxs localidx funcidx globalidx memidx memarg i32 i64 f32 f64 heaptype : Operands
+
+-- block, loop or if; else; end; call_indirect; or operands
+pub data Form : Type 0 where
+  opening elsing ending calling : Form
+  operands : Operands → Form
+
+-- the opcodes of document 01, in ranges, each with what stands after it
+unfoldable pub opcodes : List (ℕ × ℕ × Form)
+opcodes =
+    (0x00, 0x01, operands bare)
+    ∷ (0x02, 0x04, opening)
+    ∷ (0x05, 0x05, elsing)
+    ∷ (0x0B, 0x0B, ending)
+    ∷ (0x0C, 0x0D, operands labelidx)
+    ∷ (0x0E, 0x0E, operands labelidxs)
+    ∷ (0x0F, 0x0F, operands bare)
+    ∷ (0x10, 0x10, operands funcidx)
+    ∷ (0x11, 0x11, calling)
+    ∷ (0x1A, 0x1B, operands bare)
+    ∷ (0x20, 0x22, operands localidx)
+    ∷ (0x23, 0x24, operands globalidx)
+    ∷ (0x28, 0x3E, operands memarg)
+    ∷ (0x3F, 0x40, operands memidx)
+    ∷ (0x41, 0x41, operands i32)
+    ∷ (0x42, 0x42, operands i64)
+    ∷ (0x43, 0x43, operands f32)
+    ∷ (0x44, 0x44, operands f64)
+    ∷ (0x45, 0xC4, operands bare)
+    ∷ (0xD0, 0xD0, operands heaptype)
+    ∷ (0xD1, 0xD1, operands bare)
+    ∷ (0xD2, 0xD2, operands funcidx)
+    ∷ []
+
+unfoldable pub formIn : List (ℕ × ℕ × Form) → ℕ → Option Form
+formIn [] b = none
+formIn (row ∷ rows) b = if between (row .0) (row .1) b then some (row .2) else formIn rows b
+
+unfoldable pub formOf : ℕ → Option Form
+formOf b = formIn opcodes b
+
+-- the natural exponents of the opcodes 28 to 3E
+unfoldable pub naturals : List ℕ
+naturals = 2 ∷ 3 ∷ 2 ∷ 3 ∷ 0 ∷ 0 ∷ 1 ∷ 1 ∷ 0 ∷ 0 ∷ 1 ∷ 1 ∷ 2 ∷ 2 ∷ 2 ∷ 3 ∷ 2 ∷ 3 ∷ 0 ∷ 1 ∷ 0 ∷ 1 ∷ 2 ∷ []
+
+-- the exponent that an alignment byte says: 0 is the opcode's natural one, else the byte is one more than the exponent
+unfoldable pub exponent : ℕ → ℕ → ℕ
+exponent op b = if eqb b 0 then getD naturals (op - 0x28) 0 else b - 1
+
+unfoldable pub alignment : Reader ℕ
+alignment = byteOf 4 (λ b. leb b 32)
+
+-- ## Instructions
+
+abbrev pub done : ℕ → Operand Identifier → Reader (Plain Identifier)
+done op x = give (record { opcode = op; operand = x })
+
+unfoldable pub plainOf : ℕ → Operands → Reader (Plain Identifier)
+plainOf op bare = done op nothing
+plainOf op labelidx = present >>= λ x. done op (label x)
+plainOf op labelidxs = counted 1024 present >>= λ xs. present >>= λ x. done op (labels xs x)
+plainOf op localidx = present >>= λ x. done op (local x)
+plainOf op funcidx = present >>= λ x. done op (item funcs x)
+plainOf op globalidx = present >>= λ x. done op (item globals x)
+plainOf op memidx = optional >>= λ x. done op (item mems x)
+plainOf op memarg = alignment >>= λ b. u32 >>= λ o. optional >>= λ x. done op (access (exponent op b) o x)
+plainOf op i32 = u32 >>= λ n. done op (int32 n)
+plainOf op i64 = u64 >>= λ n. done op (int64 n)
+plainOf op f32 = many 4 byte >>= λ bs. done op (raw bs)
+plainOf op f64 = many 8 byte >>= λ bs. done op (raw bs)
+plainOf op heaptype = refType >>= λ t. done op (raw (t ∷ []))
+
+-- a constant is one instruction, chosen by its first byte
+unfoldable pub constant : Reader (Plain Identifier)
+constant = byte >>= λ b. choose b
+    ((0, plainOf 0x41 i32)
+    ∷ (1, plainOf 0x42 i64)
+    ∷ (2, plainOf 0x43 f32)
+    ∷ (3, plainOf 0x44 f64)
+    ∷ (4, plainOf 0x23 globalidx)
+    ∷ (5, plainOf 0xD0 heaptype)
+    ∷ (6, plainOf 0xD2 funcidx)
+    ∷ [])
+
+-- an instruction where `k` blocks are open: the 129th open block is refused by 7, an else or end with none by 8
+unfoldable pub instruction : ℕ → ℕ → Form → Reader (Instr Identifier)
+instruction k op opening = require 7 (ltb k 128) >> identifier >>= λ l. typeUse >>= λ t. give (opens op l t)
+instruction k op elsing = require 8 (ltb 0 k) >> identifier >>= λ l. give (elses l)
+instruction k op ending = require 8 (ltb 0 k) >> identifier >>= λ l. give (ends l)
+instruction k op calling = optional >>= λ x. typeUse >>= λ t. give (indirect x t)
+instruction k op (operands x) = plainOf op x >>= λ p. give (plain p)
+
+abbrev pub formed : ℕ → ℕ → Option Form → Reader (Instr Identifier)
+formed k op none = refuse 4
+formed k op (some form) = instruction k op form
+
+-- a record of a body: the byte FF, refused by 8 where a block is open, or an instruction
+unfoldable pub bodyRec : ℕ → Reader (Rec Identifier)
+bodyRec k = byte >>= λ b.
+    if eqb b 0xFF then (require 8 (eqb k 0) >> give bodyEnd) else (formed k b (formOf b) >>= λ x. give (instr x))

@@ -1,0 +1,13 @@
+pub mod Basic
+pub mod Syntax
+pub mod Spaces
+pub mod Reader
+pub mod Token
+pub mod Instructions
+pub mod Records
+pub mod Read
+pub mod Deinline
+pub mod Types
+pub mod Names
+pub mod Binary
+pub mod Assemble

@@ -1,0 +1,121 @@
+-- The record stream: from a list of bytes to its records, or to the first reading fault in byte order (refusals 2 to 9).
+use Prim.Native.Nat.{ℕ, zero, suc, _+_, _-_}
+use mathlib.Core.Bool.{Bool, true, false, _||_, not}
+use mathlib.Core.List.{List, [], _∷_, _++_}
+use mathlib.Core.Option.{Option, none, some}
+use lib.Dec.{eqb, leb, ltb}
+use lib.ListN.{length, getD}
+use Rattle.definition.specs.Basic.{if_then_else_, Answer, ok, refused, between, isSome}
+use Rattle.definition.specs.Syntax.{Bytes, Identifier, Space, Instr, opens, elses, ends, indirect, plain, Own, ownFunc, ownTable, ownMem, ownGlobal}
+use Rattle.definition.specs.Syntax.{Source, own, imported, tableOf, memOf, FieldRec, typeR, importR, itemR, exportR, startR, elemR, dataR, Rec, field, instr, bodyEnd}
+use Rattle.definition.specs.Reader.{Step, got, fault, Reader, _>>=_, give}
+use Rattle.definition.specs.Instructions.{formOf, bodyRec}
+use Rattle.definition.specs.Records.{Room, fieldRec}
+use Rattle.definition.specs.Spaces.{brings, count}
+
+-- ## What the records before have brought
+
+-- the items so far, by their spaces; in a body how many blocks are open; whether there was a start
+pub record Seen : Type 0 where
+  pub items : List Space
+  pub body : Option ℕ
+  pub started : Bool
+
+unfoldable pub nothingSeen : Seen
+nothingSeen = record { items = []; body = none; started = false }
+
+-- document 01's ceiling of 256 items in each index space, and of one start
+unfoldable pub room : Seen → Room
+room seen = record { item = λ k. ltb (count k (seen .items)) 256; start = not (seen .started) }
+
+-- an own function begins a body with no block open
+unfoldable pub ownBody : {I : Type 0} → Own I → Option ℕ
+ownBody (ownFunc t ls) = some 0
+ownBody (ownTable t) = none
+ownBody (ownMem l) = none
+ownBody (ownGlobal t c) = none
+
+unfoldable pub sourceBody : {I : Type 0} → Source I → Option ℕ
+sourceBody (own o) = ownBody o
+sourceBody (imported n d) = none
+sourceBody (tableOf w xs) = none
+sourceBody (memOf w d) = none
+
+unfoldable pub fieldBody : {I : Type 0} → FieldRec I → Option ℕ
+fieldBody (typeR i t) = none
+fieldBody (importR n i d) = none
+fieldBody (itemR i es x) = sourceBody x
+fieldBody (exportR n k x) = none
+fieldBody (startR x) = none
+fieldBody (elemR i m xs) = none
+fieldBody (dataR i m d) = none
+
+unfoldable pub isStart : {I : Type 0} → FieldRec I → Bool
+isStart (typeR i t) = false
+isStart (importR n i d) = false
+isStart (itemR i es x) = false
+isStart (exportR n k x) = false
+isStart (startR x) = true
+isStart (elemR i m xs) = false
+isStart (dataR i m d) = false
+
+-- how many blocks are open after an instruction
+unfoldable pub openAfter : {I : Type 0} → Instr I → ℕ → ℕ
+openAfter (opens op l t) k = k + 1
+openAfter (elses l) k = k
+openAfter (ends l) k = k - 1
+openAfter (indirect x t) k = k
+openAfter (plain p) k = k
+
+abbrev pub instrBody : {I : Type 0} → Instr I → Option ℕ → Option ℕ
+instrBody x none = none
+instrBody x (some k) = some (openAfter x k)
+
+-- what has been seen after one record more
+unfoldable pub seenAfter : {I : Type 0} → Seen → Rec I → Seen
+seenAfter seen (field f) = record { items = brings f ++ seen .items; body = fieldBody f; started = isStart f || seen .started }
+seenAfter seen (instr x) = record { items = seen .items; body = instrBody x (seen .body); started = seen .started }
+seenAfter seen bodyEnd = record { items = seen .items; body = none; started = seen .started }
+
+-- ## Records, one after the other
+
+-- outside a body a field, in a body an instruction or its end
+abbrev pub recordIn : Seen → Option ℕ → Reader (Rec Identifier)
+recordIn seen none = fieldRec (room seen) >>= λ f. give (field f)
+recordIn seen (some k) = bodyRec k
+
+unfoldable pub oneRecord : Seen → Reader (Rec Identifier)
+oneRecord seen = recordIn seen (seen .body)
+
+-- may a record begin with this byte?
+abbrev pub beginsIn : ℕ → Option ℕ → Bool
+beginsIn b none = between 0x01 0x0A b
+beginsIn b (some k) = eqb b 0xFF || isSome (formOf b)
+
+-- where the stream ends: in a body refused by 2, at the next record's number
+abbrev pub atEnd : ℕ → Option ℕ → Answer (List (Rec Identifier))
+atEnd r none = ok []
+atEnd r (some k) = refused 2 r
+
+abbrev pub before : {A : Type 0} → A → Answer (List A) → Answer (List A)
+before x (ok xs) = ok (x ∷ xs)
+before x (refused n r) = refused n r
+
+-- a reading fault stands at the record that is being read
+abbrev pub withRecord : {A B : Type 0} → ℕ → (A → ℕ → Answer B) → Step A → Answer B
+withRecord r k (got x next) = k x next
+withRecord r k (fault n) = refused n r
+
+-- the records from a place on, `left` of them at most; `r` is the number of the next. One too many is refused by 7 at its first byte, and
+-- by 4 where no record may begin with that byte
+unfoldable pub records : ℕ → ℕ → Seen → Bytes → ℕ → Answer (List (Rec Identifier))
+records zero r seen s here =
+    if leb (length s) here then atEnd r (seen .body) else
+    refused (if beginsIn (getD s here 0) (seen .body) then 7 else 4) r
+records (suc left) r seen s here =
+    if leb (length s) here then atEnd r (seen .body) else
+    withRecord r (λ x next. before x (records left (r + 1) (seenAfter seen x) s next)) (oneRecord seen s here)
+
+-- document 01's ceiling of 4,096 records
+unfoldable pub read : Bytes → Answer (List (Rec Identifier))
+read s = records 4096 0 nothingSeen s 0
