@@ -145,8 +145,8 @@ pub samples-hold : every samples ≡ true
 unfolding Basic._>>=_ Basic.each Basic.concatMap Basic.same Basic.sameBytes Basic.firstAt Basic.at Basic.isSome Basic.between
     Spaces.externSpace Spaces.ownSpace Spaces.sourceSpace Spaces.segments Spaces.brings Spaces.count Reader.byte Reader.many Token.groups
     Token.u32 Token.u64 Token.upTo Token.counted Token.idchar Token.idByte Token.identifier Token.identifier₁ Token.stringByte
-    Token.string Token.bytes Token.isRef Token.isVal Token.valType Token.refType Token.flag Token.flag64 Token.isLimits Token.bound
-    Token.maximum Token.limits Token.tableType Token.globalType Token.numberIndex Token.namedIndex Token.present Token.optional
+    Token.string Token.bytes Token.isRef Token.isVal Token.valType Token.refType Token.flag Token.flag64 Token.bound Token.maximum
+    Token.limitsOf Token.limits Token.tableType Token.globalType Token.numberIndex Token.namedIndex Token.present Token.optional
     Token.param Token.typeUse Instructions.opcodes Instructions.formIn Instructions.formOf Instructions.naturals Instructions.exponent
     Instructions.alignment Instructions.plainOf Instructions.constant Instructions.instruction Instructions.bodyRec Records.importName
     Records.funcExtern Records.tableExtern Records.memExtern Records.globalExtern Records.importOf Records.importRec Records.itemRec

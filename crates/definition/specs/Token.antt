@@ -1,6 +1,6 @@
 -- The parts that records are made of (document 01, "The record stream"): numbers, identifiers, strings, types, indices, type uses.
 use Prim.Native.Nat.{ℕ, zero, suc, _+_, _*_, _%_, _^_}
-use mathlib.Core.Bool.{Bool, _&&_, _||_, not}
+use mathlib.Core.Bool.{Bool, true, false, _&&_, _||_, not}
 use mathlib.Core.List.{List, [], _∷_}
 use mathlib.Core.Option.{Option, none, some}
 use lib.Dec.{eqb, leb, ltb}
@@ -97,12 +97,7 @@ flag = byteOf 4 (λ b. leb b 1)
 
 -- the byte 0, or 4 for 64-bit
 unfoldable pub flag64 : Reader Bool
-flag64 = do
-  b ← byteOf 4 (λ b. eqb b 0 || eqb b 4)
-  give (eqb b 4)
-
-unfoldable pub isLimits : ℕ → Bool
-isLimits b = eqb b 0 || eqb b 1 || eqb b 4 || eqb b 5
+flag64 = byte >>= λ b. choose b ((0, give false) ∷ (4, give true) ∷ [])
 
 -- a minimum or a maximum: u32, or u64 where the limits are 64-bit
 unfoldable pub bound : Bool → Reader ℕ
@@ -111,13 +106,20 @@ bound wide = if wide then u64 else u32
 unfoldable pub maximum : Bool → Bool → Reader (Option ℕ)
 maximum has wide = if has then (bound wide >>= λ n. give (some n)) else give none
 
+unfoldable pub limitsOf : Bool → Bool → Reader Limits
+limitsOf has wide = do
+  low ← bound wide
+  high ← maximum has wide
+  give (record { is64 = wide; minimum = low; maximum = high })
+
 -- 1 has maximum, 4 is 64-bit
 unfoldable pub limits : Reader Limits
-limits = do
-  b ← byteOf 4 isLimits
-  low ← bound (leb 4 b)
-  high ← maximum (eqb (b % 2) 1) (leb 4 b)
-  give (record { is64 = leb 4 b; minimum = low; maximum = high })
+limits = byte >>= λ b. choose b
+    ((0, limitsOf false false)
+    ∷ (1, limitsOf true false)
+    ∷ (4, limitsOf false true)
+    ∷ (5, limitsOf true true)
+    ∷ [])
 
 unfoldable pub tableType : Reader TableType
 tableType = do

@@ -1,0 +1,10 @@
+pub mod Exits
+pub mod Readers
+pub mod Backwards
+pub mod Ways
+pub mod Passing
+pub mod Table
+pub mod Groups
+pub mod Reading
+pub mod Interning
+pub mod Lengths

@@ -1,0 +1,15 @@
+-- What the answers of the readers mean: each as a step of the definition.
+use Prim.Native.Nat.{ℕ}
+use Rattle.definition.specs.Reader.{Step, got, fault}
+use Rattle.leb.specs.declared.read.U32.{U32}
+use Rattle.leb.specs.declared.read.U32.the-variants as U32
+use Rattle.leb.specs.declared.read.U64.{U64}
+use Rattle.leb.specs.declared.read.U64.the-variants as U64
+
+abbrev pub u32At : U32 → Step ℕ
+u32At (U32.Got v next) = got v next
+u32At (U32.Fault n) = fault n
+
+abbrev pub u64At : U64 → Step ℕ
+u64At (U64.Got v next) = got v next
+u64At (U64.Fault n) = fault n
