@@ -91,14 +91,14 @@ module _ (r : ℕ) (t : FuncType) (ts : List FuncType) where
   unfolding typeAt
   add-keeps true all e = let z : _≡_ {A = ℕ} 0 1 = cc in absurd (omega arith)
   add-keeps false all e =
-    let d : all ≡ ts ++ (t ∷ []) = cc in
-    let f = first-added (sameType t) ts t (same-type-itself t) in
-    (record { added = t ∷ []; is = d }, record { number = f .0; found = rw d (f .1) })
+      let d : all ≡ ts ++ (t ∷ []) = cc in
+      let f = first-added (sameType t) ts t (same-type-itself t) in
+      (record { added = t ∷ []; is = d }, record { number = f .0; found = rw d (f .1) })
 
   use-keeps : (o : Option ℕ) → typeAt t ts ≡ o → (all : List FuncType) → takeOrAdd r t ts o ≡ ok all → Keeps ts all × Has t all
   use-keeps (some n) f all e =
-    let d : all ≡ ts = cc in
-    (rw d (keeps-itself ts), rw d (record { number = n; found = f }))
+      let d : all ≡ ts = cc in
+      (rw d (keeps-itself ts), rw d (record { number = n; found = f }))
   use-keeps none f all e = add-keeps (leb 256 (length ts)) all e
 
 -- an answer that came by two steps
@@ -112,8 +112,8 @@ pub intern-keeps : (ts : List FuncType) (us : Uses) (all : List FuncType) → in
 unfolding intern
 intern-keeps ts [] all e = let d : all ≡ ts = cc in rw d (keeps-itself ts)
 intern-keeps ts ((r, t) ∷ us) all e =
-  let c = came (takeOrAdd r t ts (typeAt t ts)) (λ vs. intern vs us) all e in
-  keeps-then (use-keeps r t ts (typeAt t ts) refl (c .0) (c .1) .0) (intern-keeps (c .0) us all (c .2))
+    let c = came (takeOrAdd r t ts (typeAt t ts)) (λ vs. intern vs us) all e in
+    keeps-then (use-keeps r t ts (typeAt t ts) refl (c .0) (c .1) .0) (intern-keeps (c .0) us all (c .2))
 
 -- a signature that is used is there in the end
 pub intern-has : (ts : List FuncType) (us : Uses) (all : List FuncType) → intern ts us ≡ ok all
@@ -121,8 +121,8 @@ pub intern-has : (ts : List FuncType) (us : Uses) (all : List FuncType) → inte
 unfolding intern
 intern-has ts [] all e r t m = absurd (List·Memᴰ·not-nil m)
 intern-has ts ((q, u) ∷ us) all e r t m =
-  let c = came (takeOrAdd q u ts (typeAt u ts)) (λ vs. intern vs us) all e in
-  step (has-kept (intern-keeps (c .0) us all (c .2)) (use-keeps q u ts (typeAt u ts) refl (c .0) (c .1) .1))
+    let c = came (takeOrAdd q u ts (typeAt u ts)) (λ vs. intern vs us) all e in
+    step (has-kept (intern-keeps (c .0) us all (c .2)) (use-keeps q u ts (typeAt u ts) refl (c .0) (c .1) .1))
     (intern-has (c .0) us all (c .2) r t) (List·Memᴰ·cases-cons m)
   where
     step : Has u all → (List·Memᴰ (r, t) us → Has t all) → _≡_ {A = ℕ × FuncType} (r, t) (q, u) ⊎ List·Memᴰ (r, t) us → Has t all
@@ -140,8 +140,8 @@ pub record Interned (t : FuncType) (ts : List FuncType) : Type 0 where
 pub has-interned : {t : FuncType} {ts : List FuncType} → Has t ts → Interned t ts
 unfolding typeNumber typeAt
 has-interned {t} {ts} h =
-  let f = first-passes (sameType t) ts (h .number) (h .found) in
-  record { type = f .0; there = rw (h .found) (f .1); equal = f .2 }
+    let f = first-passes (sameType t) ts (h .number) (h .found) in
+    record { type = f .0; there = rw (h .found) (f .1); equal = f .2 }
 
 -- every use of a module that takes or adds a type has one: resolving it can refuse nothing
 pub use-finds-its-type : {I : Type 0} (fs : Numbered I) (ts : List FuncType) → allTypes fs ≡ ok ts

@@ -32,5 +32,5 @@ length-vec f xs = length-append (u (length xs)) (concatMap f xs) ∙ ap (λ n. l
 pub length-module : (is : List Item) → length (module′ is) ≡ 8 + sum (map (λ k. length (section (concatMap entries is) k)) sectionNumbers)
 unfolding module′ preamble sections
 length-module is =
-  length-append preamble (concatMap (section (concatMap entries is)) sectionNumbers)
-  ∙ ap (λ n. 8 + n) (length-joined (section (concatMap entries is)) sectionNumbers)
+    length-append preamble (concatMap (section (concatMap entries is)) sectionNumbers)
+    ∙ ap (λ n. 8 + n) (length-joined (section (concatMap entries is)) sectionNumbers)

@@ -3,3 +3,4 @@ pub mod Writing
 pub mod Answers
 pub mod Signs
 pub mod WritingSigned
+pub mod Floor

@@ -32,16 +32,6 @@ module _ (z : ℤ) (f : SFits w64 z) where
   pub low-is : natAbs (toZ w64 (bitAnd (ofZ w64 z) 127)) ≡ low7 z
   low-is = ap natAbs masked
 
--- ## `over128`
-
-shifted : (z : ℤ) → shrZ z 128 ≡ over128 z
-unfolding over128
-shifted (pos n) = refl
-shifted (negsuc n) = refl
-
-pub over-is : (z : ℤ) → SFits w64 z → toZ w64 (ofZ w64 (shrZ (toZ w64 (ofZ w64 z)) 128)) ≡ over128 z
-over-is z f = rw (toZ-ofZ w64 z f) (toZ-ofZ w64 (shrZ z 128) (sfits-le (mag-shr z 128) f) ∙ shifted z)
-
 -- ## `fits7`
 
 below : (z : ℤ) (k : ℕ) → 63 ≤ k → ltZ z (negsuc k) ≡ true → false ≡ fits7 z

@@ -11,11 +11,14 @@ pub fn low7(x: i64) -> u8
     (x & 127) as u8
 }
 
-// x divided by 128 rounding down: the shift copies the sign.
+// x divided by 128 rounding down. A quotient rounds towards zero, so a negative one is taken of x + 1.
 pub fn over128(x: i64) -> i64
     ensures { λ r. ⌜ r ≡ Binary.over128 x ⌝ }
 {
-    x >> 7
+    if x < 0 {
+        return (x + 1) / 128 - 1;
+    }
+    x / 128
 }
 
 // Whether one group holds x.

@@ -1,0 +1,58 @@
+-- How `search` follows the definition past an answer of this crate.
+use mathlib.Core.Path.{_≡_, refl, sym}
+use Prim.Native.Nat.{ℕ, zero, suc, _-_, _≤_, _<_}
+use mathlib.Core.List.{List, [], _∷_}
+use lib.ListN.{getD, length}
+use native.Mathlib.Omega.{arith}
+use Rattle.definition.specs.Syntax as Syntax
+use Rattle.definition.specs.Syntax.{Bytes, Identifier}
+use Rattle.definition.specs.Reader.{Step, got, fault, onward}
+use Rattle.definition.specs.Instructions.{plainOf, naturals, exponent, f32, f64}
+use Rattle.expr.specs.Views.{plainIs, plainAt, operandsIs, rawOf}
+use Rattle.expr.specs.declared.Plain.{Plain}
+use Rattle.expr.specs.declared.PlainAt.{PlainAt}
+use Rattle.expr.specs.declared.PlainAt.the-variants as PA
+use Rattle.expr.specs.declared.Operands.{Operands}
+
+module _ {C : Type 0} (x : Step C) (s : Bytes) where
+  pub plain-got : (k : Syntax.Plain Identifier → ℕ → Step C) (m : Step (Syntax.Plain Identifier)) (r : PlainAt) (a : Plain) (n : ℕ) → m ≡ plainAt s r → r ≡ PA.Got a n → k (plainIs s a) n ≡ x → onward k m ≡ x
+  plain-got k m r a n e d p = rw (e, d) p
+
+  pub plain-not : (k : Syntax.Plain Identifier → ℕ → Step C) (m : Step (Syntax.Plain Identifier)) (r : PlainAt) (n : ℕ) → m ≡ plainAt s r → r ≡ PA.Fault n → fault n ≡ x → onward k m ≡ x
+  plain-not k m r n e d p = rw (e, d) p
+
+pub ruleset plain-answers = (plain-got, plain-not)
+
+-- what stands after an opcode was matched
+pub matched : (w v : Operands) (op : ℕ) (s : Bytes) (at : ℕ) (x : Step (Syntax.Plain Identifier)) → w ≡ v → plainOf op (operandsIs v) s at ≡ x → plainOf op (operandsIs w) s at ≡ x
+matched w v op s at x d p = rw d p
+
+-- the two floats are so many raw bytes
+pub four-raw : (op : ℕ) (s : Bytes) (at : ℕ) (x : Step (Syntax.Plain Identifier)) → rawOf op 4 s at ≡ x → plainOf op f32 s at ≡ x
+unfolding plainOf rawOf
+four-raw op s at x p = p
+
+pub eight-raw : (op : ℕ) (s : Bytes) (at : ℕ) (x : Step (Syntax.Plain Identifier)) → rawOf op 8 s at ≡ x → plainOf op f64 s at ≡ x
+unfolding plainOf rawOf
+eight-raw op s at x p = p
+
+-- ## Exponents
+
+-- the exponent that was worked out
+pub access-got : (op b e o n : ℕ) (x : Syntax.Index Identifier) → e ≡ exponent op b
+    → _≡_ {A = Step (Syntax.Plain Identifier)} (got (record { opcode = op; operand = Syntax.access (exponent op b) o x }) n) (got (record { opcode = op; operand = Syntax.access e o x }) n)
+access-got op b e o n x d = rw d
+
+getD-out : (xs : List ℕ) (i : ℕ) → length xs ≤ i → getD xs i 0 ≡ 0
+getD-out [] i h = refl
+getD-out (x ∷ xs) zero h = absurd (omega arith)
+getD-out (x ∷ xs) (suc i) h = getD-out xs i (omega arith)
+
+-- opcodes below and above the table
+pub natural-low : (op : ℕ) → op < 0x28 → 2 ≡ exponent op 0
+unfolding exponent naturals
+natural-low op h = let d : op - 0x28 ≡ 0 = omega arith in rw d
+
+pub natural-high : (op : ℕ) → 0x3E < op → 0 ≡ exponent op 0
+unfolding exponent naturals
+natural-high op h = sym (getD-out naturals (op - 0x28) (omega arith))

@@ -1,0 +1,28 @@
+use Rattle.definition.specs.Instructions.{plainOf}
+use Rattle.expr.proofs.Ways.{plain-answers}
+use Rattle.laws.proofs.Ways.{ways}
+use Rattle.token.proofs.Ways.{answers}
+use Rattle.typeuse.proofs.Ways.{use-answers}
+use borrow.Author.Needs.{needs}
+use Rattle.expr.proofs.i64_plain.Statement.{statement}
+use Rattle.expr.proofs.i64_plain.Tie as tie
+
+read-u64-requires : tie.Need-read-u64-requires
+read-u64-requires c κs = search needs
+
+enum-known-n : tie.Need-enum-known-n
+enum-known-n c = search needs
+
+enum-known-e : tie.Need-enum-known-e
+enum-known-e c = search needs
+
+returns : tie.Need-returns
+unfolding plainOf
+returns c = search (ways, answers, use-answers, plain-answers) depth 14
+
+returns-2 : tie.Need-returns-2
+unfolding plainOf
+returns-2 c = search (ways, answers, use-answers, plain-answers) depth 14
+
+pub i64-plain-spec : {M : Type 1} → statement M
+i64-plain-spec = tie.close (tie.spec read-u64-requires enum-known-n enum-known-e returns returns-2)

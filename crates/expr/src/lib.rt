@@ -1,0 +1,359 @@
+// Instructions that open and close no block and have no type use, and constants.
+use leb::U32;
+use leb::U64;
+use token::ByteAt;
+use token::Index;
+use token::IndexAt;
+use token::Part;
+use token::PartAt;
+use token::Space;
+use typeuse::Elem;
+use typeuse::List;
+use typeuse::ListAt;
+ghost use mathlib.Core.Path.{_≡_};
+ghost use mathlib.Core.List.{List, [], _∷_};
+ghost use Rattle.definition.specs.Instructions as Instructions;
+ghost use Rattle.token.specs.Views.{byteAt};
+ghost use Rattle.expr.specs.Views.{operandsIs, plainAt, rawOf};
+
+pub enum Operand {
+    Nothing,
+    Label(Index),
+    Labels(List, Index),
+    Local(Index),
+    Item(Space, Index),
+    // the alignment's exponent, the offset, the memory
+    Access(u8, u32, Index),
+    Int32(u32),
+    Int64(u64),
+    Raw(Part),
+    Heap(u8),
+}
+
+pub struct Plain {
+    pub opcode: u8,
+    pub operand: Operand,
+}
+
+pub enum PlainAt {
+    Got(Plain, usize),
+    Fault(u8),
+}
+
+fn label_plain(s: &[u8], at: usize, opcode: u8) -> PlainAt
+    ensures { λ r. ⌜ Instructions.plainOf opcode Instructions.labelidx (now (s .entry)) at ≡ plainAt (now (s .entry)) r ⌝ }
+{
+    match token::read_present(s, at) {
+        IndexAt::Got(x, next) => PlainAt::Got(
+            Plain {
+                opcode,
+                operand: Operand::Label(x),
+            },
+            next,
+        ),
+        IndexAt::Fault(e) => PlainAt::Fault(e),
+    }
+}
+
+fn labels_plain(s: &[u8], at: usize, opcode: u8) -> PlainAt
+    ensures { λ r. ⌜ Instructions.plainOf opcode Instructions.labelidxs (now (s .entry)) at ≡ plainAt (now (s .entry)) r ⌝ }
+{
+    match typeuse::read_list(s, at, 1024, Elem::Index) {
+        ListAt::Got(xs, a) => match token::read_present(s, a) {
+            IndexAt::Got(x, b) => PlainAt::Got(
+                Plain {
+                    opcode,
+                    operand: Operand::Labels(xs, x),
+                },
+                b,
+            ),
+            IndexAt::Fault(e) => PlainAt::Fault(e),
+        },
+        ListAt::Fault(e) => PlainAt::Fault(e),
+    }
+}
+
+fn local_plain(s: &[u8], at: usize, opcode: u8) -> PlainAt
+    ensures { λ r. ⌜ Instructions.plainOf opcode Instructions.localidx (now (s .entry)) at ≡ plainAt (now (s .entry)) r ⌝ }
+{
+    match token::read_present(s, at) {
+        IndexAt::Got(x, next) => PlainAt::Got(
+            Plain {
+                opcode,
+                operand: Operand::Local(x),
+            },
+            next,
+        ),
+        IndexAt::Fault(e) => PlainAt::Fault(e),
+    }
+}
+
+fn func_plain(s: &[u8], at: usize, opcode: u8) -> PlainAt
+    ensures { λ r. ⌜ Instructions.plainOf opcode Instructions.funcidx (now (s .entry)) at ≡ plainAt (now (s .entry)) r ⌝ }
+{
+    match token::read_present(s, at) {
+        IndexAt::Got(x, next) => PlainAt::Got(
+            Plain {
+                opcode,
+                operand: Operand::Item(Space::Funcs, x),
+            },
+            next,
+        ),
+        IndexAt::Fault(e) => PlainAt::Fault(e),
+    }
+}
+
+fn global_plain(s: &[u8], at: usize, opcode: u8) -> PlainAt
+    ensures { λ r. ⌜ Instructions.plainOf opcode Instructions.globalidx (now (s .entry)) at ≡ plainAt (now (s .entry)) r ⌝ }
+{
+    match token::read_present(s, at) {
+        IndexAt::Got(x, next) => PlainAt::Got(
+            Plain {
+                opcode,
+                operand: Operand::Item(Space::Globals, x),
+            },
+            next,
+        ),
+        IndexAt::Fault(e) => PlainAt::Fault(e),
+    }
+}
+
+fn mem_plain(s: &[u8], at: usize, opcode: u8) -> PlainAt
+    ensures { λ r. ⌜ Instructions.plainOf opcode Instructions.memidx (now (s .entry)) at ≡ plainAt (now (s .entry)) r ⌝ }
+{
+    match token::read_optional(s, at) {
+        IndexAt::Got(x, next) => PlainAt::Got(
+            Plain {
+                opcode,
+                operand: Operand::Item(Space::Mems, x),
+            },
+            next,
+        ),
+        IndexAt::Fault(e) => PlainAt::Fault(e),
+    }
+}
+
+// The natural exponents of the opcodes 28 to 3E.
+const NATURAL: [u8; 23] = [
+    2,
+    3,
+    2,
+    3,
+    0,
+    0,
+    1,
+    1,
+    0,
+    0,
+    1,
+    1,
+    2,
+    2,
+    2,
+    3,
+    2,
+    3,
+    0,
+    1,
+    0,
+    1,
+    2,
+];
+
+fn natural(op: u8) -> u8
+    ensures { λ r. ⌜ r ≡ Instructions.exponent op 0 ⌝ }
+{
+    if op < 0x28 {
+        return NATURAL[0];
+    }
+    if 0x3E < op {
+        return 0;
+    }
+    NATURAL[(op - 0x28) as usize]
+}
+
+// The exponent that an alignment byte says.
+fn exponent(op: u8, b: u8) -> u8
+    ensures { λ r. ⌜ r ≡ Instructions.exponent op b ⌝ }
+{
+    if b == 0 {
+        return natural(op);
+    }
+    b - 1
+}
+
+fn alignment(s: &[u8], at: usize) -> ByteAt
+    ensures { λ r. ⌜ Instructions.alignment (now (s .entry)) at ≡ byteAt r ⌝ }
+{
+    match token::read_byte(s, at) {
+        ByteAt::Got(b, next) => {
+            if b <= 32 {
+                ByteAt::Got(b, next)
+            } else {
+                ByteAt::Fault(4)
+            }
+        }
+        ByteAt::Fault(e) => ByteAt::Fault(e),
+    }
+}
+
+fn access_plain(s: &[u8], at: usize, opcode: u8) -> PlainAt
+    ensures { λ r. ⌜ Instructions.plainOf opcode Instructions.memarg (now (s .entry)) at ≡ plainAt (now (s .entry)) r ⌝ }
+{
+    match alignment(s, at) {
+        ByteAt::Got(b, a) => match leb::read_u32(s, a) {
+            U32::Got(offset, c) => match token::read_optional(s, c) {
+                IndexAt::Got(x, d) => {
+                    let e = exponent(opcode, b);
+                    PlainAt::Got(
+                        Plain {
+                            opcode,
+                            operand: Operand::Access(e, offset, x),
+                        },
+                        d,
+                    )
+                }
+                IndexAt::Fault(e) => PlainAt::Fault(e),
+            },
+            U32::Fault(e) => PlainAt::Fault(e),
+        },
+        ByteAt::Fault(e) => PlainAt::Fault(e),
+    }
+}
+
+fn i32_plain(s: &[u8], at: usize, opcode: u8) -> PlainAt
+    ensures { λ r. ⌜ Instructions.plainOf opcode Instructions.i32 (now (s .entry)) at ≡ plainAt (now (s .entry)) r ⌝ }
+{
+    match leb::read_u32(s, at) {
+        U32::Got(n, next) => PlainAt::Got(
+            Plain {
+                opcode,
+                operand: Operand::Int32(n),
+            },
+            next,
+        ),
+        U32::Fault(e) => PlainAt::Fault(e),
+    }
+}
+
+fn i64_plain(s: &[u8], at: usize, opcode: u8) -> PlainAt
+    ensures { λ r. ⌜ Instructions.plainOf opcode Instructions.i64 (now (s .entry)) at ≡ plainAt (now (s .entry)) r ⌝ }
+{
+    match leb::read_u64(s, at) {
+        U64::Got(n, next) => PlainAt::Got(
+            Plain {
+                opcode,
+                operand: Operand::Int64(n),
+            },
+            next,
+        ),
+        U64::Fault(e) => PlainAt::Fault(e),
+    }
+}
+
+// A float constant: four or eight raw bytes.
+fn raw_plain(s: &[u8], at: usize, opcode: u8, len: u32) -> PlainAt
+    ensures { λ r. ⌜ rawOf opcode len (now (s .entry)) at ≡ plainAt (now (s .entry)) r ⌝ }
+{
+    match token::read_raw(s, at, len) {
+        PartAt::Got(p, next) => PlainAt::Got(
+            Plain {
+                opcode,
+                operand: Operand::Raw(p),
+            },
+            next,
+        ),
+        PartAt::Fault(e) => PlainAt::Fault(e),
+    }
+}
+
+fn heap_plain(s: &[u8], at: usize, opcode: u8) -> PlainAt
+    ensures { λ r. ⌜ Instructions.plainOf opcode Instructions.heaptype (now (s .entry)) at ≡ plainAt (now (s .entry)) r ⌝ }
+{
+    match coretypes::ref_type(s, at) {
+        ByteAt::Got(t, next) => PlainAt::Got(
+            Plain {
+                opcode,
+                operand: Operand::Heap(t),
+            },
+            next,
+        ),
+        ByteAt::Fault(e) => PlainAt::Fault(e),
+    }
+}
+
+// What stands after an opcode, by the standard's names.
+pub enum Operands {
+    Bare,
+    LabelIdx,
+    LabelIdxs,
+    LocalIdx,
+    FuncIdx,
+    GlobalIdx,
+    MemIdx,
+    MemArg,
+    I32,
+    I64,
+    F32,
+    F64,
+    HeapType,
+}
+
+pub fn read_plain(s: &[u8], at: usize, opcode: u8, what: Operands) -> PlainAt
+    ensures { λ r. ⌜ Instructions.plainOf opcode (operandsIs what) (now (s .entry)) at ≡ plainAt (now (s .entry)) r ⌝ }
+{
+    match what {
+        Operands::Bare => PlainAt::Got(
+            Plain {
+                opcode,
+                operand: Operand::Nothing,
+            },
+            at,
+        ),
+        Operands::LabelIdx => label_plain(s, at, opcode),
+        Operands::LabelIdxs => labels_plain(s, at, opcode),
+        Operands::LocalIdx => local_plain(s, at, opcode),
+        Operands::FuncIdx => func_plain(s, at, opcode),
+        Operands::GlobalIdx => global_plain(s, at, opcode),
+        Operands::MemIdx => mem_plain(s, at, opcode),
+        Operands::MemArg => access_plain(s, at, opcode),
+        Operands::I32 => i32_plain(s, at, opcode),
+        Operands::I64 => i64_plain(s, at, opcode),
+        Operands::F32 => raw_plain(s, at, opcode, 4),
+        Operands::F64 => raw_plain(s, at, opcode, 8),
+        Operands::HeapType => heap_plain(s, at, opcode),
+    }
+}
+
+// A constant is one instruction, chosen by its first byte.
+pub fn read_const(s: &[u8], at: usize) -> PlainAt
+    ensures { λ r. ⌜ Instructions.constant (now (s .entry)) at ≡ plainAt (now (s .entry)) r ⌝ }
+{
+    match token::read_byte(s, at) {
+        ByteAt::Got(b, next) => {
+            if b == 0 {
+                return i32_plain(s, next, 0x41);
+            }
+            if b == 1 {
+                return i64_plain(s, next, 0x42);
+            }
+            if b == 2 {
+                return raw_plain(s, next, 0x43, 4);
+            }
+            if b == 3 {
+                return raw_plain(s, next, 0x44, 8);
+            }
+            if b == 4 {
+                return global_plain(s, next, 0x23);
+            }
+            if b == 5 {
+                return heap_plain(s, next, 0xD0);
+            }
+            if b == 6 {
+                return func_plain(s, next, 0xD2);
+            }
+            PlainAt::Fault(4)
+        }
+        ByteAt::Fault(e) => PlainAt::Fault(e),
+    }
+}

@@ -1,0 +1,11 @@
+pub mod Equal
+pub mod Decide
+pub mod Examples
+pub mod Maps
+pub mod Every
+pub mod Same
+pub mod Fields
+pub mod Whole
+pub mod Listed
+pub mod Places
+pub mod Demand3

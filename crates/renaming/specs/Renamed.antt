@@ -1,0 +1,40 @@
+-- The premise of demand 3, on two streams: they are free of refusals 1 to 9 (10 is about the work area) and differ only in identifiers.
+use Prim.Native.Nat.{ℕ, _≤_}
+use mathlib.Core.Path.{_≡_}
+use mathlib.Core.Logic.{_↔_}
+use mathlib.Core.List.{List}
+use mathlib.Core.Option.{some}
+use lib.ListN.{length, take}
+use Rattle.definition.specs.Basic.{ok, at}
+use Rattle.definition.specs.Syntax.{Bytes, Identifier, Rec}
+use Rattle.definition.specs.Read.{read}
+use Rattle.definition.specs.Assemble.{Outcome}
+use Rattle.renaming.specs.Shape.{shape}
+use Rattle.renaming.specs.Kinds.{Kind, Names, names}
+
+-- any two of one kind, in the places i and j, are equal in the first exactly when those in the same places are equal in the second
+pub record Alike (first second : Names Identifier) : Type 0 where
+  pub equal-at-once : (k : Kind) (i j : ℕ) (a b c d : Identifier)
+      → at first i ≡ some (k, a) → at first j ≡ some (k, b)
+      → at second i ≡ some (k, c) → at second j ≡ some (k, d)
+      → (a ≡ b) ↔ (c ≡ d)
+
+pub record Renamed (s t : Bytes) : Type 0 where
+  -- free of refusal 1
+  pub short : length s ≤ 65536
+  pub short′ : length t ≤ 65536
+  -- free of refusals 2 to 9
+  pub first : List (Rec Identifier)
+  pub second : List (Rec Identifier)
+  pub reads : read s ≡ ok first
+  pub reads′ : read t ≡ ok second
+  -- they differ only in identifiers, absent at the same places
+  pub same-shape : shape first ≡ shape second
+  pub alike : Alike (names first) (names second)
+
+-- two calls that say the same: the number, the record, how many bytes are written, and the bytes
+pub record SaysTheSame (a b : Outcome) : Type 0 where
+  pub number : a .number ≡ b .number
+  pub rec : a .rec ≡ b .rec
+  pub written : a .written ≡ b .written
+  pub bytes : take (a .written) (a .output) ≡ take (b .written) (b .output)

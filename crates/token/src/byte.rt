@@ -1,0 +1,351 @@
+// Single bytes, and runs of bytes of a class.
+ghost use mathlib.Core.Path.{_≡_};
+ghost use Rattle.definition.specs.Reader as Reader;
+ghost use Rattle.definition.specs.Token as Token;
+ghost use Rattle.laws.specs.Steps.{stops};
+ghost use Rattle.token.specs.Views.{byteAt, skip};
+
+pub enum ByteAt {
+    Got(u8, usize),
+    Fault(u8),
+}
+
+// Where a run ends that was only passed over, or a refusal's number.
+pub enum Skip {
+    Past(usize),
+    Fault(u8),
+}
+
+pub fn read_byte(s: &[u8], at: usize) -> ByteAt
+    ensures { λ r. ⌜ Reader.byte (now (s .entry)) at ≡ byteAt r ⌝ }
+{
+    if at < s.len() {
+        ByteAt::Got(s[at], at + 1)
+    } else {
+        ByteAt::Fault(2)
+    }
+}
+
+// 1 for the bytes of the standard's idchar.
+const IDCHAR: [u8; 256] = [
+    0,
+    0,
+    0,
+    0,
+    0,
+    0,
+    0,
+    0,
+    0,
+    0,
+    0,
+    0,
+    0,
+    0,
+    0,
+    0,
+    0,
+    0,
+    0,
+    0,
+    0,
+    0,
+    0,
+    0,
+    0,
+    0,
+    0,
+    0,
+    0,
+    0,
+    0,
+    0,
+    0,
+    1,
+    0,
+    1,
+    1,
+    1,
+    1,
+    1,
+    0,
+    0,
+    1,
+    1,
+    0,
+    1,
+    1,
+    1,
+    1,
+    1,
+    1,
+    1,
+    1,
+    1,
+    1,
+    1,
+    1,
+    1,
+    1,
+    0,
+    1,
+    1,
+    1,
+    1,
+    1,
+    1,
+    1,
+    1,
+    1,
+    1,
+    1,
+    1,
+    1,
+    1,
+    1,
+    1,
+    1,
+    1,
+    1,
+    1,
+    1,
+    1,
+    1,
+    1,
+    1,
+    1,
+    1,
+    1,
+    1,
+    1,
+    1,
+    0,
+    1,
+    0,
+    1,
+    1,
+    1,
+    1,
+    1,
+    1,
+    1,
+    1,
+    1,
+    1,
+    1,
+    1,
+    1,
+    1,
+    1,
+    1,
+    1,
+    1,
+    1,
+    1,
+    1,
+    1,
+    1,
+    1,
+    1,
+    1,
+    1,
+    1,
+    1,
+    0,
+    1,
+    0,
+    1,
+    0,
+    0,
+    0,
+    0,
+    0,
+    0,
+    0,
+    0,
+    0,
+    0,
+    0,
+    0,
+    0,
+    0,
+    0,
+    0,
+    0,
+    0,
+    0,
+    0,
+    0,
+    0,
+    0,
+    0,
+    0,
+    0,
+    0,
+    0,
+    0,
+    0,
+    0,
+    0,
+    0,
+    0,
+    0,
+    0,
+    0,
+    0,
+    0,
+    0,
+    0,
+    0,
+    0,
+    0,
+    0,
+    0,
+    0,
+    0,
+    0,
+    0,
+    0,
+    0,
+    0,
+    0,
+    0,
+    0,
+    0,
+    0,
+    0,
+    0,
+    0,
+    0,
+    0,
+    0,
+    0,
+    0,
+    0,
+    0,
+    0,
+    0,
+    0,
+    0,
+    0,
+    0,
+    0,
+    0,
+    0,
+    0,
+    0,
+    0,
+    0,
+    0,
+    0,
+    0,
+    0,
+    0,
+    0,
+    0,
+    0,
+    0,
+    0,
+    0,
+    0,
+    0,
+    0,
+    0,
+    0,
+    0,
+    0,
+    0,
+    0,
+    0,
+    0,
+    0,
+    0,
+    0,
+    0,
+    0,
+    0,
+    0,
+    0,
+    0,
+    0,
+    0,
+    0,
+    0,
+    0,
+    0,
+    0,
+    0,
+    0,
+    0,
+    0,
+    0,
+    0,
+    0,
+    0,
+    0,
+    0,
+];
+
+pub fn is_idchar(b: u8) -> bool
+    ensures { λ r. ⌜ r ≡ Token.idchar b ⌝ }
+{
+    IDCHAR[b as usize] == 1
+}
+
+// So many bytes of an identifier.
+pub fn pass_idchars(s: &[u8], at: usize, n: u32) -> Skip
+    ensures { λ r. ⌜ stops (Reader.many n Token.idByte (now (s .entry)) at) ≡ skip r ⌝ }
+{
+    let mut left = n;
+    let mut here = at;
+    while 0 < left {
+        if s.len() <= here {
+            return Skip::Fault(2);
+        }
+        if !is_idchar(s[here]) {
+            return Skip::Fault(5);
+        }
+        here += 1;
+        left -= 1;
+    }
+    Skip::Past(here)
+}
+
+// So many bytes of a string.
+pub fn pass_string(s: &[u8], at: usize, n: u32) -> Skip
+    ensures { λ r. ⌜ stops (Reader.many n Token.stringByte (now (s .entry)) at) ≡ skip r ⌝ }
+{
+    let mut left = n;
+    let mut here = at;
+    while 0 < left {
+        if s.len() <= here {
+            return Skip::Fault(2);
+        }
+        let b = s[here];
+        if b < 0x20 {
+            return Skip::Fault(6);
+        }
+        if 0x7E < b {
+            return Skip::Fault(6);
+        }
+        here += 1;
+        left -= 1;
+    }
+    Skip::Past(here)
+}
+
+// So many bytes, whatever they are: their end is computed, not walked to.
+pub fn pass_bytes(s: &[u8], at: usize, n: u32) -> Skip
+    ensures { λ r. ⌜ stops (Reader.many n Reader.byte (now (s .entry)) at) ≡ skip r ⌝ }
+{
+    if n == 0 {
+        return Skip::Past(at);
+    }
+    if s.len() <= at {
+        return Skip::Fault(2);
+    }
+    if s.len() - at < n as usize {
+        return Skip::Fault(2);
+    }
+    Skip::Past(at + n as usize)
+}

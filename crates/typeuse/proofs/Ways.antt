@@ -1,0 +1,103 @@
+-- How `search` follows the definition past an answer of this crate, and past one that is only passed over.
+use mathlib.Core.Path.{_≡_, refl, ap, _∙_}
+use mathlib.Core.List.{List}
+use Prim.Native.Nat.{ℕ}
+use Rattle.definition.specs.Syntax as Syntax
+use Rattle.definition.specs.Syntax.{Bytes, Identifier}
+use Rattle.definition.specs.Reader.{Step, got, fault, Reader, onward}
+use Rattle.definition.specs.Token as Token
+use Rattle.laws.specs.Steps.{stops}
+use Rattle.token.specs.Views.{byteAt, partAt, indexAt, skip}
+use Rattle.token.specs.declared.byte.ByteAt.{ByteAt}
+use Rattle.token.specs.declared.byte.ByteAt.the-variants as B
+use Rattle.token.specs.declared.byte.Skip.{Skip}
+use Rattle.token.specs.declared.byte.Skip.the-variants as S
+use Rattle.token.specs.declared.text.Part.{Part}
+use Rattle.token.specs.declared.text.PartAt.{PartAt}
+use Rattle.token.specs.declared.text.PartAt.the-variants as P
+use Rattle.token.specs.declared.index.Index.{Index}
+use Rattle.token.specs.declared.index.IndexAt.{IndexAt}
+use Rattle.token.specs.declared.index.IndexAt.the-variants as XA
+use Rattle.typeuse.specs.Views.{localOf, localAt, listOf, listAt, useOf, useAt, elem}
+use Rattle.typeuse.specs.declared.Local.{Local}
+use Rattle.typeuse.specs.declared.LocalAt.{LocalAt}
+use Rattle.typeuse.specs.declared.LocalAt.the-variants as OA
+use Rattle.typeuse.specs.declared.Elem.{Elem}
+use Rattle.typeuse.specs.declared.Elem.the-variants as E
+use Rattle.typeuse.specs.declared.List as Code
+use Rattle.typeuse.specs.declared.ListAt.{ListAt}
+use Rattle.typeuse.specs.declared.ListAt.the-variants as LA
+use Rattle.typeuse.specs.declared.TypeUse.{TypeUse}
+use Rattle.typeuse.specs.declared.UseAt.{UseAt}
+use Rattle.typeuse.specs.declared.UseAt.the-variants as UA
+
+module _ {C : Type 0} (x : Step C) (s : Bytes) where
+  pub local-got : (k : Syntax.Local Identifier → ℕ → Step C) (m : Step (Syntax.Local Identifier)) (r : LocalAt) (a : Local) (n : ℕ) → m ≡ localAt s r → r ≡ OA.Got a n → k (localOf s a) n ≡ x → onward k m ≡ x
+  local-got k m r a n e d p = rw (e, d) p
+
+  pub local-not : (k : Syntax.Local Identifier → ℕ → Step C) (m : Step (Syntax.Local Identifier)) (r : LocalAt) (n : ℕ) → m ≡ localAt s r → r ≡ OA.Fault n → fault n ≡ x → onward k m ≡ x
+  local-not k m r n e d p = rw (e, d) p
+
+  pub list-got : {A : Type 0} (q : Reader A) (k : List A → ℕ → Step C) (m : Step (List A)) (r : ListAt) (a : Code.List) (n : ℕ) → m ≡ listAt q s r → r ≡ LA.Got a n → k (listOf q s a) n ≡ x → onward k m ≡ x
+  list-got q k m r a n e d p = rw (e, d) p
+
+  pub list-not : {A : Type 0} (q : Reader A) (k : List A → ℕ → Step C) (m : Step (List A)) (r : ListAt) (n : ℕ) → m ≡ listAt q s r → r ≡ LA.Fault n → fault n ≡ x → onward k m ≡ x
+  list-not q k m r n e d p = rw (e, d) p
+
+  pub use-got : (k : Syntax.TypeUse Identifier → ℕ → Step C) (m : Step (Syntax.TypeUse Identifier)) (r : UseAt) (a : TypeUse) (n : ℕ) → m ≡ useAt s r → r ≡ UA.Got a n → k (useOf s a) n ≡ x → onward k m ≡ x
+  use-got k m r a n e d p = rw (e, d) p
+
+  pub use-not : (k : Syntax.TypeUse Identifier → ℕ → Step C) (m : Step (Syntax.TypeUse Identifier)) (r : UseAt) (n : ℕ) → m ≡ useAt s r → r ≡ UA.Fault n → fault n ≡ x → onward k m ≡ x
+  use-not k m r n e d p = rw (e, d) p
+
+pub ruleset use-answers = (local-got, local-not, list-got, list-not, use-got, use-not)
+
+-- ## An answer whose value is not needed
+
+module _ (s : Bytes) where
+  pub local-past : (m : Step (Syntax.Local Identifier)) (r : LocalAt) (a : Local) (n : ℕ) → m ≡ localAt s r → r ≡ OA.Got a n → stops m ≡ got tt n
+  local-past m r a n e d = rw (e, d)
+
+  pub local-stops : (m : Step (Syntax.Local Identifier)) (r : LocalAt) (n : ℕ) → m ≡ localAt s r → r ≡ OA.Fault n → stops m ≡ fault n
+  local-stops m r n e d = rw (e, d)
+
+  pub part-past : (m : Step Bytes) (r : PartAt) (a : Part) (n : ℕ) → m ≡ partAt s r → r ≡ P.Got a n → stops m ≡ got tt n
+  part-past m r a n e d = rw (e, d)
+
+  pub part-stops : (m : Step Bytes) (r : PartAt) (n : ℕ) → m ≡ partAt s r → r ≡ P.Fault n → stops m ≡ fault n
+  part-stops m r n e d = rw (e, d)
+
+  pub index-past : (m : Step (Syntax.Index Identifier)) (r : IndexAt) (a : Index) (n : ℕ) → m ≡ indexAt s r → r ≡ XA.Got a n → stops m ≡ got tt n
+  index-past m r a n e d = rw (e, d)
+
+  pub index-stops : (m : Step (Syntax.Index Identifier)) (r : IndexAt) (n : ℕ) → m ≡ indexAt s r → r ≡ XA.Fault n → stops m ≡ fault n
+  index-stops m r n e d = rw (e, d)
+
+pub byte-past : (m : Step ℕ) (r : ByteAt) (b n : ℕ) → m ≡ byteAt r → r ≡ B.Got b n → stops m ≡ got tt n
+byte-past m r b n e d = rw (e, d)
+
+pub byte-stops : (m : Step ℕ) (r : ByteAt) (n : ℕ) → m ≡ byteAt r → r ≡ B.Fault n → stops m ≡ fault n
+byte-stops m r n e d = rw (e, d)
+
+-- what a list is of was matched
+module _ (w : Elem) (s : Bytes) (at : ℕ) (x : Step (Unit {0})) where
+  pub is-local : w ≡ E.Local → stops (Token.param s at) ≡ x → stops (elem w s at) ≡ x
+  is-local d p = rw d p
+
+  pub is-type : w ≡ E.Type → stops (Token.valType s at) ≡ x → stops (elem w s at) ≡ x
+  is-type d p = rw d p
+
+  pub is-string : w ≡ E.String → stops (Token.string s at) ≡ x → stops (elem w s at) ≡ x
+  is-string d p = rw d p
+
+  pub is-index : w ≡ E.Index → stops (Token.present s at) ≡ x → stops (elem w s at) ≡ x
+  is-index d p = rw d p
+
+pub ruleset passed-over = (is-local, is-type, is-string, is-index, local-past, local-stops, part-past, part-stops, index-past, index-stops, byte-past, byte-stops)
+
+-- one element of a list was passed, as the call answered
+pub skip-past : {A : Type 0} (m : Step A) (r : Skip) (n : ℕ) → stops m ≡ skip r → r ≡ S.Past n → stops m ≡ got tt n
+skip-past m r n e d = e ∙ ap skip d
+
+pub skip-stops : {A : Type 0} (m : Step A) (r : Skip) (n : ℕ) → stops m ≡ skip r → r ≡ S.Fault n → stops m ≡ fault n
+skip-stops m r n e d = e ∙ ap skip d

@@ -1,0 +1,143 @@
+// Counted lists, and type uses. A list is only passed over: its elements are read again where they are needed.
+use leb::U32;
+use token::ByteAt;
+use token::Index;
+use token::IndexAt;
+use token::Part;
+use token::PartAt;
+use token::Skip;
+ghost use mathlib.Core.Path.{_≡_};
+ghost use Rattle.definition.specs.Reader as Reader;
+ghost use Rattle.definition.specs.Token as Token;
+ghost use Rattle.laws.specs.Steps.{stops};
+ghost use Rattle.token.specs.Views.{skip};
+ghost use Rattle.typeuse.specs.Views.{localAt, elem, listAt, useAt};
+
+// A parameter or a local.
+pub struct Local {
+    pub id: Part,
+    pub value: u8,
+}
+
+pub enum LocalAt {
+    Got(Local, usize),
+    Fault(u8),
+}
+
+pub fn read_local(s: &[u8], at: usize) -> LocalAt
+    ensures { λ r. ⌜ Token.param (now (s .entry)) at ≡ localAt (now (s .entry)) r ⌝ }
+{
+    match token::read_identifier(s, at) {
+        PartAt::Got(id, a) => match coretypes::val_type(s, a) {
+            ByteAt::Got(value, b) => LocalAt::Got(Local { id, value }, b),
+            ByteAt::Fault(e) => LocalAt::Fault(e),
+        },
+        PartAt::Fault(e) => LocalAt::Fault(e),
+    }
+}
+
+// What a list is of.
+pub enum Elem {
+    Local,
+    Type,
+    String,
+    Index,
+}
+
+fn pass_one(s: &[u8], at: usize, what: Elem) -> Skip
+    ensures { λ r. ⌜ stops (elem what (now (s .entry)) at) ≡ skip r ⌝ }
+{
+    match what {
+        Elem::Local => match read_local(s, at) {
+            LocalAt::Got(_, next) => Skip::Past(next),
+            LocalAt::Fault(e) => Skip::Fault(e),
+        },
+        Elem::Type => match coretypes::val_type(s, at) {
+            ByteAt::Got(_, next) => Skip::Past(next),
+            ByteAt::Fault(e) => Skip::Fault(e),
+        },
+        Elem::String => match token::read_string(s, at) {
+            PartAt::Got(_, next) => Skip::Past(next),
+            PartAt::Fault(e) => Skip::Fault(e),
+        },
+        Elem::Index => match token::read_present(s, at) {
+            IndexAt::Got(_, next) => Skip::Past(next),
+            IndexAt::Fault(e) => Skip::Fault(e),
+        },
+    }
+}
+
+fn pass_many(s: &[u8], at: usize, n: u32, what: Elem) -> Skip
+    ensures { λ r. ⌜ stops (Reader.many n (elem what) (now (s .entry)) at) ≡ skip r ⌝ }
+{
+    let mut left = n;
+    let mut here = at;
+    while 0 < left {
+        match pass_one(s, here, what) {
+            Skip::Past(next) => {
+                here = next;
+            }
+            Skip::Fault(e) => {
+                return Skip::Fault(e);
+            }
+        }
+        left -= 1;
+    }
+    Skip::Past(here)
+}
+
+// A list: where its first element stands, and how many there are.
+pub struct List {
+    pub at: usize,
+    pub count: u32,
+}
+
+pub enum ListAt {
+    Got(List, usize),
+    Fault(u8),
+}
+
+pub fn read_list(s: &[u8], at: usize, ceiling: u32, what: Elem) -> ListAt
+    ensures { λ r. ⌜ Token.counted ceiling (elem what) (now (s .entry)) at ≡ listAt (elem what) (now (s .entry)) r ⌝ }
+{
+    match token::up_to(s, at, 7, ceiling) {
+        U32::Got(count, next) => match pass_many(s, next, count, what) {
+            Skip::Past(after) => ListAt::Got(List { at: next, count }, after),
+            Skip::Fault(e) => ListAt::Fault(e),
+        },
+        U32::Fault(e) => ListAt::Fault(e),
+    }
+}
+
+pub struct TypeUse {
+    pub index: Index,
+    pub params: List,
+    pub results: List,
+}
+
+pub enum UseAt {
+    Got(TypeUse, usize),
+    Fault(u8),
+}
+
+pub fn read_type_use(s: &[u8], at: usize) -> UseAt
+    ensures { λ r. ⌜ Token.typeUse (now (s .entry)) at ≡ useAt (now (s .entry)) r ⌝ }
+{
+    match token::read_optional(s, at) {
+        IndexAt::Got(index, a) => match read_list(s, a, 64, Elem::Local) {
+            ListAt::Got(params, b) => match read_list(s, b, 16, Elem::Type) {
+                ListAt::Got(results, c) => UseAt::Got(
+                    TypeUse {
+                        index,
+                        params,
+                        results,
+                    },
+                    c,
+                ),
+                ListAt::Fault(e) => UseAt::Fault(e),
+            },
+            ListAt::Fault(e) => UseAt::Fault(e),
+        },
+        IndexAt::Fault(e) => UseAt::Fault(e),
+    }
+}
