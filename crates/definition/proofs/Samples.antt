@@ -153,18 +153,18 @@ unfolding Basic._>>=_ Basic.each Basic.concatMap Basic.same Basic.sameBytes Basi
     Records.importForm Records.ownFuncForm Records.funcRec Records.ownTableForm Records.inlineTableForm Records.tableRec
     Records.ownMemForm Records.inlineMemForm Records.memRec Records.ownGlobalForm Records.globalRec Records.typeRec Records.kind
     Records.exportRec Records.startRec Records.activeMode Records.mode Records.elemRec Records.dataRec Records.fieldRecs Records.fieldRec
-    Read.nothingSeen Read.room Read.ownBody Read.sourceBody Read.fieldBody Read.isStart Read.openAfter Read.seenAfter Read.oneRecord
-    Read.records Read.read Deinline.exactly Deinline.pages Deinline.zeroOffset Deinline.sourceFields Deinline.fieldsOf Deinline.bodyOf
-    Deinline.deinlineFrom Deinline.deinline Deinline.importsFrom Deinline.importOrder Types.signature Types.sameType Types.typeAt
-    Types.typeNumber Types.isInline Types.isShort Types.useOf Types.instrUses Types.bodyUses Types.externUses Types.ownUses
-    Types.fieldUses Types.uses Types.declaredBy Types.declared Types.intern Types.allTypes Names.find Names.taken Names.distinct
-    Names.space Names.itemOf Names.register Names.numberIn Names.isAbsent Names.paramNames Names.localsOf Names.blocksAfter Names.itemNo
-    Names.checked Names.typeNoOf Names.typeNo Names.blockType Names.localNo Names.depthOf Names.immediate Names.plainOp Names.constOp
-    Names.closes Names.instrOp Names.body Names.distinctLocals Names.ownItem Names.externNo Names.tableNo Names.modeOf Names.resolve
-    Names.resolveAll Binary.unsigned Binary.u Binary.low7 Binary.over128 Binary.fits7 Binary.signed Binary.s Binary.integer Binary.vec
-    Binary.sized Binary.byte Binary.funcType Binary.limits Binary.tableType Binary.globalType Binary.externType Binary.blockType
-    Binary.memarg Binary.imm Binary.instruction Binary.expr Binary.runs Binary.run Binary.func-code Binary.elem Binary.data′
-    Binary.entries Binary.inSection Binary.joined Binary.content Binary.section Binary.preamble Binary.sectionNumbers Binary.sections
-    Binary.module′ Assemble.items Assemble.resolved Assemble.moduleIn Assemble.say Assemble.sayRead Assemble.assemble Assemble.outputAfter
-    Assemble.workAfter Assemble.outcome Assemble.call
+    Read.nothingSeen Read.room Read.ownBody Read.sourceBody Read.fieldBody Read.isStart Read.openAfter Read.bodyAfter Read.itemsAfter
+    Read.startedAfter Read.seenAfter Read.oneRecord Read.records Read.read Deinline.exactly Deinline.pages Deinline.zeroOffset
+    Deinline.sourceFields Deinline.fieldsOf Deinline.bodyOf Deinline.deinlineFrom Deinline.deinline Deinline.importsFrom
+    Deinline.importOrder Types.signature Types.sameType Types.typeAt Types.typeNumber Types.isInline Types.isShort Types.useOf
+    Types.instrUses Types.bodyUses Types.externUses Types.ownUses Types.fieldUses Types.uses Types.declaredBy Types.declared Types.intern
+    Types.allTypes Names.find Names.taken Names.distinct Names.space Names.itemOf Names.register Names.numberIn Names.isAbsent
+    Names.paramNames Names.localsOf Names.blocksAfter Names.itemNo Names.checked Names.typeNoOf Names.typeNo Names.blockType Names.localNo
+    Names.depthOf Names.immediate Names.plainOp Names.constOp Names.closes Names.instrOp Names.body Names.distinctLocals Names.ownItem
+    Names.externNo Names.tableNo Names.modeOf Names.resolve Names.resolveAll Binary.unsigned Binary.u Binary.low7 Binary.over128
+    Binary.fits7 Binary.signed Binary.s Binary.integer Binary.vec Binary.sized Binary.byte Binary.funcType Binary.limits Binary.tableType
+    Binary.globalType Binary.externType Binary.blockType Binary.memarg Binary.imm Binary.instruction Binary.expr Binary.runs Binary.run
+    Binary.func-code Binary.elem Binary.data′ Binary.entries Binary.inSection Binary.joined Binary.content Binary.section Binary.preamble
+    Binary.sectionNumbers Binary.sections Binary.module′ Assemble.items Assemble.resolved Assemble.moduleIn Assemble.say Assemble.sayRead
+    Assemble.assemble Assemble.outputAfter Assemble.workAfter Assemble.outcome Assemble.call
 samples-hold = refl

@@ -71,21 +71,36 @@ abbrev pub instrBody : {I : Type 0} → Instr I → Option ℕ → Option ℕ
 instrBody x none = none
 instrBody x (some k) = some (openAfter x k)
 
+-- the same after a record
+unfoldable pub bodyAfter : {I : Type 0} → Option ℕ → Rec I → Option ℕ
+bodyAfter body (field f) = fieldBody f
+bodyAfter body (instr x) = instrBody x body
+bodyAfter body bodyEnd = none
+
+unfoldable pub itemsAfter : {I : Type 0} → List Space → Rec I → List Space
+itemsAfter items (field f) = brings f ++ items
+itemsAfter items (instr x) = items
+itemsAfter items bodyEnd = items
+
+unfoldable pub startedAfter : {I : Type 0} → Bool → Rec I → Bool
+startedAfter started (field f) = isStart f || started
+startedAfter started (instr x) = started
+startedAfter started bodyEnd = started
+
 -- what has been seen after one record more
 unfoldable pub seenAfter : {I : Type 0} → Seen → Rec I → Seen
-seenAfter seen (field f) = record { items = brings f ++ seen .items; body = fieldBody f; started = isStart f || seen .started }
-seenAfter seen (instr x) = record { items = seen .items; body = instrBody x (seen .body); started = seen .started }
-seenAfter seen bodyEnd = record { items = seen .items; body = none; started = seen .started }
+seenAfter seen x =
+    record { items = itemsAfter (seen .items) x; body = bodyAfter (seen .body) x; started = startedAfter (seen .started) x }
 
 -- ## Records, one after the other
 
 -- outside a body a field, in a body an instruction or its end
-abbrev pub recordIn : Seen → Option ℕ → Reader (Rec Identifier)
-recordIn seen none = fieldRec (room seen) >>= λ f. give (field f)
-recordIn seen (some k) = bodyRec k
+abbrev pub recordIn : Room → Option ℕ → Reader (Rec Identifier)
+recordIn free none = fieldRec free >>= λ f. give (field f)
+recordIn free (some k) = bodyRec k
 
 unfoldable pub oneRecord : Seen → Reader (Rec Identifier)
-oneRecord seen = recordIn seen (seen .body)
+oneRecord seen = recordIn (room seen) (seen .body)
 
 -- may a record begin with this byte?
 abbrev pub beginsIn : ℕ → Option ℕ → Bool

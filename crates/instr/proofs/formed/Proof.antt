@@ -1,0 +1,105 @@
+use Rattle.definition.specs.Instructions.{instruction}
+use Rattle.expr.proofs.Ways.{plain-answers}
+use Rattle.instr.proofs.Ways.{instr-answers, form-is}
+use Rattle.laws.proofs.Ways.{ways}
+use Rattle.token.proofs.Ways.{answers}
+use Rattle.typeuse.proofs.Ways.{use-answers}
+use borrow.Author.Needs.{needs}
+use Rattle.instr.proofs.formed.Statement.{statement}
+use Rattle.instr.proofs.formed.Tie as tie
+
+opcode-form-requires : tie.Need-opcode-form-requires
+opcode-form-requires c κs = search needs
+
+enum-told : tie.Need-enum-told
+enum-told c = search needs
+
+enum-told-2 : tie.Need-enum-told-2
+enum-told-2 c = search needs
+
+opens-requires : tie.Need-opens-requires
+opens-requires c κs = search needs
+
+enum-told-3 : tie.Need-enum-told-3
+enum-told-3 c = search needs
+
+elses-requires : tie.Need-elses-requires
+elses-requires c κs = search needs
+
+enum-told-4 : tie.Need-enum-told-4
+enum-told-4 c = search needs
+
+ends-requires : tie.Need-ends-requires
+ends-requires c κs = search needs
+
+enum-told-5 : tie.Need-enum-told-5
+enum-told-5 c = search needs
+
+indirect-requires : tie.Need-indirect-requires
+indirect-requires c κs = search needs
+
+enum-known-what : tie.Need-enum-known-what
+enum-known-what c = search needs
+
+read-plain-requires : tie.Need-read-plain-requires
+read-plain-requires c κs = search needs
+
+enum-known-p : tie.Need-enum-known-p
+enum-known-p c = search needs
+
+enum-known-e : tie.Need-enum-known-e
+enum-known-e c = search needs
+
+returns : tie.Need-returns
+unfolding instruction
+returns c = search (form-is, ways, answers, use-answers, plain-answers, instr-answers) depth 10
+
+returns-2 : tie.Need-returns-2
+unfolding instruction
+returns-2 c = search (form-is, ways, answers, use-answers, plain-answers, instr-answers) depth 10
+
+returns-3 : tie.Need-returns-3
+unfolding instruction
+returns-3 c = search (form-is, ways, answers, use-answers, plain-answers, instr-answers) depth 10
+
+returns-4 : tie.Need-returns-4
+unfolding instruction
+returns-4 c = search (form-is, ways, answers, use-answers, plain-answers, instr-answers) depth 10
+
+returns-5 : tie.Need-returns-5
+unfolding instruction
+returns-5 c = search (form-is, ways, answers, use-answers, plain-answers, instr-answers) depth 10
+
+returns-6 : tie.Need-returns-6
+unfolding instruction
+returns-6 c = search (form-is, ways, answers, use-answers, plain-answers, instr-answers) depth 10
+
+returns-7 : tie.Need-returns-7
+unfolding instruction
+returns-7 c = search (form-is, ways, answers, use-answers, plain-answers, instr-answers) depth 10
+
+pub formed-spec : {M : Type 1} → statement M
+formed-spec =
+    tie.close
+    (tie.spec
+    opcode-form-requires
+    enum-told
+    enum-told-2
+    opens-requires
+    enum-told-3
+    elses-requires
+    enum-told-4
+    ends-requires
+    enum-told-5
+    indirect-requires
+    enum-known-what
+    read-plain-requires
+    enum-known-p
+    enum-known-e
+    returns
+    returns-2
+    returns-3
+    returns-4
+    returns-5
+    returns-6
+    returns-7)

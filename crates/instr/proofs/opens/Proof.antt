@@ -1,0 +1,58 @@
+use Rattle.definition.specs.Instructions.{instruction}
+use Rattle.expr.proofs.Ways.{plain-answers}
+use Rattle.instr.proofs.Ways.{instr-answers}
+use Rattle.laws.proofs.Ways.{ways}
+use Rattle.token.proofs.Ways.{answers}
+use Rattle.typeuse.proofs.Ways.{use-answers}
+use borrow.Author.Needs.{needs}
+use Rattle.instr.proofs.opens.Statement.{statement}
+use Rattle.instr.proofs.opens.Tie as tie
+
+returns : tie.Need-returns
+unfolding instruction
+returns c = search (ways, answers, use-answers, plain-answers, instr-answers) depth 14
+
+read-identifier-requires : tie.Need-read-identifier-requires
+read-identifier-requires c κs = search needs
+
+enum-known-label : tie.Need-enum-known-label
+enum-known-label c = search needs
+
+read-type-use-requires : tie.Need-read-type-use-requires
+read-type-use-requires c κs = search needs
+
+enum-known-t : tie.Need-enum-known-t
+enum-known-t c = search needs
+
+enum-known-e : tie.Need-enum-known-e
+enum-known-e c = search needs
+
+enum-known-e-2 : tie.Need-enum-known-e-2
+enum-known-e-2 c = search needs
+
+returns-2 : tie.Need-returns-2
+unfolding instruction
+returns-2 c = search (ways, answers, use-answers, plain-answers, instr-answers) depth 14
+
+returns-3 : tie.Need-returns-3
+unfolding instruction
+returns-3 c = search (ways, answers, use-answers, plain-answers, instr-answers) depth 14
+
+returns-4 : tie.Need-returns-4
+unfolding instruction
+returns-4 c = search (ways, answers, use-answers, plain-answers, instr-answers) depth 14
+
+pub opens-spec : {M : Type 1} → statement M
+opens-spec =
+    tie.close
+    (tie.spec
+    returns
+    read-identifier-requires
+    enum-known-label
+    read-type-use-requires
+    enum-known-t
+    enum-known-e
+    enum-known-e-2
+    returns-2
+    returns-3
+    returns-4)

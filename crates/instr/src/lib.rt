@@ -1,0 +1,426 @@
+// The records of a body: instructions, and its end.
+use expr::Operands;
+use expr::Plain;
+use expr::PlainAt;
+use token::ByteAt;
+use token::Index;
+use token::IndexAt;
+use token::Part;
+use token::PartAt;
+use typeuse::TypeUse;
+use typeuse::UseAt;
+ghost use mathlib.Core.Path.{_≡_};
+ghost use Rattle.definition.specs.Instructions as Instructions;
+ghost use Rattle.instr.specs.Views.{formIs, formNo, instrAt, bodyAt};
+
+// What stands after an opcode.
+pub enum Form {
+    NoOpcode,
+    Opening,
+    Elsing,
+    Ending,
+    Calling,
+    Operands(Operands),
+}
+
+// By opcode: 0 none, 1 a block's label and type use, 2 else, 3 end, 4 call_indirect, from 5 on operands in the order of `Operands`.
+const FORM: [u8; 256] = [
+    5,
+    5,
+    1,
+    1,
+    1,
+    2,
+    0,
+    0,
+    0,
+    0,
+    0,
+    3,
+    6,
+    6,
+    7,
+    5,
+    9,
+    4,
+    0,
+    0,
+    0,
+    0,
+    0,
+    0,
+    0,
+    0,
+    5,
+    5,
+    0,
+    0,
+    0,
+    0,
+    8,
+    8,
+    8,
+    10,
+    10,
+    0,
+    0,
+    0,
+    12,
+    12,
+    12,
+    12,
+    12,
+    12,
+    12,
+    12,
+    12,
+    12,
+    12,
+    12,
+    12,
+    12,
+    12,
+    12,
+    12,
+    12,
+    12,
+    12,
+    12,
+    12,
+    12,
+    11,
+    11,
+    13,
+    14,
+    15,
+    16,
+    5,
+    5,
+    5,
+    5,
+    5,
+    5,
+    5,
+    5,
+    5,
+    5,
+    5,
+    5,
+    5,
+    5,
+    5,
+    5,
+    5,
+    5,
+    5,
+    5,
+    5,
+    5,
+    5,
+    5,
+    5,
+    5,
+    5,
+    5,
+    5,
+    5,
+    5,
+    5,
+    5,
+    5,
+    5,
+    5,
+    5,
+    5,
+    5,
+    5,
+    5,
+    5,
+    5,
+    5,
+    5,
+    5,
+    5,
+    5,
+    5,
+    5,
+    5,
+    5,
+    5,
+    5,
+    5,
+    5,
+    5,
+    5,
+    5,
+    5,
+    5,
+    5,
+    5,
+    5,
+    5,
+    5,
+    5,
+    5,
+    5,
+    5,
+    5,
+    5,
+    5,
+    5,
+    5,
+    5,
+    5,
+    5,
+    5,
+    5,
+    5,
+    5,
+    5,
+    5,
+    5,
+    5,
+    5,
+    5,
+    5,
+    5,
+    5,
+    5,
+    5,
+    5,
+    5,
+    5,
+    5,
+    5,
+    5,
+    5,
+    5,
+    5,
+    5,
+    5,
+    5,
+    5,
+    5,
+    5,
+    5,
+    5,
+    5,
+    5,
+    5,
+    5,
+    5,
+    5,
+    5,
+    5,
+    5,
+    5,
+    5,
+    5,
+    5,
+    5,
+    5,
+    5,
+    5,
+    5,
+    0,
+    0,
+    0,
+    0,
+    0,
+    0,
+    0,
+    0,
+    0,
+    0,
+    0,
+    17,
+    5,
+    9,
+    0,
+    0,
+    0,
+    0,
+    0,
+    0,
+    0,
+    0,
+    0,
+    0,
+    0,
+    0,
+    0,
+    0,
+    0,
+    0,
+    0,
+    0,
+    0,
+    0,
+    0,
+    0,
+    0,
+    0,
+    0,
+    0,
+    0,
+    0,
+    0,
+    0,
+    0,
+    0,
+    0,
+    0,
+    0,
+    0,
+    0,
+    0,
+    0,
+    0,
+    0,
+    0,
+    0,
+    0,
+    0,
+];
+
+fn form_of(n: u8) -> Form
+    ensures { λ r. ⌜ formIs r ≡ formNo n ⌝ }
+{
+    match n {
+        1 => Form::Opening,
+        2 => Form::Elsing,
+        3 => Form::Ending,
+        4 => Form::Calling,
+        5 => Form::Operands(Operands::Bare),
+        6 => Form::Operands(Operands::LabelIdx),
+        7 => Form::Operands(Operands::LabelIdxs),
+        8 => Form::Operands(Operands::LocalIdx),
+        9 => Form::Operands(Operands::FuncIdx),
+        10 => Form::Operands(Operands::GlobalIdx),
+        11 => Form::Operands(Operands::MemIdx),
+        12 => Form::Operands(Operands::MemArg),
+        13 => Form::Operands(Operands::I32),
+        14 => Form::Operands(Operands::I64),
+        15 => Form::Operands(Operands::F32),
+        16 => Form::Operands(Operands::F64),
+        17 => Form::Operands(Operands::HeapType),
+        _ => Form::NoOpcode,
+    }
+}
+
+pub fn opcode_form(opcode: u8) -> Form
+    ensures { λ r. ⌜ Instructions.formOf opcode ≡ formIs r ⌝ }
+{
+    form_of(FORM[opcode as usize])
+}
+
+pub enum Instr {
+    // block, loop or if, by its opcode; its label and its type
+    Opens(u8, Part, TypeUse),
+    Elses(Part),
+    Ends(Part),
+    // call_indirect: its table and its type
+    Indirect(Index, TypeUse),
+    Plain(Plain),
+}
+
+pub enum InstrAt {
+    Got(Instr, usize),
+    Fault(u8),
+}
+
+fn opens(s: &[u8], at: usize, opcode: u8, k: u32) -> InstrAt
+    ensures { λ r. ⌜ Instructions.instruction k opcode Instructions.opening (now (s .entry)) at ≡ instrAt (now (s .entry)) r ⌝ }
+{
+    if 128 <= k {
+        return InstrAt::Fault(7);
+    }
+    match token::read_identifier(s, at) {
+        PartAt::Got(label, a) => match typeuse::read_type_use(s, a) {
+            UseAt::Got(t, b) => InstrAt::Got(Instr::Opens(opcode, label, t), b),
+            UseAt::Fault(e) => InstrAt::Fault(e),
+        },
+        PartAt::Fault(e) => InstrAt::Fault(e),
+    }
+}
+
+fn elses(s: &[u8], at: usize, opcode: u8, k: u32) -> InstrAt
+    ensures { λ r. ⌜ Instructions.instruction k opcode Instructions.elsing (now (s .entry)) at ≡ instrAt (now (s .entry)) r ⌝ }
+{
+    if k < 1 {
+        return InstrAt::Fault(8);
+    }
+    match token::read_identifier(s, at) {
+        PartAt::Got(label, next) => InstrAt::Got(Instr::Elses(label), next),
+        PartAt::Fault(e) => InstrAt::Fault(e),
+    }
+}
+
+fn ends(s: &[u8], at: usize, opcode: u8, k: u32) -> InstrAt
+    ensures { λ r. ⌜ Instructions.instruction k opcode Instructions.ending (now (s .entry)) at ≡ instrAt (now (s .entry)) r ⌝ }
+{
+    if k < 1 {
+        return InstrAt::Fault(8);
+    }
+    match token::read_identifier(s, at) {
+        PartAt::Got(label, next) => InstrAt::Got(Instr::Ends(label), next),
+        PartAt::Fault(e) => InstrAt::Fault(e),
+    }
+}
+
+fn indirect(s: &[u8], at: usize, opcode: u8, k: u32) -> InstrAt
+    ensures { λ r. ⌜ Instructions.instruction k opcode Instructions.calling (now (s .entry)) at ≡ instrAt (now (s .entry)) r ⌝ }
+{
+    match token::read_optional(s, at) {
+        IndexAt::Got(x, a) => match typeuse::read_type_use(s, a) {
+            UseAt::Got(t, b) => InstrAt::Got(Instr::Indirect(x, t), b),
+            UseAt::Fault(e) => InstrAt::Fault(e),
+        },
+        IndexAt::Fault(e) => InstrAt::Fault(e),
+    }
+}
+
+// An instruction where k blocks are open: what stands after its opcode.
+fn formed(s: &[u8], at: usize, opcode: u8, k: u32) -> InstrAt
+    ensures { λ r. ⌜ Instructions.formed k opcode (Instructions.formOf opcode) (now (s .entry)) at ≡ instrAt (now (s .entry)) r ⌝ }
+{
+    match opcode_form(opcode) {
+        Form::NoOpcode => InstrAt::Fault(4),
+        Form::Opening => opens(s, at, opcode, k),
+        Form::Elsing => elses(s, at, opcode, k),
+        Form::Ending => ends(s, at, opcode, k),
+        Form::Calling => indirect(s, at, opcode, k),
+        Form::Operands(what) => match expr::read_plain(s, at, opcode, what) {
+            PlainAt::Got(p, next) => InstrAt::Got(Instr::Plain(p), next),
+            PlainAt::Fault(e) => InstrAt::Fault(e),
+        },
+    }
+}
+
+pub enum BodyAt {
+    Got(Instr, usize),
+    // the byte FF
+    End(usize),
+    Fault(u8),
+}
+
+// A record of a body where k blocks are open.
+pub fn read_body(s: &[u8], at: usize, k: u32) -> BodyAt
+    ensures { λ r. ⌜ Instructions.bodyRec k (now (s .entry)) at ≡ bodyAt (now (s .entry)) r ⌝ }
+{
+    match token::read_byte(s, at) {
+        ByteAt::Got(b, a) => {
+            if b == 0xFF {
+                if k == 0 {
+                    return BodyAt::End(a);
+                }
+                return BodyAt::Fault(8);
+            }
+            match formed(s, a, b, k) {
+                InstrAt::Got(i, next) => BodyAt::Got(i, next),
+                InstrAt::Fault(e) => BodyAt::Fault(e),
+            }
+        }
+        ByteAt::Fault(e) => BodyAt::Fault(e),
+    }
+}
