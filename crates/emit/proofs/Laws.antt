@@ -8,12 +8,8 @@ use native.Mathlib.Omega.{arith}
 use native.Mathlib.Nat.{add-suc, suc-add, add-zero}
 use native.Mathlib.Decide.{decLe}
 use Rattle.definition.specs.Binary.{u, sized}
+use Rattle.laws.proofs.Sets.{sets-append}
 use Rattle.emit.specs.Put.{Put, past}
-
--- storing a list is storing its first part, and then the rest after it
-pub sets-append : (l : List ℕ) (i : ℕ) (vs ws : List ℕ) → sets l i (vs ++ ws) ≡ sets (sets l i vs) (i + length vs) ws
-sets-append l i [] ws = rw add-zero refl
-sets-append l i (v ∷ vs) ws = sets-append (set l i v) (suc i) vs ws ∙ rw (suc-add, add-suc) refl
 
 -- past the end nothing is stored
 pub sets-out : (l : List ℕ) (i : ℕ) (vs : List ℕ) → length l ≤ i → sets l i vs ≡ l

@@ -8,7 +8,8 @@ use native.Mathlib.Decide.{decLe}
 use native.Mathlib.Numerals.{add-one}
 use native.Mathlib.Omega.{arith}
 use Rattle.emit.specs.Put.{Put, past}
-use Rattle.emit.proofs.Laws.{sets-append, sets-out}
+use Rattle.laws.proofs.Sets.{sets-append}
+use Rattle.emit.proofs.Laws.{sets-out}
 
 -- of the bytes `bs`, `i` are stored
 pub record Stored (out₀ : List ℕ) (at : ℕ) (bs out : List ℕ) (i : ℕ) : Type 0 where

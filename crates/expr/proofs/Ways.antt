@@ -1,13 +1,12 @@
 -- How `search` follows the definition past an answer of this crate.
 use mathlib.Core.Path.{_≡_, refl, sym}
-use Prim.Native.Nat.{ℕ, zero, suc, _-_, _≤_, _<_}
-use mathlib.Core.List.{List, [], _∷_}
-use lib.ListN.{getD, length}
+use Prim.Native.Nat.{ℕ, _-_, _<_}
 use native.Mathlib.Omega.{arith}
 use Rattle.definition.specs.Syntax as Syntax
 use Rattle.definition.specs.Syntax.{Bytes, Identifier}
 use Rattle.definition.specs.Reader.{Step, got, fault, onward}
 use Rattle.definition.specs.Instructions.{plainOf, naturals, exponent, f32, f64}
+use Rattle.laws.proofs.Readers.{getD-out}
 use Rattle.expr.specs.Views.{plainIs, plainAt, operandsIs, rawOf}
 use Rattle.expr.specs.declared.Plain.{Plain}
 use Rattle.expr.specs.declared.PlainAt.{PlainAt}
@@ -42,11 +41,6 @@ eight-raw op s at x p = p
 pub access-got : (op b e o n : ℕ) (x : Syntax.Index Identifier) → e ≡ exponent op b
     → _≡_ {A = Step (Syntax.Plain Identifier)} (got (record { opcode = op; operand = Syntax.access (exponent op b) o x }) n) (got (record { opcode = op; operand = Syntax.access e o x }) n)
 access-got op b e o n x d = rw d
-
-getD-out : (xs : List ℕ) (i : ℕ) → length xs ≤ i → getD xs i 0 ≡ 0
-getD-out [] i h = refl
-getD-out (x ∷ xs) zero h = absurd (omega arith)
-getD-out (x ∷ xs) (suc i) h = getD-out xs i (omega arith)
 
 -- opcodes below and above the table
 pub natural-low : (op : ℕ) → op < 0x28 → 2 ≡ exponent op 0

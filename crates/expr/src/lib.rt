@@ -134,31 +134,8 @@ fn mem_plain(s: &[u8], at: usize, opcode: u8) -> PlainAt
 }
 
 // The natural exponents of the opcodes 28 to 3E.
-const NATURAL: [u8; 23] = [
-    2,
-    3,
-    2,
-    3,
-    0,
-    0,
-    1,
-    1,
-    0,
-    0,
-    1,
-    1,
-    2,
-    2,
-    2,
-    3,
-    2,
-    3,
-    0,
-    1,
-    0,
-    1,
-    2,
-];
+const NATURAL: [u8; 23] =
+    *b"\x02\x03\x02\x03\x00\x00\x01\x01\x00\x00\x01\x01\x02\x02\x02\x03\x02\x03\x00\x01\x00\x01\x02";
 
 fn natural(op: u8) -> u8
     ensures { λ r. ⌜ r ≡ Instructions.exponent op 0 ⌝ }

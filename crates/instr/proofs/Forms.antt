@@ -13,31 +13,31 @@ use Rattle.laws.proofs.Table.{every, table-is}
 use Rattle.instr.specs.Views.{formIs, formNo}
 use Rattle.instr.specs.declared.Form.{Form}
 
--- the number that the table has for a form
-abbrev operandsNumber : Instructions.Operands → ℕ
-operandsNumber Instructions.bare = 5
-operandsNumber Instructions.labelidx = 6
-operandsNumber Instructions.labelidxs = 7
-operandsNumber Instructions.localidx = 8
-operandsNumber Instructions.funcidx = 9
-operandsNumber Instructions.globalidx = 10
-operandsNumber Instructions.memidx = 11
-operandsNumber Instructions.memarg = 12
-operandsNumber Instructions.i32 = 13
-operandsNumber Instructions.i64 = 14
-operandsNumber Instructions.f32 = 15
-operandsNumber Instructions.f64 = 16
-operandsNumber Instructions.heaptype = 17
+-- the letter that the table has for a form
+abbrev operandsLetter : Instructions.Operands → ℕ
+operandsLetter Instructions.bare = 0x2E
+operandsLetter Instructions.labelidx = 0x6C
+operandsLetter Instructions.labelidxs = 0x4C
+operandsLetter Instructions.localidx = 0x76
+operandsLetter Instructions.funcidx = 0x66
+operandsLetter Instructions.globalidx = 0x67
+operandsLetter Instructions.memidx = 0x6D
+operandsLetter Instructions.memarg = 0x61
+operandsLetter Instructions.i32 = 0x69
+operandsLetter Instructions.i64 = 0x49
+operandsLetter Instructions.f32 = 0x72
+operandsLetter Instructions.f64 = 0x52
+operandsLetter Instructions.heaptype = 0x68
 
-abbrev formNumber : Option Instructions.Form → ℕ
-formNumber none = 0
-formNumber (some opening) = 1
-formNumber (some elsing) = 2
-formNumber (some ending) = 3
-formNumber (some calling) = 4
-formNumber (some (operands w)) = operandsNumber w
+abbrev formLetter : Option Instructions.Form → ℕ
+formLetter none = 0x2D
+formLetter (some opening) = 0x62
+formLetter (some elsing) = 0x65
+formLetter (some ending) = 0x6E
+formLetter (some calling) = 0x63
+formLetter (some (operands w)) = operandsLetter w
 
-operands-back : (w : Instructions.Operands) → formNo (operandsNumber w) ≡ some (operands w)
+operands-back : (w : Instructions.Operands) → formNo (operandsLetter w) ≡ some (operands w)
 unfolding formNo
 operands-back Instructions.bare = refl
 operands-back Instructions.labelidx = refl
@@ -53,7 +53,7 @@ operands-back Instructions.f32 = refl
 operands-back Instructions.f64 = refl
 operands-back Instructions.heaptype = refl
 
-form-back : (f : Option Instructions.Form) → formNo (formNumber f) ≡ f
+form-back : (f : Option Instructions.Form) → formNo (formLetter f) ≡ f
 unfolding formNo
 form-back none = refl
 form-back (some opening) = refl
@@ -64,13 +64,13 @@ form-back (some (operands w)) = operands-back w
 
 -- the test that is computed
 unfoldable pub rightForms : List ℕ → Bool
-rightForms xs = every (λ b x. eqb x (formNumber (formOf b))) 0 xs
+rightForms xs = every (λ b x. eqb x (formLetter (formOf b))) 0 xs
 
--- the form that was worked out from the table's number is the opcode's
+-- the form that was worked out from the table's letter is the opcode's
 pub forms-right : (xs : List ℕ) → T (rightForms xs) → (b : ℕ) → b < length xs → (r : Form) → formIs r ≡ formNo (getD xs b 0) → formOf b ≡ formIs r
 unfolding rightForms
-forms-right xs t b h r e = sym (e ∙ ap formNo (table-is (λ b. formNumber (formOf b)) xs t b h) ∙ form-back (formOf b))
+forms-right xs t b h r e = sym (e ∙ ap formNo (table-is (λ b. formLetter (formOf b)) xs t b h) ∙ form-back (formOf b))
 
--- a number of the table that was matched
-pub at-number : (n k : ℕ) (x : Option Instructions.Form) → n ≡ k → x ≡ formNo k → x ≡ formNo n
-at-number n k x e d = rw e d
+-- a letter of the table that was matched
+pub at-letter : (n k : ℕ) (x : Option Instructions.Form) → n ≡ k → x ≡ formNo k → x ≡ formNo n
+at-letter n k x e d = rw e d

@@ -28,26 +28,26 @@ formIs F.Ending = some ending
 formIs F.Calling = some calling
 formIs (F.Operands w) = some (operands (operandsIs w))
 
--- the form that a number of the table stands for
+-- the form that a letter of the table stands for
 unfoldable pub formNo : ℕ → Option Instructions.Form
 formNo n =
-    if eqb n 1 then some opening else
-    if eqb n 2 then some elsing else
-    if eqb n 3 then some ending else
-    if eqb n 4 then some calling else
-    if eqb n 5 then some (operands Instructions.bare) else
-    if eqb n 6 then some (operands Instructions.labelidx) else
-    if eqb n 7 then some (operands Instructions.labelidxs) else
-    if eqb n 8 then some (operands Instructions.localidx) else
-    if eqb n 9 then some (operands Instructions.funcidx) else
-    if eqb n 10 then some (operands Instructions.globalidx) else
-    if eqb n 11 then some (operands Instructions.memidx) else
-    if eqb n 12 then some (operands Instructions.memarg) else
-    if eqb n 13 then some (operands Instructions.i32) else
-    if eqb n 14 then some (operands Instructions.i64) else
-    if eqb n 15 then some (operands Instructions.f32) else
-    if eqb n 16 then some (operands Instructions.f64) else
-    if eqb n 17 then some (operands Instructions.heaptype) else
+    if eqb n 0x62 then some opening else
+    if eqb n 0x65 then some elsing else
+    if eqb n 0x6E then some ending else
+    if eqb n 0x63 then some calling else
+    if eqb n 0x2E then some (operands Instructions.bare) else
+    if eqb n 0x6C then some (operands Instructions.labelidx) else
+    if eqb n 0x4C then some (operands Instructions.labelidxs) else
+    if eqb n 0x76 then some (operands Instructions.localidx) else
+    if eqb n 0x66 then some (operands Instructions.funcidx) else
+    if eqb n 0x67 then some (operands Instructions.globalidx) else
+    if eqb n 0x6D then some (operands Instructions.memidx) else
+    if eqb n 0x61 then some (operands Instructions.memarg) else
+    if eqb n 0x69 then some (operands Instructions.i32) else
+    if eqb n 0x49 then some (operands Instructions.i64) else
+    if eqb n 0x72 then some (operands Instructions.f32) else
+    if eqb n 0x52 then some (operands Instructions.f64) else
+    if eqb n 0x68 then some (operands Instructions.heaptype) else
     none
 
 abbrev pub instrIs : Bytes → Instr → Syntax.Instr Identifier

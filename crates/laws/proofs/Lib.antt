@@ -8,3 +8,5 @@ pub mod Groups
 pub mod Reading
 pub mod Interning
 pub mod Lengths
+pub mod Bodies
+pub mod Sets

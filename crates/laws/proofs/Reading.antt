@@ -13,16 +13,12 @@ use native.Mathlib.Numerals.{add-one}
 use Rattle.definition.specs.Basic.{if_then_else_, Answer, ok, refused}
 use Rattle.definition.specs.Syntax.{Bytes, Rec, Identifier}
 use Rattle.definition.specs.Reader.{Step, got, fault}
+use Rattle.laws.specs.Steps.{total}
 use Rattle.definition.specs.Read.{Seen, seenAfter, oneRecord, records, withRecord, before, atEnd, beginsIn}
 
 -- ## What `read` counts
 
--- how many records there are, `r` of them read already; or the refusal
-abbrev pub total : {A : Type 0} → ℕ → Answer (List A) → Answer ℕ
-total r (ok xs) = ok (r + length xs)
-total r (refused n q) = refused n q
-
-total-before : {A : Type 0} (r : ℕ) (x : A) (a : Answer (List A)) → total r (before x a) ≡ total (r + 1) a
+pub total-before : {A : Type 0} (r : ℕ) (x : A) (a : Answer (List A)) → total r (before x a) ≡ total (r + 1) a
 total-before r x (ok xs) = ap (λ n. ok n) (add-suc r (length xs) ∙ sym (ap (λ n. n + length xs) (add-one r) ∙ suc-add r (length xs)))
 total-before r x (refused n q) = refl
 

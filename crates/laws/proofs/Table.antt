@@ -54,6 +54,7 @@ same-bool false false t = refl
 pub table-is : (f : ℕ → ℕ) (xs : List ℕ) → T (every (λ k x. eqb x (f k)) 0 xs) → (k : ℕ) → k < length xs → getD xs k 0 ≡ f k
 table-is f xs t k h = eqb-true _ _ (T-true _ (at (λ k x. eqb x (f k)) xs t k h))
 
--- a table has 1 where a test passes, and something else where it does not
-pub table-says : (f : ℕ → Bool) (xs : List ℕ) → T (every (λ k x. sameBool (eqb x 1) (f k)) 0 xs) → (k : ℕ) → k < length xs → eqb (getD xs k 0) 1 ≡ f k
-table-says f xs t k h = same-bool _ _ (at (λ k x. sameBool (eqb x 1) (f k)) xs t k h)
+-- a table has a mark where a test passes, and something else where it does not
+pub table-says : (f : ℕ → Bool) (mark : ℕ) (xs : List ℕ) → T (every (λ k x. sameBool (eqb x mark) (f k)) 0 xs)
+    → (k : ℕ) → k < length xs → eqb (getD xs k 0) mark ≡ f k
+table-says f mark xs t k h = same-bool _ _ (at (λ k x. sameBool (eqb x mark) (f k)) xs t k h)

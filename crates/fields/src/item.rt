@@ -1,0 +1,123 @@
+// Types, imports, and the items that a form follows: functions, tables, memories, globals.
+use crate::field::Field;
+use crate::field::FieldAt;
+use sources::ExternAt;
+use sources::ImportName;
+use sources::Kind;
+use sources::NameAt;
+use sources::Seen;
+use sources::SourceAt;
+use token::ByteAt;
+use token::Part;
+use token::PartAt;
+use token::Space;
+use typeuse::Elem;
+use typeuse::List;
+use typeuse::ListAt;
+ghost use mathlib.Core.Path.{_≡_};
+ghost use Rattle.definition.specs.Records as Records;
+ghost use Rattle.definition.specs.Token as Token;
+ghost use Rattle.token.specs.Views.{idOf};
+ghost use Rattle.typeuse.specs.Views.{listOf};
+ghost use Rattle.sources.specs.Views.{roomOf, nameOf, kindOf, externOf, formsOf};
+ghost use Rattle.fields.specs.Views.{fieldAt, itemOf};
+
+pub fn read_type(s: &[u8], at: usize, seen: Seen) -> FieldAt
+    ensures { λ r. ⌜ Records.typeRec (roomOf seen) (now (s .entry)) at ≡ fieldAt (now (s .entry)) r ⌝ }
+{
+    if !sources::has_room(seen, Space::Types) {
+        return FieldAt::Fault(7);
+    }
+    match token::read_identifier(s, at) {
+        PartAt::Got(id, a) => match typeuse::read_list(s, a, 64, Elem::Type) {
+            ListAt::Got(params, b) => match typeuse::read_list(s, b, 16, Elem::Type) {
+                ListAt::Got(results, c) => FieldAt::Got(
+                    Field::Type {
+                        id,
+                        params,
+                        results,
+                    },
+                    c,
+                ),
+                ListAt::Fault(e) => FieldAt::Fault(e),
+            },
+            ListAt::Fault(e) => FieldAt::Fault(e),
+        },
+        PartAt::Fault(e) => FieldAt::Fault(e),
+    }
+}
+
+// What follows the kind byte of an import.
+fn import_of(s: &[u8], at: usize, seen: Seen, name: ImportName, kind: Kind) -> FieldAt
+    ensures { λ r. ⌜ Records.importOf (roomOf seen) (nameOf (now (s .entry)) name) (kindOf kind) (externOf kind) (now (s .entry)) at ≡ fieldAt (now (s .entry)) r ⌝ }
+{
+    if !sources::has_room_for(seen, kind) {
+        return FieldAt::Fault(7);
+    }
+    match token::read_identifier(s, at) {
+        PartAt::Got(id, a) => match sources::read_extern(s, a, kind) {
+            ExternAt::Got(what, b) => FieldAt::Got(Field::Import { name, id, what }, b),
+            ExternAt::Fault(e) => FieldAt::Fault(e),
+        },
+        PartAt::Fault(e) => FieldAt::Fault(e),
+    }
+}
+
+pub fn read_import(s: &[u8], at: usize, seen: Seen) -> FieldAt
+    ensures { λ r. ⌜ Records.importRec (roomOf seen) (now (s .entry)) at ≡ fieldAt (now (s .entry)) r ⌝ }
+{
+    match sources::read_import_name(s, at) {
+        NameAt::Got(name, a) => match token::read_byte(s, a) {
+            ByteAt::Got(b, next) => {
+                if b == 0 {
+                    return import_of(s, next, seen, name, Kind::Func);
+                }
+                if b == 1 {
+                    return import_of(s, next, seen, name, Kind::Table);
+                }
+                if b == 2 {
+                    return import_of(s, next, seen, name, Kind::Mem);
+                }
+                if b == 3 {
+                    return import_of(s, next, seen, name, Kind::Global);
+                }
+                FieldAt::Fault(4)
+            }
+            ByteAt::Fault(e) => FieldAt::Fault(e),
+        },
+        NameAt::Fault(e) => FieldAt::Fault(e),
+    }
+}
+
+// What follows the exports of an item: its form.
+fn item_of(s: &[u8], at: usize, seen: Seen, kind: Kind, id: Part, exports: List) -> FieldAt
+    ensures { λ r. ⌜ itemOf (formsOf (roomOf seen) kind) (idOf (now (s .entry)) id) (listOf Token.string (now (s .entry)) exports) (now (s .entry)) at ≡ fieldAt (now (s .entry)) r ⌝ }
+{
+    match sources::read_source(s, at, seen, kind) {
+        SourceAt::Got(source, next) => FieldAt::Got(
+            Field::Item {
+                id,
+                exports,
+                source,
+            },
+            next,
+        ),
+        SourceAt::Fault(e) => FieldAt::Fault(e),
+    }
+}
+
+// A function, a table, a memory or a global.
+pub fn read_item(s: &[u8], at: usize, seen: Seen, kind: Kind) -> FieldAt
+    ensures { λ r. ⌜ Records.itemRec (roomOf seen) (kindOf kind) (formsOf (roomOf seen) kind) (now (s .entry)) at ≡ fieldAt (now (s .entry)) r ⌝ }
+{
+    if !sources::has_room_for(seen, kind) {
+        return FieldAt::Fault(7);
+    }
+    match token::read_identifier(s, at) {
+        PartAt::Got(id, a) => match typeuse::read_list(s, a, 8, Elem::String) {
+            ListAt::Got(exports, b) => item_of(s, b, seen, kind, id, exports),
+            ListAt::Fault(e) => FieldAt::Fault(e),
+        },
+        PartAt::Fault(e) => FieldAt::Fault(e),
+    }
+}

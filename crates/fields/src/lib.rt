@@ -1,0 +1,10 @@
+// The field records 01 to 0A of document 01.
+pub mod export;
+pub mod field;
+pub mod item;
+pub mod segment;
+
+pub use field::Field;
+pub use field::FieldAt;
+pub use field::read_field;
+pub use segment::Mode;

@@ -1,0 +1,31 @@
+use Rattle.coretypes.proofs.Ways.{type-answers}
+use Rattle.definition.specs.Records.{ownTableForm}
+use Rattle.expr.proofs.Ways.{plain-answers}
+use Rattle.laws.proofs.Ways.{ways}
+use Rattle.sources.proofs.Ways.{source-answers}
+use Rattle.token.proofs.Ways.{answers}
+use Rattle.typeuse.proofs.Ways.{use-answers}
+use borrow.Author.Needs.{needs}
+use Rattle.sources.proofs.source.own_table_form.Statement.{statement}
+use Rattle.sources.proofs.source.own_table_form.Tie as tie
+
+read-table-type-requires : tie.Need-read-table-type-requires
+read-table-type-requires c κs = search needs
+
+enum-known-t : tie.Need-enum-known-t
+enum-known-t c = search needs
+
+enum-known-e : tie.Need-enum-known-e
+enum-known-e c = search needs
+
+returns : tie.Need-returns
+unfolding ownTableForm
+returns c = search (ways, answers, type-answers, use-answers, plain-answers, source-answers) depth 12
+
+returns-2 : tie.Need-returns-2
+unfolding ownTableForm
+returns-2 c = search (ways, answers, type-answers, use-answers, plain-answers, source-answers) depth 12
+
+pub own-table-form-spec : {M : Type 1} → statement M
+own-table-form-spec =
+    tie.close (tie.spec read-table-type-requires enum-known-t enum-known-e returns returns-2)

@@ -1,0 +1,104 @@
+// The names of an import, and what is imported under them.
+use coretypes::GlobalType;
+use coretypes::GlobalTypeAt;
+use coretypes::Limits;
+use coretypes::LimitsAt;
+use coretypes::TableType;
+use coretypes::TableTypeAt;
+use token::Part;
+use token::PartAt;
+use typeuse::TypeUse;
+use typeuse::UseAt;
+ghost use mathlib.Core.Path.{_≡_};
+ghost use Rattle.definition.specs.Records as Records;
+ghost use Rattle.sources.specs.Views.{nameAt, externAt, externOf};
+
+// The two names of an import.
+pub struct ImportName {
+    pub module: Part,
+    pub item: Part,
+}
+
+pub enum NameAt {
+    Got(ImportName, usize),
+    Fault(u8),
+}
+
+pub fn read_import_name(s: &[u8], at: usize) -> NameAt
+    ensures { λ r. ⌜ Records.importName (now (s .entry)) at ≡ nameAt (now (s .entry)) r ⌝ }
+{
+    match token::read_string(s, at) {
+        PartAt::Got(module, a) => match token::read_string(s, a) {
+            PartAt::Got(item, b) => NameAt::Got(ImportName { module, item }, b),
+            PartAt::Fault(e) => NameAt::Fault(e),
+        },
+        PartAt::Fault(e) => NameAt::Fault(e),
+    }
+}
+
+// What may be imported: an item of one of four spaces.
+pub enum Kind {
+    Func,
+    Table,
+    Mem,
+    Global,
+}
+
+pub enum Extern {
+    Func(TypeUse),
+    Table(TableType),
+    Mem(Limits),
+    Global(GlobalType),
+}
+
+pub enum ExternAt {
+    Got(Extern, usize),
+    Fault(u8),
+}
+
+fn func_extern(s: &[u8], at: usize) -> ExternAt
+    ensures { λ r. ⌜ Records.funcExtern (now (s .entry)) at ≡ externAt (now (s .entry)) r ⌝ }
+{
+    match typeuse::read_type_use(s, at) {
+        UseAt::Got(t, next) => ExternAt::Got(Extern::Func(t), next),
+        UseAt::Fault(e) => ExternAt::Fault(e),
+    }
+}
+
+fn table_extern(s: &[u8], at: usize) -> ExternAt
+    ensures { λ r. ⌜ Records.tableExtern (now (s .entry)) at ≡ externAt (now (s .entry)) r ⌝ }
+{
+    match coretypes::read_table_type(s, at) {
+        TableTypeAt::Got(t, next) => ExternAt::Got(Extern::Table(t), next),
+        TableTypeAt::Fault(e) => ExternAt::Fault(e),
+    }
+}
+
+fn mem_extern(s: &[u8], at: usize) -> ExternAt
+    ensures { λ r. ⌜ Records.memExtern (now (s .entry)) at ≡ externAt (now (s .entry)) r ⌝ }
+{
+    match coretypes::read_limits(s, at) {
+        LimitsAt::Got(l, next) => ExternAt::Got(Extern::Mem(l), next),
+        LimitsAt::Fault(e) => ExternAt::Fault(e),
+    }
+}
+
+fn global_extern(s: &[u8], at: usize) -> ExternAt
+    ensures { λ r. ⌜ Records.globalExtern (now (s .entry)) at ≡ externAt (now (s .entry)) r ⌝ }
+{
+    match coretypes::read_global_type(s, at) {
+        GlobalTypeAt::Got(t, next) => ExternAt::Got(Extern::Global(t), next),
+        GlobalTypeAt::Fault(e) => ExternAt::Fault(e),
+    }
+}
+
+pub fn read_extern(s: &[u8], at: usize, kind: Kind) -> ExternAt
+    ensures { λ r. ⌜ externOf kind (now (s .entry)) at ≡ externAt (now (s .entry)) r ⌝ }
+{
+    match kind {
+        Kind::Func => func_extern(s, at),
+        Kind::Table => table_extern(s, at),
+        Kind::Mem => mem_extern(s, at),
+        Kind::Global => global_extern(s, at),
+    }
+}

@@ -1,0 +1,6 @@
+pub mod Model
+pub mod Counts
+pub mod Records
+pub mod Steps
+pub mod Loop
+pub mod Exported

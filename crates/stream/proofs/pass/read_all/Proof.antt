@@ -1,0 +1,22 @@
+use Rattle.stream.proofs.Loop.{too-long, too-short, walked}
+use borrow.Author.Needs.{needs}
+use Rattle.stream.proofs.pass.read_all.Statement.{statement}
+use Rattle.stream.proofs.pass.read_all.Tie as tie
+
+returns : tie.Need-returns
+returns c = search (too-long, too-short, walked) depth 6
+
+returns-2 : tie.Need-returns-2
+returns-2 c = search (too-long, too-short, walked) depth 6
+
+walk-requires : tie.Need-walk-requires
+walk-requires c κs = search needs
+
+same-length : tie.Need-same-length
+same-length c = search needs
+
+returns-3 : tie.Need-returns-3
+returns-3 c = search (too-long, too-short, walked) depth 6
+
+pub read-all-spec : {M : Type 1} → statement M
+read-all-spec = tie.close (tie.spec returns returns-2 walk-requires same-length returns-3)

@@ -1,0 +1,4 @@
+pub mod Pass
+pub mod Counting
+pub mod Answers
+pub mod Export

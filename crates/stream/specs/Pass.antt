@@ -1,0 +1,122 @@
+-- What the reading pass says and leaves.
+use Prim.Native.Nat.{ℕ, zero, suc, _+_, min}
+use mathlib.Core.Bool.{Bool}
+use mathlib.Core.List.{List, [], _∷_, _++_}
+use mathlib.Core.Option.{Option, none, some}
+use mathlib.Core.Path.{_≡_}
+use lib.Dec.{leb, ltb}
+use lib.ListN.{length, getD, take}
+use lib.Seq.{sets}
+use Rattle.definition.specs.Basic.{if_then_else_, Answer, ok, refused}
+use Rattle.definition.specs.Syntax.{Bytes, Identifier, Space, funcs, tables, mems, globals, types, elems, datas, Rec, field, instr, bodyEnd}
+use Rattle.definition.specs.Reader.{Step, got, fault}
+use Rattle.definition.specs.Records.{Room}
+use Rattle.definition.specs.Spaces.{count}
+use Rattle.definition.specs.Read.{Seen, nothingSeen, seenAfter, bodyAfter, recordIn, oneRecord, beginsIn, atEnd, withRecord, records, read}
+use Rattle.laws.specs.Steps.{total}
+use Rattle.stream.specs.declared.record.Place.{Place}
+use Rattle.stream.specs.declared.pass.Count.{Count}
+use Rattle.stream.specs.declared.pass.Count.the-variants as C
+
+-- ## The running place
+
+-- `depth` is 0 outside a body, and in one the number of open blocks and one more
+abbrev pub bodyOf : ℕ → Option ℕ
+bodyOf zero = none
+bodyOf (suc k) = some k
+
+abbrev pub depthOf : Option ℕ → ℕ
+depthOf none = 0
+depthOf (some k) = k + 1
+
+-- the place that a record has moved on
+unfoldable pub placeAfter : Place → Rec Identifier → ℕ → Place
+placeAfter p x next = record { at = next; rec = p .rec + 1; depth = depthOf (bodyAfter (bodyOf (p .depth)) x) }
+
+-- the record at a place, and the place after it; the 4,097th is refused
+unfoldable pub recordAt : Room → Place → Bytes → Answer (Rec Identifier × Place)
+recordAt free p s =
+    if leb 4096 (p .rec) then refused (if beginsIn (getD s (p .at) 0) (bodyOf (p .depth)) then 7 else 4) (p .rec) else
+    withRecord (p .rec) (λ x next. ok (x, placeAfter p x next)) (recordIn free (bodyOf (p .depth)) s (p .at))
+
+-- ## The pass, record by record
+
+-- where it stops: what it says, what has been seen, and for each body that has ended the place and the record after it
+pub record Passed : Type 0 where
+  pub says : Answer ℕ
+  pub seen : Seen
+  pub ends : List ℕ
+
+abbrev pub endOf : Rec Identifier → ℕ → ℕ → List ℕ
+endOf (field f) next r = []
+endOf (instr x) next r = []
+endOf bodyEnd next r = next ∷ r ∷ []
+
+abbrev pub onRecord : (Rec Identifier → ℕ → Passed) → (ℕ → Passed) → Step (Rec Identifier) → Passed
+onRecord f g (got x next) = f x next
+onRecord f g (fault n) = g n
+
+-- `left` records at most; `r` is the number of the next
+unfoldable pub pass : ℕ → ℕ → Seen → List ℕ → Bytes → ℕ → Passed
+pass zero r seen ends s here = record { says = total r (records zero r seen s here); seen = seen; ends = ends }
+pass (suc left) r seen ends s here =
+    if leb (length s) here then record { says = total r (atEnd r (seen .body)); seen = seen; ends = ends } else
+    onRecord (λ x next. pass left (r + 1) (seenAfter seen x) (ends ++ endOf x next (r + 1)) s next)
+    (λ n. record { says = refused n r; seen = seen; ends = ends }) (oneRecord seen s here)
+
+unfoldable pub passed : Bytes → Passed
+passed s = pass 4096 0 nothingSeen [] s 0
+
+-- ## The work area
+
+-- words 0 to 6: how many items each index space has, 256 at most
+abbrev pub capped : Seen → Space → ℕ
+capped seen k = min (count k (seen .items)) 256
+
+unfoldable pub countWords : Seen → List ℕ
+countWords seen =
+    capped seen funcs
+    ∷ capped seen tables
+    ∷ capped seen mems
+    ∷ capped seen globals
+    ∷ capped seen types
+    ∷ capped seen elems
+    ∷ capped seen datas
+    ∷ []
+
+-- from word 8 on, for each body of the first 256, the place and the record after it
+unfoldable pub endWords : List ℕ → List ℕ
+endWords ends = take 512 ends
+
+abbrev pub areaOf : Answer ℕ → List ℕ → List ℕ → List ℕ
+areaOf (ok n) counts w = sets w 0 counts
+areaOf (refused n r) counts w = w
+
+unfoldable pub areaAfter : Passed → List ℕ → List ℕ
+areaAfter p w = areaOf (p .says) (countWords (p .seen)) (sets w 8 (endWords (p .ends)))
+
+-- ## What the pass promises
+
+abbrev pub counted : Count → Answer ℕ
+counted (C.Records n) = ok n
+counted (C.Refused n r) = refused n r
+
+-- the stream's length, the work area's length, and then the records
+unfoldable pub reading : Bytes → ℕ → Answer ℕ
+reading s work =
+    if ltb 65536 (length s) then refused 1 0 else
+    if ltb work 16384 then refused 10 0 else
+    total 0 (read s)
+
+unfoldable pub readingArea : Bytes → List ℕ → List ℕ
+readingArea s w = if ltb 65536 (length s) then w else if ltb (length w) 16384 then w else areaAfter (passed s) w
+
+-- over a stream and a work area that are long enough and not too long
+pub record Walks (s : Bytes) (w : List ℕ) (r : Count) (w′ : List ℕ) : Type 0 where
+  pub says : total 0 (read s) ≡ counted r
+  pub leaves : w′ ≡ areaAfter (passed s) w
+
+-- on every input
+pub record Reads (s : Bytes) (w : List ℕ) (r : Count) (w′ : List ℕ) : Type 0 where
+  pub says : reading s (length w) ≡ counted r
+  pub leaves : w′ ≡ readingArea s w

@@ -1,0 +1,94 @@
+// The pass over all records.
+use crate::counting::with_field;
+use crate::record::Place;
+use crate::record::RecordAt;
+use crate::record::read_record;
+use sources::Seen;
+ghost use mathlib.Core.Path.{_≡_};
+ghost use Prim.Native.Nat.{ℕ, _+_, _*_, _≤_, _<_, _^_};
+ghost use lib.ListN.{length, set};
+ghost use lib.Seq.{sets};
+ghost use Rattle.stream.specs.Pass.{Reads, Walks};
+ghost use Rattle.stream.specs.Answers.{endPut};
+
+pub enum Count {
+    Records(u32),
+    Refused(u8, u32),
+}
+
+// Where a body ended: the place and the record after it.
+fn put_end(work: &mut [u32], n: u32, at: u32, rec: u32)
+    requires { ⌜ 16384 ≤ length (now work) ⌝ }
+    ensures { λ _. ⌜ now (work .exit) ≡ endPut (now (work .entry)) n at rec ⌝ }
+{
+    if n < 256 {
+        let i = 8 + 2 * (n as usize);
+        work[i] = at;
+        work[i + 1] = rec;
+    }
+}
+
+// The counts of items, from word 0 on.
+fn put_counts(work: &mut [u32], seen: Seen)
+    requires { ⌜ 16384 ≤ length (now work) ⌝ }
+    ensures { λ _. ⌜ now (work .exit) ≡ sets (now (work .entry)) 0 (seen .counts) ⌝ }
+{
+    let counts = seen.counts;
+    let mut i = 0;
+    while i < 7 {
+        work[i] = counts[i];
+        i += 1;
+    }
+}
+
+fn walk(s: &[u8], work: &mut [u32]) -> Count
+    requires { ⌜ (length (now s) ≤ 65536) × (16384 ≤ length (now work)) ⌝ }
+    ensures { λ r. ⌜ Walks (now (s .entry)) (now (work .entry)) r (now (work .exit)) ⌝ }
+{
+    let mut p = Place {
+        at: 0,
+        rec: 0,
+        depth: 0,
+    };
+    let mut seen = Seen::none();
+    let mut ended: u32 = 0;
+    loop {
+        if s.len() <= p.at {
+            if 0 < p.depth {
+                return Count::Refused(2, p.rec);
+            }
+            put_counts(work, seen);
+            return Count::Records(p.rec);
+        }
+        match read_record(s, p, seen) {
+            RecordAt::Field(f, q) => {
+                seen = with_field(seen, f);
+                p = q;
+            }
+            RecordAt::Instr(_, q) => {
+                p = q;
+            }
+            RecordAt::End(q) => {
+                put_end(work, ended, q.at as u32, q.rec);
+                ended += 1;
+                p = q;
+            }
+            RecordAt::Refused(n, r) => {
+                return Count::Refused(n, r);
+            }
+        }
+    }
+}
+
+// The whole stream to its count of records, or the first fault with its record.
+pub fn read_all(s: &[u8], work: &mut [u32]) -> Count
+    ensures { λ r. ⌜ Reads (now (s .entry)) (now (work .entry)) r (now (work .exit)) ⌝ }
+{
+    if 65536 < s.len() {
+        return Count::Refused(1, 0);
+    }
+    if work.len() < 16384 {
+        return Count::Refused(10, 0);
+    }
+    walk(s, work)
+}
