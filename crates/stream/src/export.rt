@@ -1,6 +1,6 @@
 // The reading pass for callers in Rust or C.
-use crate::pass::{Count, read_all};
-
+use crate::pass::Count;
+use crate::pass::read_all;
 ghost use mathlib.Core.Path.{_≡_};
 ghost use Prim.Native.Nat.{ℕ, _≤_};
 ghost use lib.ListN.{length};

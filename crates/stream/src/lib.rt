@@ -3,5 +3,9 @@ pub mod counting;
 pub mod export;
 pub mod pass;
 pub mod record;
-pub use pass::{Count, read_all};
-pub use record::{Place, RecordAt, read_record};
+
+pub use pass::Count;
+pub use pass::read_all;
+pub use record::Place;
+pub use record::RecordAt;
+pub use record::read_record;
