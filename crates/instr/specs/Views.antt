@@ -1,7 +1,7 @@
 -- What the answers of the readers mean.
 use Prim.Native.Nat.{ℕ}
 use mathlib.Core.Option.{Option, none, some}
-use lib.Dec.{eqb}
+use lib.Dec.{eqb, ltb}
 use Rattle.definition.specs.Basic.{if_then_else_}
 use Rattle.definition.specs.Syntax as Syntax
 use Rattle.definition.specs.Syntax.{Bytes, Identifier}
@@ -28,26 +28,41 @@ formIs F.Ending = some ending
 formIs F.Calling = some calling
 formIs (F.Operands w) = some (operands (operandsIs w))
 
--- the form that a letter of the table stands for
-unfoldable pub formNo : ℕ → Option Instructions.Form
-formNo n =
-    if eqb n 0x62 then some opening else
-    if eqb n 0x65 then some elsing else
-    if eqb n 0x6E then some ending else
-    if eqb n 0x63 then some calling else
-    if eqb n 0x2E then some (operands Instructions.bare) else
-    if eqb n 0x6C then some (operands Instructions.labelidx) else
-    if eqb n 0x4C then some (operands Instructions.labelidxs) else
-    if eqb n 0x76 then some (operands Instructions.localidx) else
-    if eqb n 0x66 then some (operands Instructions.funcidx) else
-    if eqb n 0x67 then some (operands Instructions.globalidx) else
-    if eqb n 0x6D then some (operands Instructions.memidx) else
-    if eqb n 0x61 then some (operands Instructions.memarg) else
-    if eqb n 0x69 then some (operands Instructions.i32) else
-    if eqb n 0x49 then some (operands Instructions.i64) else
-    if eqb n 0x72 then some (operands Instructions.f32) else
-    if eqb n 0x52 then some (operands Instructions.f64) else
-    if eqb n 0x68 then some (operands Instructions.heaptype) else
+-- the definition's ranges of opcodes as the code tests them, in three parts
+unfoldable pub lowForm : ℕ → Option Instructions.Form
+lowForm b =
+    if ltb b 0x02 then some (operands Instructions.bare) else
+    if ltb b 0x05 then some opening else
+    if eqb b 0x05 then some elsing else
+    if ltb b 0x0B then none else
+    if eqb b 0x0B then some ending else
+    if ltb b 0x0E then some (operands Instructions.labelidx) else
+    if eqb b 0x0E then some (operands Instructions.labelidxs) else
+    if eqb b 0x0F then some (operands Instructions.bare) else
+    if eqb b 0x10 then some (operands Instructions.funcidx) else
+    if eqb b 0x11 then some calling else
+    if ltb b 0x1A then none else
+    if ltb b 0x1C then some (operands Instructions.bare) else
+    none
+
+unfoldable pub middleForm : ℕ → Option Instructions.Form
+middleForm b =
+    if ltb b 0x23 then some (operands Instructions.localidx) else
+    if ltb b 0x25 then some (operands Instructions.globalidx) else
+    if ltb b 0x28 then none else
+    if ltb b 0x3F then some (operands Instructions.memarg) else
+    if ltb b 0x41 then some (operands Instructions.memidx) else
+    if eqb b 0x41 then some (operands Instructions.i32) else
+    if eqb b 0x42 then some (operands Instructions.i64) else
+    if eqb b 0x43 then some (operands Instructions.f32) else
+    some (operands Instructions.f64)
+
+unfoldable pub highForm : ℕ → Option Instructions.Form
+highForm b =
+    if ltb b 0xC5 then some (operands Instructions.bare) else
+    if eqb b 0xD0 then some (operands Instructions.heaptype) else
+    if eqb b 0xD1 then some (operands Instructions.bare) else
+    if eqb b 0xD2 then some (operands Instructions.funcidx) else
     none
 
 abbrev pub instrIs : Bytes → Instr → Syntax.Instr Identifier

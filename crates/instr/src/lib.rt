@@ -11,7 +11,7 @@ use typeuse::TypeUse;
 use typeuse::UseAt;
 ghost use mathlib.Core.Path.{_≡_};
 ghost use Rattle.definition.specs.Instructions as Instructions;
-ghost use Rattle.instr.specs.Views.{formIs, formNo, instrAt, bodyAt};
+ghost use Rattle.instr.specs.Views.{formIs, lowForm, middleForm, highForm, instrAt, bodyAt};
 
 // What stands after an opcode.
 pub enum Form {
@@ -23,47 +23,109 @@ pub enum Form {
     Operands(Operands),
 }
 
-// By opcode: b for block, loop and if, e else, n end, c call_indirect; a dot where nothing follows; l a label, L labels, v a local,
-// f a function, g a global, m a memory, a an access, i and I integers, r and R floats, h a heap type; - where there is no opcode.
-const FORM: [u8; 256] = *b"\
-    ..bbbe-----nllL.fc--------..----\
-    vvvgg---aaaaaaaaaaaaaaaaaaaaaaam\
-    miIrR...........................\
-    ................................\
-    ................................\
-    ................................\
-    .....-----------h.f-------------\
-    --------------------------------";
-
-fn form_of(n: u8) -> Form
-    ensures { λ r. ⌜ formIs r ≡ formNo n ⌝ }
+// Opcodes below 20: control, and drop and select.
+fn low_form(b: u8) -> Form
+    ensures { λ r. ⌜ formIs r ≡ lowForm b ⌝ }
 {
-    match n {
-        b'b' => Form::Opening,
-        b'e' => Form::Elsing,
-        b'n' => Form::Ending,
-        b'c' => Form::Calling,
-        b'.' => Form::Operands(Operands::Bare),
-        b'l' => Form::Operands(Operands::LabelIdx),
-        b'L' => Form::Operands(Operands::LabelIdxs),
-        b'v' => Form::Operands(Operands::LocalIdx),
-        b'f' => Form::Operands(Operands::FuncIdx),
-        b'g' => Form::Operands(Operands::GlobalIdx),
-        b'm' => Form::Operands(Operands::MemIdx),
-        b'a' => Form::Operands(Operands::MemArg),
-        b'i' => Form::Operands(Operands::I32),
-        b'I' => Form::Operands(Operands::I64),
-        b'r' => Form::Operands(Operands::F32),
-        b'R' => Form::Operands(Operands::F64),
-        b'h' => Form::Operands(Operands::HeapType),
-        _ => Form::NoOpcode,
+    if b < 0x02 {
+        return Form::Operands(Operands::Bare);
     }
+    if b < 0x05 {
+        return Form::Opening;
+    }
+    if b == 0x05 {
+        return Form::Elsing;
+    }
+    if b < 0x0B {
+        return Form::NoOpcode;
+    }
+    if b == 0x0B {
+        return Form::Ending;
+    }
+    if b < 0x0E {
+        return Form::Operands(Operands::LabelIdx);
+    }
+    if b == 0x0E {
+        return Form::Operands(Operands::LabelIdxs);
+    }
+    if b == 0x0F {
+        return Form::Operands(Operands::Bare);
+    }
+    if b == 0x10 {
+        return Form::Operands(Operands::FuncIdx);
+    }
+    if b == 0x11 {
+        return Form::Calling;
+    }
+    if b < 0x1A {
+        return Form::NoOpcode;
+    }
+    if b < 0x1C {
+        return Form::Operands(Operands::Bare);
+    }
+    Form::NoOpcode
+}
+
+// Variables, memory and constants: 20 to 44.
+fn middle_form(b: u8) -> Form
+    ensures { λ r. ⌜ formIs r ≡ middleForm b ⌝ }
+{
+    if b < 0x23 {
+        return Form::Operands(Operands::LocalIdx);
+    }
+    if b < 0x25 {
+        return Form::Operands(Operands::GlobalIdx);
+    }
+    if b < 0x28 {
+        return Form::NoOpcode;
+    }
+    if b < 0x3F {
+        return Form::Operands(Operands::MemArg);
+    }
+    if b < 0x41 {
+        return Form::Operands(Operands::MemIdx);
+    }
+    if b == 0x41 {
+        return Form::Operands(Operands::I32);
+    }
+    if b == 0x42 {
+        return Form::Operands(Operands::I64);
+    }
+    if b == 0x43 {
+        return Form::Operands(Operands::F32);
+    }
+    Form::Operands(Operands::F64)
+}
+
+// From 45 on: numeric instructions, then references.
+fn high_form(b: u8) -> Form
+    ensures { λ r. ⌜ formIs r ≡ highForm b ⌝ }
+{
+    if b < 0xC5 {
+        return Form::Operands(Operands::Bare);
+    }
+    if b == 0xD0 {
+        return Form::Operands(Operands::HeapType);
+    }
+    if b == 0xD1 {
+        return Form::Operands(Operands::Bare);
+    }
+    if b == 0xD2 {
+        return Form::Operands(Operands::FuncIdx);
+    }
+    Form::NoOpcode
 }
 
 pub fn opcode_form(opcode: u8) -> Form
     ensures { λ r. ⌜ Instructions.formOf opcode ≡ formIs r ⌝ }
 {
-    form_of(FORM[opcode as usize])
+    if opcode < 0x20 {
+        return low_form(opcode);
+    }
+    if opcode < 0x45 {
+        return middle_form(opcode);
+    }
+    high_form(opcode)
 }
 
 pub enum Instr {

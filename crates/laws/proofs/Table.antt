@@ -1,12 +1,12 @@
 -- A rule of a table, proved at all of its entries by one test that is computed over the whole table.
-use mathlib.Core.Path.{_≡_, refl, _∙_, subst, sym}
+use mathlib.Core.Path.{_≡_, refl, _∙_, subst, subst⁻¹, sym}
 use mathlib.Core.Bool.{Bool, true, false}
 use mathlib.Core.List.{List, [], _∷_}
 use Prim.Native.Nat.{ℕ, zero, suc, _+_, _<_}
 use native.Mathlib.Nat.{add-zero, zero-add, add-suc, suc-add, le-of-suc-le-suc, not-suc-le-zero}
 use lib.Dec.{T, eqb}
 use borrow.Author.Tests.{eqb-true}
-use lib.ListN.{length, getD}
+use lib.ListN.{length, getD, replicate, length-replicate}
 
 abbrev pub both : Bool → Bool → Bool
 both true b = b
@@ -39,22 +39,6 @@ T-true : (b : Bool) → T b → b ≡ true
 T-true true t = refl
 T-true false t = absurd t
 
-abbrev pub sameBool : Bool → Bool → Bool
-sameBool true b = b
-sameBool false true = false
-sameBool false false = true
-
-same-bool : (a b : Bool) → T (sameBool a b) → a ≡ b
-same-bool true true t = refl
-same-bool true false t = absurd t
-same-bool false true t = absurd t
-same-bool false false t = refl
-
--- a table of numbers holds what a function says
-pub table-is : (f : ℕ → ℕ) (xs : List ℕ) → T (every (λ k x. eqb x (f k)) 0 xs) → (k : ℕ) → k < length xs → getD xs k 0 ≡ f k
-table-is f xs t k h = eqb-true _ _ (T-true _ (at (λ k x. eqb x (f k)) xs t k h))
-
--- a table has a mark where a test passes, and something else where it does not
-pub table-says : (f : ℕ → Bool) (mark : ℕ) (xs : List ℕ) → T (every (λ k x. sameBool (eqb x mark) (f k)) 0 xs)
-    → (k : ℕ) → k < length xs → eqb (getD xs k 0) mark ≡ f k
-table-says f mark xs t k h = same-bool _ _ (at (λ k x. sameBool (eqb x mark) (f k)) xs t k h)
+-- a test that passes at every number below a bound, by computing it there
+pub everywhere : (f : ℕ → Bool) (n : ℕ) → T (every (λ k x. f k) 0 (replicate n 0)) → (k : ℕ) → k < n → f k ≡ true
+everywhere f n t k h = T-true _ (at (λ k x. f k) (replicate n 0) t k (subst⁻¹ (λ (m : ℕ). k < m) (length-replicate n 0) h))

@@ -1,3 +1,4 @@
 pub mod Ways
 pub mod Runs
 pub mod Parts
+pub mod Idchars

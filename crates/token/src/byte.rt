@@ -26,21 +26,28 @@ pub fn read_byte(s: &[u8], at: usize) -> ByteAt
     }
 }
 
-// By byte: x for the standard's idchar.
-const IDCHAR: [u8; 256] = *b"\
-    ................................\
-    .x.xxxxx..xx.xxxxxxxxxxxxxx.xxxx\
-    xxxxxxxxxxxxxxxxxxxxxxxxxxx.x.xx\
-    xxxxxxxxxxxxxxxxxxxxxxxxxxx.x.x.\
-    ................................\
-    ................................\
-    ................................\
-    ................................";
-
+// The standard's idchar: printable, and none of " ( ) , ; [ ] { } and the space.
 pub fn is_idchar(b: u8) -> bool
     ensures { λ r. ⌜ r ≡ Token.idchar b ⌝ }
 {
-    IDCHAR[b as usize] == b'x'
+    if b <= 0x20 {
+        return false;
+    }
+    if 0x7E < b {
+        return false;
+    }
+    match b {
+        b'"' => false,
+        b'(' => false,
+        b')' => false,
+        b',' => false,
+        b';' => false,
+        b'[' => false,
+        b']' => false,
+        b'{' => false,
+        b'}' => false,
+        _ => true,
+    }
 }
 
 // So many bytes of an identifier.

@@ -1,19 +1,33 @@
-use Rattle.definition.specs.Basic.{between}
-use Rattle.definition.specs.Instructions.{formOf, formIn, opcodes}
-use Rattle.instr.proofs.Forms.{rightForms, forms-right}
+use Rattle.instr.proofs.Forms.{low-is, middle-is, high-is}
 use borrow.Author.Needs.{needs}
 use Rattle.instr.proofs.opcode_form.Statement.{statement}
 use Rattle.instr.proofs.opcode_form.Tie as tie
 
-array-read-form-of : tie.Need-array-read-form-of
-array-read-form-of c = search needs
-
-form-of-requires : tie.Need-form-of-requires
-form-of-requires c κs = search needs
+low-form-requires : tie.Need-low-form-requires
+low-form-requires c κs = search needs
 
 returns : tie.Need-returns
-unfolding rightForms formOf formIn opcodes between
-returns c = search (forms-right, needs) depth 12
+returns c = search (low-is, middle-is, high-is, needs) depth 6
+
+middle-form-requires : tie.Need-middle-form-requires
+middle-form-requires c κs = search needs
+
+returns-2 : tie.Need-returns-2
+returns-2 c = search (low-is, middle-is, high-is, needs) depth 6
+
+high-form-requires : tie.Need-high-form-requires
+high-form-requires c κs = search needs
+
+returns-3 : tie.Need-returns-3
+returns-3 c = search (low-is, middle-is, high-is, needs) depth 6
 
 pub opcode-form-spec : {M : Type 1} → statement M
-opcode-form-spec = tie.close (tie.spec array-read-form-of form-of-requires returns)
+opcode-form-spec =
+    tie.close
+    (tie.spec
+    low-form-requires
+    returns
+    middle-form-requires
+    returns-2
+    high-form-requires
+    returns-3)
