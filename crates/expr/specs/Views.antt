@@ -13,6 +13,10 @@ use Rattle.expr.specs.declared.Operand.the-variants as O
 use Rattle.expr.specs.declared.Plain.{Plain}
 use Rattle.expr.specs.declared.PlainAt.{PlainAt}
 use Rattle.expr.specs.declared.PlainAt.the-variants as PA
+use Rattle.token.specs.declared.index.Index.{Index}
+use Rattle.token.specs.declared.index.Space.the-variants as K
+use Rattle.expr.specs.declared.Refers.{Refers}
+use Rattle.expr.specs.declared.Refers.the-variants as R
 use Rattle.expr.specs.declared.Operands.{Operands}
 use Rattle.expr.specs.declared.Operands.the-variants as W
 
@@ -49,6 +53,23 @@ operandsIs W.I64 = Instructions.i64
 operandsIs W.F32 = Instructions.f32
 operandsIs W.F64 = Instructions.f64
 operandsIs W.HeapType = Instructions.heaptype
+
+-- what an index refers to, among the code's values and among the definition's
+abbrev pub operandTo : Refers → Index → Operand
+operandTo R.Label x = O.Label x
+operandTo R.Local x = O.Local x
+operandTo R.Func x = O.Item K.Funcs x
+operandTo R.Global x = O.Item K.Globals x
+
+abbrev pub refer : Refers → Syntax.Index Identifier → Syntax.Operand Identifier
+refer R.Label x = label x
+refer R.Local x = local x
+refer R.Func x = item Syntax.funcs x
+refer R.Global x = item Syntax.globals x
+
+-- an index that must be present
+unfoldable pub indexed : ℕ → Refers → Reader (Syntax.Plain Identifier)
+indexed op to = Token.present >>= λ x. Instructions.done op (refer to x)
 
 -- so many raw bytes
 unfoldable pub rawOf : ℕ → ℕ → Reader (Syntax.Plain Identifier)

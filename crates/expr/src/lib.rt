@@ -11,10 +11,9 @@ use typeuse::Elem;
 use typeuse::List;
 use typeuse::ListAt;
 ghost use mathlib.Core.Path.{_≡_};
-ghost use mathlib.Core.List.{List, [], _∷_};
 ghost use Rattle.definition.specs.Instructions as Instructions;
 ghost use Rattle.token.specs.Views.{byteAt};
-ghost use Rattle.expr.specs.Views.{operandsIs, plainAt, rawOf};
+ghost use Rattle.expr.specs.Views.{operandTo, operandsIs, plainAt, indexed, rawOf};
 
 pub enum Operand {
     Nothing,
@@ -40,17 +39,34 @@ pub enum PlainAt {
     Fault(u8),
 }
 
-fn label_plain(s: &[u8], at: usize, opcode: u8) -> PlainAt
-    ensures { λ r. ⌜ Instructions.plainOf opcode Instructions.labelidx (now (s .entry)) at ≡ plainAt (now (s .entry)) r ⌝ }
+// What an index refers to.
+pub enum Refers {
+    Label,
+    Local,
+    Func,
+    Global,
+}
+
+fn operand_to(to: Refers, x: Index) -> Operand
+    ensures { λ r. ⌜ r ≡ operandTo to x ⌝ }
+{
+    match to {
+        Refers::Label => Operand::Label(x),
+        Refers::Local => Operand::Local(x),
+        Refers::Func => Operand::Item(Space::Funcs, x),
+        Refers::Global => Operand::Item(Space::Globals, x),
+    }
+}
+
+// An instruction whose operand is an index that must be present.
+fn index_plain(s: &[u8], at: usize, opcode: u8, to: Refers) -> PlainAt
+    ensures { λ r. ⌜ indexed opcode to (now (s .entry)) at ≡ plainAt (now (s .entry)) r ⌝ }
 {
     match token::read_present(s, at) {
-        IndexAt::Got(x, next) => PlainAt::Got(
-            Plain {
-                opcode,
-                operand: Operand::Label(x),
-            },
-            next,
-        ),
+        IndexAt::Got(x, next) => {
+            let operand = operand_to(to, x);
+            PlainAt::Got(Plain { opcode, operand }, next)
+        }
         IndexAt::Fault(e) => PlainAt::Fault(e),
     }
 }
@@ -70,51 +86,6 @@ fn labels_plain(s: &[u8], at: usize, opcode: u8) -> PlainAt
             IndexAt::Fault(e) => PlainAt::Fault(e),
         },
         ListAt::Fault(e) => PlainAt::Fault(e),
-    }
-}
-
-fn local_plain(s: &[u8], at: usize, opcode: u8) -> PlainAt
-    ensures { λ r. ⌜ Instructions.plainOf opcode Instructions.localidx (now (s .entry)) at ≡ plainAt (now (s .entry)) r ⌝ }
-{
-    match token::read_present(s, at) {
-        IndexAt::Got(x, next) => PlainAt::Got(
-            Plain {
-                opcode,
-                operand: Operand::Local(x),
-            },
-            next,
-        ),
-        IndexAt::Fault(e) => PlainAt::Fault(e),
-    }
-}
-
-fn func_plain(s: &[u8], at: usize, opcode: u8) -> PlainAt
-    ensures { λ r. ⌜ Instructions.plainOf opcode Instructions.funcidx (now (s .entry)) at ≡ plainAt (now (s .entry)) r ⌝ }
-{
-    match token::read_present(s, at) {
-        IndexAt::Got(x, next) => PlainAt::Got(
-            Plain {
-                opcode,
-                operand: Operand::Item(Space::Funcs, x),
-            },
-            next,
-        ),
-        IndexAt::Fault(e) => PlainAt::Fault(e),
-    }
-}
-
-fn global_plain(s: &[u8], at: usize, opcode: u8) -> PlainAt
-    ensures { λ r. ⌜ Instructions.plainOf opcode Instructions.globalidx (now (s .entry)) at ≡ plainAt (now (s .entry)) r ⌝ }
-{
-    match token::read_present(s, at) {
-        IndexAt::Got(x, next) => PlainAt::Got(
-            Plain {
-                opcode,
-                operand: Operand::Item(Space::Globals, x),
-            },
-            next,
-        ),
-        IndexAt::Fault(e) => PlainAt::Fault(e),
     }
 }
 
@@ -287,11 +258,11 @@ pub fn read_plain(s: &[u8], at: usize, opcode: u8, what: Operands) -> PlainAt
             },
             at,
         ),
-        Operands::LabelIdx => label_plain(s, at, opcode),
+        Operands::LabelIdx => index_plain(s, at, opcode, Refers::Label),
         Operands::LabelIdxs => labels_plain(s, at, opcode),
-        Operands::LocalIdx => local_plain(s, at, opcode),
-        Operands::FuncIdx => func_plain(s, at, opcode),
-        Operands::GlobalIdx => global_plain(s, at, opcode),
+        Operands::LocalIdx => index_plain(s, at, opcode, Refers::Local),
+        Operands::FuncIdx => index_plain(s, at, opcode, Refers::Func),
+        Operands::GlobalIdx => index_plain(s, at, opcode, Refers::Global),
         Operands::MemIdx => mem_plain(s, at, opcode),
         Operands::MemArg => access_plain(s, at, opcode),
         Operands::I32 => i32_plain(s, at, opcode),
@@ -321,13 +292,13 @@ pub fn read_const(s: &[u8], at: usize) -> PlainAt
                 return raw_plain(s, next, 0x44, 8);
             }
             if b == 4 {
-                return global_plain(s, next, 0x23);
+                return index_plain(s, next, 0x23, Refers::Global);
             }
             if b == 5 {
                 return heap_plain(s, next, 0xD0);
             }
             if b == 6 {
-                return func_plain(s, next, 0xD2);
+                return index_plain(s, next, 0xD2, Refers::Func);
             }
             PlainAt::Fault(4)
         }

@@ -1,6 +1,7 @@
 use Rattle.definition.specs.Instructions.{plainOf}
-use Rattle.expr.proofs.Ways.{matched, four-raw, eight-raw}
+use Rattle.expr.proofs.Ways.{index-forms, matched, four-raw, eight-raw}
 use borrow.Author.Needs.{needs}
+use mathlib.Core.Path.{refl}
 use Rattle.expr.proofs.read_plain.Statement.{statement}
 use Rattle.expr.proofs.read_plain.Tie as tie
 
@@ -10,8 +11,8 @@ enum-told c = search needs
 enum-told-2 : tie.Need-enum-told-2
 enum-told-2 c = search needs
 
-label-plain-requires : tie.Need-label-plain-requires
-label-plain-requires c κs = search needs
+index-plain-requires : tie.Need-index-plain-requires
+index-plain-requires c κs = search needs
 
 enum-told-3 : tie.Need-enum-told-3
 enum-told-3 c = search needs
@@ -22,20 +23,20 @@ labels-plain-requires c κs = search needs
 enum-told-4 : tie.Need-enum-told-4
 enum-told-4 c = search needs
 
-local-plain-requires : tie.Need-local-plain-requires
-local-plain-requires c κs = search needs
+index-plain-requires-2 : tie.Need-index-plain-requires-2
+index-plain-requires-2 c κs = search needs
 
 enum-told-5 : tie.Need-enum-told-5
 enum-told-5 c = search needs
 
-func-plain-requires : tie.Need-func-plain-requires
-func-plain-requires c κs = search needs
+index-plain-requires-3 : tie.Need-index-plain-requires-3
+index-plain-requires-3 c κs = search needs
 
 enum-told-6 : tie.Need-enum-told-6
 enum-told-6 c = search needs
 
-global-plain-requires : tie.Need-global-plain-requires
-global-plain-requires c κs = search needs
+index-plain-requires-4 : tie.Need-index-plain-requires-4
+index-plain-requires-4 c κs = search needs
 
 enum-told-7 : tie.Need-enum-told-7
 enum-told-7 c = search needs
@@ -84,40 +85,40 @@ unfolding plainOf
 returns c = search (matched, refl) depth 6
 
 returns-2 : tie.Need-returns-2
-returns-2 c = search (matched, four-raw, eight-raw, refl) depth 6
+returns-2 c = search (matched, four-raw, eight-raw, index-forms, refl) depth 6
 
 returns-3 : tie.Need-returns-3
-returns-3 c = search (matched, four-raw, eight-raw, refl) depth 6
+returns-3 c = search (matched, four-raw, eight-raw, index-forms, refl) depth 6
 
 returns-4 : tie.Need-returns-4
-returns-4 c = search (matched, four-raw, eight-raw, refl) depth 6
+returns-4 c = search (matched, four-raw, eight-raw, index-forms, refl) depth 6
 
 returns-5 : tie.Need-returns-5
-returns-5 c = search (matched, four-raw, eight-raw, refl) depth 6
+returns-5 c = search (matched, four-raw, eight-raw, index-forms, refl) depth 6
 
 returns-6 : tie.Need-returns-6
-returns-6 c = search (matched, four-raw, eight-raw, refl) depth 6
+returns-6 c = search (matched, four-raw, eight-raw, index-forms, refl) depth 6
 
 returns-7 : tie.Need-returns-7
-returns-7 c = search (matched, four-raw, eight-raw, refl) depth 6
+returns-7 c = search (matched, four-raw, eight-raw, index-forms, refl) depth 6
 
 returns-8 : tie.Need-returns-8
-returns-8 c = search (matched, four-raw, eight-raw, refl) depth 6
+returns-8 c = search (matched, four-raw, eight-raw, index-forms, refl) depth 6
 
 returns-9 : tie.Need-returns-9
-returns-9 c = search (matched, four-raw, eight-raw, refl) depth 6
+returns-9 c = search (matched, four-raw, eight-raw, index-forms, refl) depth 6
 
 returns-10 : tie.Need-returns-10
-returns-10 c = search (matched, four-raw, eight-raw, refl) depth 6
+returns-10 c = search (matched, four-raw, eight-raw, index-forms, refl) depth 6
 
 returns-11 : tie.Need-returns-11
-returns-11 c = search (matched, four-raw, eight-raw, refl) depth 6
+returns-11 c = search (matched, four-raw, eight-raw, index-forms, refl) depth 6
 
 returns-12 : tie.Need-returns-12
-returns-12 c = search (matched, four-raw, eight-raw, refl) depth 6
+returns-12 c = search (matched, four-raw, eight-raw, index-forms, refl) depth 6
 
 returns-13 : tie.Need-returns-13
-returns-13 c = search (matched, four-raw, eight-raw, refl) depth 6
+returns-13 c = search (matched, four-raw, eight-raw, index-forms, refl) depth 6
 
 pub read-plain-spec : {M : Type 1} → statement M
 read-plain-spec =
@@ -125,15 +126,15 @@ read-plain-spec =
     (tie.spec
     enum-told
     enum-told-2
-    label-plain-requires
+    index-plain-requires
     enum-told-3
     labels-plain-requires
     enum-told-4
-    local-plain-requires
+    index-plain-requires-2
     enum-told-5
-    func-plain-requires
+    index-plain-requires-3
     enum-told-6
-    global-plain-requires
+    index-plain-requires-4
     enum-told-7
     mem-plain-requires
     enum-told-8
