@@ -1,0 +1,344 @@
+-- Plain mathematics of the loops over the work area.
+use Prim.Native.Nat.{ℕ, zero, suc, _+_, _-_, _*_, _≤_, _<_}
+use mathlib.Core.Path.{_≡_, refl, sym, _∙_, ap}
+use mathlib.Core.Bool.{Bool, true, false, _&&_}
+use mathlib.Core.List.{List, [], _∷_, _++_, append-nil}
+use mathlib.Core.Option.{Option, none, some}
+use lib.ListN.{length, getD, set, take, drop, replicate, length-take, length-drop, length-set, drop-of-length-le}
+use lib.Seq.{drop-cons, drop-length}
+use lib.Dec.{eqb, ltb}
+use borrow.Author.Tests.{eq-eqb, ne-eqb, lt-ltb, le-ltb, ltb-false}
+use borrow.Author.Fill.{fill-more}
+use mir.Syntax.{w32}
+use mir.Val.{Fits}
+use native.Mathlib.Omega.{arith}
+use native.Mathlib.Numerals.{add-one}
+use Rattle.definition.specs.Basic.{if_then_else_, same, sameBytes, firstAt, later, ok, refused}
+use Rattle.definition.specs.Syntax.{Identifier}
+use Rattle.definition.specs.Names.{carries, find, numberIn, Namespace}
+use Rattle.laws.proofs.Exits.{if-either}
+use Rattle.token.specs.Views.{part, partOf, indexOf}
+use Rattle.token.specs.declared.text.Part.{Part}
+use Rattle.token.specs.declared.index.Index.{Index}
+use Rattle.token.specs.declared.index.Index.the-variants as X
+use Rattle.space.specs.Area.{nameIn, entry, names, labels, found}
+use Rattle.space.specs.declared.table.Found.{Found}
+use Rattle.space.specs.declared.table.Found.the-variants as F
+
+-- ## Equal bytes
+
+-- lists of different lengths differ
+pub differ : (xs ys : List ℕ) → (length xs ≡ length ys → ⊥) → false ≡ sameBytes xs ys
+unfolding sameBytes same
+differ [] [] h = absurd (h refl)
+differ [] (y ∷ ys) h = refl
+differ (x ∷ xs) [] h = refl
+differ (x ∷ xs) (y ∷ ys) h = go (eqb x y) (differ xs ys (λ e. h (ap suc e)))
+  where
+    go : (t : Bool) → false ≡ sameBytes xs ys → false ≡ (t && sameBytes xs ys)
+    go true e = e
+    go false e = refl
+
+-- what is left from `i` on decides
+pub record Same (a b : List ℕ) (i : ℕ) : Type 0 where
+  pub agree : sameBytes (drop i a) (drop i b) ≡ sameBytes a b
+
+-- at the start that is all
+pub same-begin : (a b : List ℕ) → Same a b 0
+same-begin a b = record { agree = refl }
+
+-- one byte, and the rest
+step : (a b : List ℕ) (i : ℕ) → i < length a → i < length b →
+    sameBytes (drop i a) (drop i b) ≡ (eqb (getD a i 0) (getD b i 0) && sameBytes (drop (suc i) a) (drop (suc i) b))
+unfolding sameBytes same
+step a b i p q = rw (drop-cons a i 0 p, drop-cons b i 0 q)
+
+module _ {a b : List ℕ} {i : ℕ} (v : Same a b i) (e : length a ≡ length b) where
+  -- a byte that differs
+  pub same-differ : i < length a → (getD a i 0 ≡ getD b i 0 → ⊥) → false ≡ sameBytes a b
+  same-differ h d = sym (sym (v .agree) ∙ step a b i h (omega arith) ∙ rw (ne-eqb _ _ d))
+
+  -- a byte that agrees
+  pub same-again : i < length a → getD a i 0 ≡ getD b i 0 → Same a b (i + 1)
+  same-again h d = record { agree = rw add-one (sym (step a b i h (omega arith) ∙ rw (eq-eqb _ _ d)) ∙ v .agree) }
+
+  -- no byte is left
+  pub same-done : length a ≤ i → true ≡ sameBytes a b
+  unfolding sameBytes same
+  same-done h =
+      let q : length b ≤ i = omega arith in
+      rw (drop-of-length-le a h, drop-of-length-le b q) at (v .agree)
+
+-- ## One entry
+
+module _ (s w name : List ℕ) (at len : ℕ) (l : len ≡ getD w (at + 1) 0) where
+  -- the length differs: whatever else the entry says, it does not carry the name
+  pub carries-long : (len ≡ length name → ⊥) → false ≡ carries sameBytes name (entry s w at)
+  unfolding entry nameIn part
+  carries-long d = rw (sym l) (if-either (λ o. false ≡ carries sameBytes name o) (eqb len 0) (λ _. refl)
+      (λ _. if-either (λ o. false ≡ carries sameBytes name o) (ltb (length s) (getD w at 0 + len)) (λ _. refl)
+      (λ u. differ name (take len (drop (getD w at 0) s)) (λ e. d (
+      let h : getD w at 0 + len ≤ length s = ltb-false _ _ u in
+      let m : length (take len (drop (getD w at 0) s)) ≡ len = simp (length-take, length-drop) (omega arith) in
+      sym (e ∙ m))))))
+
+  -- an entry of length 0 is no identifier
+  pub carries-none : len ≡ 0 → false ≡ carries sameBytes name (entry s w at)
+  unfolding entry nameIn
+  carries-none e = rw (sym l) (sym (rw (eq-eqb _ _ e)))
+
+  module _ (h : len ≡ 0 → ⊥) where
+    -- an entry that passes the stream's end
+    past : length s < getD w at 0 + len → false ≡ carries sameBytes name (entry s w at)
+    unfolding entry nameIn
+    past g = rw (sym l) (sym (rw (ne-eqb _ _ h, lt-ltb _ _ g)))
+
+    -- it is longer than the stream
+    pub carries-big : length s < len → false ≡ carries sameBytes name (entry s w at)
+    carries-big g = past (omega arith)
+
+    module _ (off : ℕ) (o : off ≡ getD w at 0) (g : len ≤ length s) where
+      -- it starts too late in it
+      pub carries-out : length s - len < off → false ≡ carries sameBytes name (entry s w at)
+      carries-out u = past (omega arith)
+
+      -- an entry in the stream: its bytes decide
+      pub carries-same : (r : Bool) → r ≡ sameBytes name (take (off + len - off) (drop off s)) → off ≤ length s - len → r ≡ carries sameBytes name (entry s w at)
+      unfolding entry nameIn part
+      carries-same r e u =
+          let m : off + len - off ≡ len = omega arith in
+          let v : off + len ≤ length s = omega arith in
+          (rw m at e) ∙ sym (rw (sym l, sym o) (rw (ne-eqb _ _ h, le-ltb _ _ v)))
+
+-- ## Looking along a list
+
+-- k places on
+unfoldable pub shifted : ℕ → Option ℕ → Option ℕ
+shifted k none = none
+shifted k (some n) = some (k + n)
+
+-- k elements were passed, and the rest decides
+pub record Looking {A : Type 0} (p : A → Bool) (whole : List A) (k : ℕ) (rest : List A) : Type 0 where
+  pub same : firstAt p whole ≡ shifted k (firstAt p rest)
+
+-- none was passed
+look-begin : {A : Type 0} (p : A → Bool) (whole : List A) → Looking p whole 0 whole
+unfolding shifted
+look-begin p whole = record { same = go (firstAt p whole) }
+  where
+    go : (o : Option ℕ) → o ≡ shifted 0 o
+    go none = refl
+    go (some n) = (let e : 0 + n ≡ n = omega arith in rw e)
+
+module _ {A : Type 0} {p : A → Bool} {whole : List A} {k : ℕ} where
+  -- the next element passes the test
+  look-found : (x : A) (rest : List A) → Looking p whole k (x ∷ rest) → p x ≡ true → firstAt p whole ≡ some k
+  unfolding firstAt shifted
+  look-found x rest v e = v .same ∙ (let d : k + 0 ≡ k = omega arith in rw (e, d))
+
+  -- it does not
+  look-on : (x : A) (rest : List A) → Looking p whole k (x ∷ rest) → p x ≡ false → Looking p whole (k + 1) rest
+  unfolding firstAt shifted
+  look-on x rest v e = record { same = v .same ∙ rw e (go (firstAt p rest)) }
+    where
+      go : (o : Option ℕ) → shifted k (later o) ≡ shifted (k + 1) o
+      go none = refl
+      go (some n) = (let d : k + (n + 1) ≡ k + 1 + n = omega arith in rw d)
+
+  -- no element is left
+  look-none : Looking p whole k [] → firstAt p whole ≡ none
+  unfolding firstAt shifted
+  look-none v = v .same
+
+-- ## The tables, one entry at a time
+
+-- the first name, and the others
+names-cons : (n : ℕ) (s w : List ℕ) (at : ℕ) → 0 < n → names n s w at ≡ entry s w at ∷ names (n - 1) s w (at + 3)
+unfolding names
+names-cons zero s w at h = absurd (omega arith)
+names-cons (suc n) s w at h = let e : suc n - 1 ≡ n = omega arith in rw e
+
+-- the innermost block, and the others
+labels-cons : (n : ℕ) (s w : List ℕ) (base : ℕ) → 0 < n → labels n s w base ≡ entry s w (base + 3 * (n - 1)) ∷ labels (n - 1) s w base
+unfolding labels
+labels-cons zero s w base h = absurd (omega arith)
+labels-cons (suc n) s w base h = let e : suc n - 1 ≡ n = omega arith in rw e
+
+-- find_name: k entries were passed, the next stands at `at`
+pub record Finding (s w : List ℕ) (base count : ℕ) (name : List ℕ) (k at : ℕ) : Type 0 where
+  pub low : k ≤ count
+  pub place : at ≡ base + 3 * k
+  pub look : Looking (carries sameBytes name) (names count s w base) k (names (count - k) s w at)
+
+-- no entry was passed
+pub find-begin : (s w : List ℕ) (base count : ℕ) (name : List ℕ) → Finding s w base count name 0 base
+find-begin s w base count name = record {
+  low = omega arith;
+  place = omega arith;
+  look = (let e : count - 0 ≡ count = omega arith in rw e (look-begin (carries sameBytes name) (names count s w base)));
+}
+
+module _ {s w : List ℕ} {base count : ℕ} {name : List ℕ} {k at : ℕ} (v : Finding s w base count name k at) where
+  -- the entry lies in the area
+  pub find-room : base + 3 * count ≤ length w → k < count → at + 1 < length w
+  find-room p h = omega (arith, v .place)
+
+  -- the entry that is next
+  next-look : k < count → Looking (carries sameBytes name) (names count s w base) k (entry s w at ∷ names (count - k - 1) s w (at + 3))
+  next-look h = rw (names-cons (count - k) s w at (omega arith)) at (v .look)
+
+  -- the entry carries the name
+  pub find-found : (r : Bool) → k < count → r ≡ carries sameBytes name (entry s w at) → r ≡ true → find sameBytes name (names count s w base) ≡ found (F.At k)
+  unfolding find
+  find-found r h e d = look-found _ _ (next-look h) (sym e ∙ d)
+
+  -- it does not
+  pub find-again : (r : Bool) → k < count → r ≡ carries sameBytes name (entry s w at) → r ≡ false → Finding s w base count name (k + 1) (at + 3)
+  find-again r h e d = record {
+    low = omega arith;
+    place = omega (arith, v .place);
+    look = (let m : count - k - 1 ≡ count - (k + 1) = omega arith in rw m at (look-on _ _ (next-look h) (sym e ∙ d)));
+  }
+
+  -- no entry is left
+  pub find-none : count ≤ k → find sameBytes name (names count s w base) ≡ found F.Nothing
+  unfolding find names
+  find-none h = look-none (let m : count - k ≡ 0 = omega arith in rw m at (v .look))
+
+-- label_depth: so many blocks are left, so many were passed
+pub record Outward (s w : List ℕ) (base blocks : ℕ) (name : List ℕ) (left passed : ℕ) : Type 0 where
+  pub sum : left + passed ≡ blocks
+  pub look : Looking (carries sameBytes name) (labels blocks s w base) passed (labels left s w base)
+
+-- every block is left
+pub out-begin : (s w : List ℕ) (base blocks : ℕ) (name : List ℕ) → Outward s w base blocks name blocks 0
+out-begin s w base blocks name = record { sum = omega arith; look = look-begin (carries sameBytes name) (labels blocks s w base) }
+
+module _ {s w : List ℕ} {base blocks : ℕ} {name : List ℕ} {left passed : ℕ} (v : Outward s w base blocks name left passed) where
+  -- the entry lies in the area
+  pub out-room : base + 3 * blocks ≤ length w → (left ≡ 0 → ⊥) → base + 3 * (left - 1) + 1 < length w
+  out-room p h = omega (arith, v .sum)
+
+  -- the block carries the name
+  pub out-found : (r : Bool) → (left ≡ 0 → ⊥) → r ≡ carries sameBytes name (entry s w (base + 3 * (left - 1))) → r ≡ true
+      → find sameBytes name (labels blocks s w base) ≡ found (F.At passed)
+  unfolding find
+  out-found r h e d = look-found _ _ (rw (labels-cons left s w base (omega arith)) at (v .look)) (sym e ∙ d)
+
+  -- it does not
+  pub out-again : (r : Bool) → (left ≡ 0 → ⊥) → r ≡ carries sameBytes name (entry s w (base + 3 * (left - 1))) → r ≡ false
+      → Outward s w base blocks name (left - 1) (passed + 1)
+  out-again r h e d = record {
+    sum = omega (arith, v .sum);
+    look = look-on _ _ (rw (labels-cons left s w base (omega arith)) at (v .look)) (sym e ∙ d);
+  }
+
+  -- no block is left
+  pub out-none : left ≡ 0 → find sameBytes name (labels blocks s w base) ≡ found F.Nothing
+  unfolding find labels
+  out-none h = look-none (rw h at (v .look))
+
+-- ## An index
+
+module _ (ns : Namespace Identifier) (r : ℕ) (s : List ℕ) (x : Index) where
+  -- an absent index is 0
+  pub number-absent : x ≡ X.Absent → numberIn sameBytes ns r (indexOf s x) ≡ ok 0
+  unfolding numberIn
+  number-absent d = rw d
+
+  -- a number is itself
+  pub number-number : (n : ℕ) → x ≡ X.Number n → numberIn sameBytes ns r (indexOf s x) ≡ ok n
+  unfolding numberIn
+  number-number n d = rw d
+
+  module _ (p : Part) (d : x ≡ X.Named p) (name : List ℕ) (b : name ≡ partOf s p) (q : Found) (told : find sameBytes name ns ≡ found q) where
+    -- a name that is there
+    pub number-found : (k : ℕ) → q ≡ F.At k → numberIn sameBytes ns r (indexOf s x) ≡ ok k
+    unfolding numberIn
+    number-found k e = rw (d, sym b, told, e)
+
+    -- a name that is not
+    pub number-none : q ≡ F.Nothing → numberIn sameBytes ns r (indexOf s x) ≡ refused 14 r
+    unfolding numberIn
+    number-none e = rw (d, sym b, told, e)
+
+pub ruleset numbers = (number-absent, number-number, number-found, number-none)
+
+-- the place of an element is below the length
+abbrev within : ℕ → Option ℕ → Type 0
+within n none = Unit {0}
+within n (some k) = k < n
+
+-- so it is for the first that passes a test
+first-low : {A : Type 0} (p : A → Bool) (xs : List A) → within (length xs) (firstAt p xs)
+unfolding firstAt
+first-low p [] = tt
+first-low p (x ∷ xs) = go (p x) (firstAt p xs) (first-low p xs)
+  where
+    go : (t : Bool) (o : Option ℕ) → within (length xs) o → within (suc (length xs)) (if t then some 0 else later o)
+    go true o h = omega arith
+    go false none h = tt
+    go false (some n) h = omega arith
+
+-- a table has as many names as entries
+names-length : (n : ℕ) (s w : List ℕ) (base : ℕ) → length (names n s w base) ≡ n
+unfolding names
+names-length zero s w base = refl
+names-length (suc n) s w base = ap suc (names-length n s w (base + 3))
+
+-- and as many labels as open blocks
+labels-length : (n : ℕ) (s w : List ℕ) (base : ℕ) → length (labels n s w base) ≡ n
+unfolding labels
+labels-length zero s w base = refl
+labels-length (suc n) s w base = ap suc (labels-length n s w base)
+
+module _ (name : List ℕ) (q : Found) (k : ℕ) (d : q ≡ F.At k) where
+  -- the place of a name that was found
+  found-low : (ns : Namespace Identifier) → find sameBytes name ns ≡ found q → k < length ns
+  unfolding find
+  found-low ns told = rw (told, d) at (first-low (carries sameBytes name) ns)
+
+  module _ (s w : List ℕ) (base n : ℕ) where
+    -- the number of a name is a u32
+    pub names-fit : find sameBytes name (names n s w base) ≡ found q → n ≤ 256 → Fits w32 k
+    names-fit told h = let l : k < n = rw names-length at (found-low (names n s w base) told) in record { fits = omega arith }
+
+    -- the depth of a label is a u32
+    pub labels-fit : find sameBytes name (labels n s w base) ≡ found q → n ≤ 128 → Fits w32 k
+    labels-fit told h = let l : k < n = rw labels-length at (found-low (labels n s w base) told) in record { fits = omega arith }
+
+-- ## Writing
+
+module _ (w : List ℕ) (at a : ℕ) (h : at + 2 < length w) where
+  -- the second word of an entry lies in the area
+  pub second-word : at + 1 < length (set w at a)
+  second-word = rw (length-set w at a) (omega arith)
+
+  -- the third
+  pub third-word : (b : ℕ) → at + 2 < length (set (set w at a) (at + 1) b)
+  third-word b = rw (length-set (set w at a) (at + 1) b, length-set w at a) h
+
+-- ## Clearing
+
+-- the first i words are 0
+pub record Cleared (w₀ w : List ℕ) (i : ℕ) : Type 0 where
+  pub low : i ≤ length w₀
+  pub long : length w ≡ length w₀
+  pub zeros : w ≡ replicate i 0 ++ drop i w₀
+
+-- no word yet
+pub clear-begin : (w : List ℕ) → Cleared w w 0
+clear-begin w = record { low = omega arith; long = refl; zeros = refl }
+
+-- one word more
+pub clear-again : {w₀ w : List ℕ} {i : ℕ} → Cleared w₀ w i → i < length w → Cleared w₀ (set w i 0) (i + 1)
+clear-again {w₀} {w} {i} v h = record {
+  low = omega (arith, v .long);
+  long = length-set w i 0 ∙ v .long;
+  zeros = rw (v .zeros) (fill-more i 0 w₀ (omega (arith, v .long)));
+}
+
+-- every word
+pub clear-done : {w₀ w : List ℕ} {i : ℕ} → Cleared w₀ w i → length w ≤ i → w ≡ replicate (length w₀) 0
+clear-done {w₀} {w} {i} v h = let e : i ≡ length w₀ = omega (arith, v .low, v .long) in
+    v .zeros ∙ rw (e, drop-length) (append-nil (replicate (length w₀) 0))

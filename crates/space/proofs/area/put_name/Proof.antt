@@ -1,0 +1,49 @@
+use Rattle.space.proofs.Walk.{second-word, third-word}
+use borrow.Author.Needs.{needs}
+use Rattle.space.proofs.area.put_name.Statement.{statement}
+use Rattle.space.proofs.area.put_name.Tie as tie
+
+mul-work : tie.Need-mul-work
+mul-work c = search needs
+
+slice-write-work : tie.Need-slice-write-work
+slice-write-work c = search needs
+
+add-work : tie.Need-add-work
+add-work c = search needs
+
+mul-work-2 : tie.Need-mul-work-2
+mul-work-2 c = search needs
+
+slice-write-work-2 : tie.Need-slice-write-work-2
+slice-write-work-2 c = search second-word
+
+add-work-2 : tie.Need-add-work-2
+add-work-2 c = search needs
+
+mul-work-3 : tie.Need-mul-work-3
+mul-work-3 c = search needs
+
+slice-write-work-3 : tie.Need-slice-write-work-3
+slice-write-work-3 c = search third-word
+
+same-length : tie.Need-same-length
+same-length c = search needs
+
+returns : tie.Need-returns
+returns c = search needs
+
+pub put-name-spec : {M : Type 1} → statement M
+put-name-spec =
+    tie.close
+    (tie.spec
+    mul-work
+    slice-write-work
+    add-work
+    mul-work-2
+    slice-write-work-2
+    add-work-2
+    mul-work-3
+    slice-write-work-3
+    same-length
+    returns)

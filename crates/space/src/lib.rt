@@ -1,0 +1,16 @@
+// Tables of names in the lent work area, three words to an entry: the place of an identifier in the stream, its length (0: none), and the record that defined it.
+pub mod area;
+pub mod label;
+pub mod name;
+pub mod table;
+
+pub use area::clear;
+pub use area::put_name;
+pub use label::depth_of;
+pub use label::label_depth;
+pub use name::carries;
+pub use name::same;
+pub use table::Found;
+pub use table::Resolved;
+pub use table::find_name;
+pub use table::number_in;

@@ -1,0 +1,54 @@
+// Names compared: with bytes, and with an entry of the work area.
+ghost use mathlib.Core.Path.{_≡_};
+ghost use Prim.Native.Nat.{_+_, _<_};
+ghost use lib.ListN.{length};
+ghost use Rattle.definition.specs.Basic.{sameBytes};
+ghost use Rattle.definition.specs.Names as Names;
+ghost use Rattle.space.specs.Area.{entry};
+
+// Equal bytes. Other lengths cost one comparison.
+pub fn same(a: &[u8], b: &[u8]) -> bool
+    ensures { λ r. ⌜ r ≡ sameBytes (now (a .entry)) (now (b .entry)) ⌝ }
+{
+    if a.len() != b.len() {
+        return false;
+    }
+    let mut i = 0;
+    while i < a.len() {
+        if a[i] != b[i] {
+            return false;
+        }
+        i += 1;
+    }
+    true
+}
+
+// A word of the work area as a place or a length.
+fn wide(x: u32) -> usize
+    ensures { λ r. ⌜ r ≡ x ⌝ }
+{
+    x as usize
+}
+
+// The entry at a place of the work area carries the name.
+pub fn carries(s: &[u8], work: &[u32], at: usize, name: &[u8]) -> bool
+    requires { ⌜ at + 1 < length (now work) ⌝ }
+    ensures { λ r. ⌜ r ≡ Names.carries sameBytes (now (name .entry)) (entry (now (s .entry)) (now (work .entry)) at) ⌝ }
+{
+    let len = wide(work[at + 1]);
+    if len != name.len() {
+        return false;
+    }
+    if len == 0 {
+        return false;
+    }
+    let off = wide(work[at]);
+    if s.len() < len {
+        return false;
+    }
+    if s.len() - len < off {
+        return false;
+    }
+    let end = off + len;
+    same(name, &s[off..end])
+}
