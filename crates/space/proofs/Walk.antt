@@ -122,7 +122,7 @@ pub record Looking {A : Type 0} (p : A → Bool) (whole : List A) (k : ℕ) (res
   pub same : firstAt p whole ≡ shifted k (firstAt p rest)
 
 -- none was passed
-look-begin : {A : Type 0} (p : A → Bool) (whole : List A) → Looking p whole 0 whole
+pub look-begin : {A : Type 0} (p : A → Bool) (whole : List A) → Looking p whole 0 whole
 unfolding shifted
 look-begin p whole = record { same = go (firstAt p whole) }
   where
@@ -132,12 +132,12 @@ look-begin p whole = record { same = go (firstAt p whole) }
 
 module _ {A : Type 0} {p : A → Bool} {whole : List A} {k : ℕ} where
   -- the next element passes the test
-  look-found : (x : A) (rest : List A) → Looking p whole k (x ∷ rest) → p x ≡ true → firstAt p whole ≡ some k
+  pub look-found : (x : A) (rest : List A) → Looking p whole k (x ∷ rest) → p x ≡ true → firstAt p whole ≡ some k
   unfolding firstAt shifted
   look-found x rest v e = v .same ∙ (let d : k + 0 ≡ k = omega arith in rw (e, d))
 
   -- it does not
-  look-on : (x : A) (rest : List A) → Looking p whole k (x ∷ rest) → p x ≡ false → Looking p whole (k + 1) rest
+  pub look-on : (x : A) (rest : List A) → Looking p whole k (x ∷ rest) → p x ≡ false → Looking p whole (k + 1) rest
   unfolding firstAt shifted
   look-on x rest v e = record { same = v .same ∙ rw e (go (firstAt p rest)) }
     where
@@ -146,7 +146,7 @@ module _ {A : Type 0} {p : A → Bool} {whole : List A} {k : ℕ} where
       go (some n) = (let d : k + (n + 1) ≡ k + 1 + n = omega arith in rw d)
 
   -- no element is left
-  look-none : Looking p whole k [] → firstAt p whole ≡ none
+  pub look-none : Looking p whole k [] → firstAt p whole ≡ none
   unfolding firstAt shifted
   look-none v = v .same
 
