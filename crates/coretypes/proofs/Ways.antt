@@ -1,15 +1,10 @@
 -- How `search` follows the definition past an answer of this crate: two rules for each type of answer.
-use mathlib.Core.Path.{_≡_, refl, ap, sym, _∙_}
-use mathlib.Core.Bool.{Bool, true, false, _||_}
+use mathlib.Core.Path.{_≡_}
+use mathlib.Core.Bool.{Bool}
 use mathlib.Core.Option.{Option}
-use Prim.Native.Nat.{ℕ, _≤_, _<_}
-use lib.Dec.{eqb, leb}
-use borrow.Author.Tests.{eq-eqb, ne-eqb}
-use Rattle.definition.specs.Basic.{between}
+use Prim.Native.Nat.{ℕ}
 use Rattle.definition.specs.Syntax as Syntax
-use Rattle.definition.specs.Reader.{Step, got, fault, onward}
-use Rattle.definition.specs.Token.{isRef, isVal}
-use Rattle.laws.proofs.Exits.{between-in, between-low, between-high}
+use Rattle.definition.specs.Reader.{Step, fault, onward}
 use Rattle.coretypes.specs.Views.{boolAt, maximumOf, maximumAt, limitsIs, limitsAt, tableTypeIs, tableTypeAt, globalTypeIs, globalTypeAt}
 use Rattle.coretypes.specs.declared.BoolAt.{BoolAt}
 use Rattle.coretypes.specs.declared.BoolAt.the-variants as B

@@ -1,7 +1,7 @@
 -- The whole (document 01, "What a call says"): from a stream, a work area and an output buffer to what a call says and leaves.
 use Prim.Native.Nat.{ℕ}
 use mathlib.Core.Bool.{Bool}
-use mathlib.Core.List.{List, [], _∷_, _++_, map}
+use mathlib.Core.List.{List, [], _++_, map}
 use lib.Dec.{leb, ltb}
 use lib.ListN.{length, drop, replicate}
 use Rattle.definition.specs.Basic.{if_then_else_, Answer, ok, refused, _>>=_, sameBytes}
@@ -9,7 +9,7 @@ use Rattle.definition.specs.Syntax.{Bytes, Identifier, Rec, Item, typeI}
 use Rattle.definition.specs.Read.{read}
 use Rattle.definition.specs.Deinline.{deinline, importOrder, Numbered}
 use Rattle.definition.specs.Types.{allTypes, declared}
-use Rattle.definition.specs.Names.{register, resolveAll, Scope}
+use Rattle.definition.specs.Names.{register, resolveAll}
 use Rattle.definition.specs.Binary.{module′}
 
 -- ## From fields to items

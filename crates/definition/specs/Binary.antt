@@ -1,14 +1,14 @@
 -- The binary format (the standard, chapter 5): a module's items to bytes, every length and index in its shortest form.
-use Prim.Native.Nat.{ℕ, zero, suc, _+_, _-_, _*_, _/_, _%_, _^_}
-use mathlib.Core.Bool.{Bool, true, false}
+use Prim.Native.Nat.{ℕ, zero, suc, _+_, _-_, _/_, _%_, _^_}
+use mathlib.Core.Bool.{Bool}
 use mathlib.Core.List.{List, [], _∷_, _++_}
 use mathlib.Core.Option.{Option, none, some}
-use lib.Dec.{eqb, leb, ltb}
+use lib.Dec.{eqb, ltb}
 use lib.ListN.{length}
 use lib.IntN.{ℤ, pos, negsuc}
 use Rattle.definition.specs.Basic.{if_then_else_, concatMap}
-use Rattle.definition.specs.Syntax.{ValType, Bytes, Space, code, FuncType, Limits, TableType, GlobalType, ImportName, ExternType, func, table, mem, global, Mode, passive, active}
-use Rattle.definition.specs.Syntax.{LocalNo, TypeNo, Depth, BlockType, empty, single, typed, Op}
+use Rattle.definition.specs.Syntax.{ValType, Bytes, code, FuncType, Limits, TableType, GlobalType, ExternType, func, table, mem, global, Mode, passive, active}
+use Rattle.definition.specs.Syntax.{TypeNo, BlockType, empty, single, typed, Op}
 use Rattle.definition.specs.Syntax.{Imm, noImm, blockImm, labelImm, labelsImm, localImm, itemImm, indirectImm, accessImm, int32Imm, int64Imm, rawImm}
 use Rattle.definition.specs.Syntax.{Item, typeI, importI, funcI, tableI, memI, globalI, exportI, startI, elemI, dataI}
 

@@ -1,5 +1,5 @@
 -- What a record of a body that was read tells: where its end stands, and that a block that opens found few enough open.
-use mathlib.Core.Path.{_≡_, refl, ap, sym, _∙_}
+use mathlib.Core.Path.{_≡_, refl}
 use Prim.Native.Nat.{ℕ, _+_, _≤_, _<_}
 use mathlib.Core.Bool.{Bool, true, false}
 use mathlib.Core.Option.{Option, none, some}
@@ -8,8 +8,8 @@ use lib.ListN.{length, getD}
 use borrow.Author.Tests.{ltb-true}
 use native.Mathlib.Omega.{arith}
 use Rattle.definition.specs.Basic.{if_then_else_}
-use Rattle.definition.specs.Syntax.{Bytes, Identifier, TypeUse, Instr, opens, elses, ends, indirect, plain, Rec, instr, bodyEnd}
-use Rattle.definition.specs.Reader.{Step, got, fault, Reader, onward, require, give, byte, _>>=_, _>>_}
+use Rattle.definition.specs.Syntax.{Bytes, Identifier, TypeUse, Instr, opens, elses, ends, indirect, plain, instr, bodyEnd}
+use Rattle.definition.specs.Reader.{Step, got, fault, onward, require, give, byte, _>>=_, _>>_}
 use Rattle.definition.specs.Token.{identifier, typeUse, optional}
 use Rattle.definition.specs.Instructions.{Form, opening, elsing, ending, calling, operands, formOf, plainOf, instruction, formed, bodyRec}
 use Rattle.laws.proofs.Backwards.{came, passed}

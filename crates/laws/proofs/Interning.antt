@@ -1,16 +1,16 @@
 -- Interning keeps the types that it has, and every use without an index finds its type among all of them.
-use mathlib.Core.Path.{_≡_, refl, ap, _∙_, sym, subst}
-use Prim.Native.Nat.{ℕ, zero, suc, _+_, _≤_, _<_}
-use mathlib.Core.Bool.{Bool, true, false, _&&_}
+use mathlib.Core.Path.{_≡_, refl, ap, _∙_, sym}
+use Prim.Native.Nat.{ℕ, suc, _+_}
+use mathlib.Core.Bool.{Bool, true, false}
 use mathlib.Core.List.{List, [], _∷_, _++_, append-assoc, append-nil, List·Memᴰ, List·Memᴰ·cases-cons, List·Memᴰ·not-nil}
 use mathlib.Core.Option.{Option, none, some}
 use mathlib.Core.Logic.{_⊎_, inl, inr}
-use lib.Dec.{eqb, leb}
+use lib.Dec.{leb}
 use lib.ListN.{length}
 use borrow.Author.Tests.{eq-eqb}
 use native.Mathlib.Omega.{arith}
 use native.Mathlib.Numerals.{add-one}
-use Rattle.definition.specs.Basic.{if_then_else_, Answer, ok, refused, _>>=_, same, sameBytes, firstAt, later, at, someOr}
+use Rattle.definition.specs.Basic.{if_then_else_, Answer, ok, refused, _>>=_, same, sameBytes, firstAt, later, at}
 use Rattle.definition.specs.Syntax.{FuncType}
 use Rattle.definition.specs.Deinline.{Numbered}
 use Rattle.definition.specs.Types.{sameType, typeAt, typeNumber, takeOrAdd, intern, Uses, uses, declared, allTypes}

@@ -1,12 +1,11 @@
 -- A module's length is the sum of its parts: what the measuring run of the writer adds up.
 use mathlib.Core.Path.{_≡_, refl, ap, _∙_}
 use Prim.Native.Nat.{ℕ, _+_}
-use mathlib.Core.List.{List, [], _∷_, _++_, map}
+use mathlib.Core.List.{List, [], _∷_, map}
 use lib.ListN.{length, length-append}
-use native.Mathlib.Omega.{arith}
 use Rattle.definition.specs.Basic.{concatMap}
 use Rattle.definition.specs.Syntax.{Bytes, Item}
-use Rattle.definition.specs.Binary.{u, sized, vec, section, sectionOf, content, entries, sectionNumbers, sections, preamble, module′}
+use Rattle.definition.specs.Binary.{u, sized, vec, section, entries, sectionNumbers, sections, preamble, module′}
 
 abbrev pub sum : List ℕ → ℕ
 sum [] = 0
