@@ -53,7 +53,7 @@ abbrev assembled : Bytes → Assemble.Said
 assembled stream = Assemble.assemble stream 16384 65536
 
 abbrev emptyScope : Names.Scope Identifier
-emptyScope = record { eq = sameBytes; items = []; allTypes = [] }
+emptyScope = record { eq = sameBytes; names = λ k. []; allTypes = [] }
 
 abbrev numbersAre : List FuncType → List ℕ → Answer (List FuncType) → Bool
 numbersAre us ns (ok ts) = sameBytes (map (λ u. Types.typeNumber u ts) us) ns

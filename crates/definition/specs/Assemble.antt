@@ -9,7 +9,7 @@ use Rattle.definition.specs.Syntax.{Bytes, Identifier, Rec, Item, typeI}
 use Rattle.definition.specs.Read.{read}
 use Rattle.definition.specs.Deinline.{deinline, importOrder, Numbered}
 use Rattle.definition.specs.Types.{allTypes, declared}
-use Rattle.definition.specs.Names.{register, resolveAll}
+use Rattle.definition.specs.Names.{space, register, resolveAll}
 use Rattle.definition.specs.Binary.{module′}
 
 -- ## From fields to items
@@ -20,7 +20,7 @@ items eq fs =
     importOrder fs >>= λ _.
     allTypes fs >>= λ ts.
     register eq [] fs >>= λ xs.
-    resolveAll (record { eq = eq; items = xs; allTypes = ts }) fs >>= λ is.
+    resolveAll (record { eq = eq; names = λ k. space k xs; allTypes = ts }) fs >>= λ is.
     ok (is ++ map typeI (drop (length (declared fs)) ts))
 
 unfoldable pub resolved : {I : Type 0} → (I → I → Bool) → List (Rec I) → Answer (List Item)

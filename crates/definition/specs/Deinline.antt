@@ -37,17 +37,17 @@ sourceFields i n (memOf wide d) b =
     ∷ ownF i (ownMem (exactly wide (pages (length d)))) []
     ∷ []
 
--- the fields of a record; `seen` are the spaces of the items before it
-unfoldable pub fieldsOf : {I : Type 0} → List Space → FieldRec I → List (Instr I) → List (Field I)
-fieldsOf seen (typeR i t) b = typeF i t ∷ []
-fieldsOf seen (importR n i d) b = importF n i d ∷ []
-fieldsOf seen (itemR i es x) b =
-    let n = count (sourceSpace x) seen in
+-- the fields of a record; `next` is the number of the next item of each space
+unfoldable pub fieldsOf : {I : Type 0} → (Space → ℕ) → FieldRec I → List (Instr I) → List (Field I)
+fieldsOf next (typeR i t) b = typeF i t ∷ []
+fieldsOf next (importR n i d) b = importF n i d ∷ []
+fieldsOf next (itemR i es x) b =
+    let n = next (sourceSpace x) in
     map (λ e. exportF e (sourceSpace x) (number n)) es ++ sourceFields i n x b
-fieldsOf seen (exportR n k x) b = exportF n k x ∷ []
-fieldsOf seen (startR x) b = startF x ∷ []
-fieldsOf seen (elemR i m xs) b = elemF i m xs ∷ []
-fieldsOf seen (dataR i m d) b = dataF i m d ∷ []
+fieldsOf next (exportR n k x) b = exportF n k x ∷ []
+fieldsOf next (startR x) b = startF x ∷ []
+fieldsOf next (elemR i m xs) b = elemF i m xs ∷ []
+fieldsOf next (dataR i m d) b = dataF i m d ∷ []
 
 -- the instructions up to the body's end
 unfoldable pub bodyOf : {I : Type 0} → List (Rec I) → List (Instr I)
@@ -59,10 +59,11 @@ bodyOf (bodyEnd ∷ rs) = []
 abbrev pub Numbered : Type 0 → Type 0
 Numbered I = List (ℕ × Field I)
 
+-- `seen` are the spaces of the items before
 unfoldable pub deinlineFrom : {I : Type 0} → ℕ → List Space → List (Rec I) → Numbered I
 deinlineFrom r seen [] = []
 deinlineFrom r seen (field f ∷ rs) =
-    map (λ x. (r, x)) (fieldsOf seen f (bodyOf rs)) ++ deinlineFrom (r + 1) (brings f ++ seen) rs
+    map (λ x. (r, x)) (fieldsOf (λ k. count k seen) f (bodyOf rs)) ++ deinlineFrom (r + 1) (brings f ++ seen) rs
 deinlineFrom r seen (instr x ∷ rs) = deinlineFrom (r + 1) seen rs
 deinlineFrom r seen (bodyEnd ∷ rs) = deinlineFrom (r + 1) seen rs
 

@@ -73,10 +73,10 @@ register eq xs ((r, f) ∷ fs) = registerOne eq r xs (itemOf f) >>= λ ys. regis
 
 -- ## Indices
 
--- what names mean in a module: the test of identifiers, the items, and the types, added ones included
+-- what names mean in a module: the test of identifiers, the namespace of each index space, and the types, added ones included
 pub record Scope (I : Type 0) : Type 0 where
   pub eq : I → I → Bool
-  pub items : Items I
+  pub names : Space → Namespace I
   pub allTypes : List FuncType
 
 -- the number of an identifier, or refusal 14
@@ -127,7 +127,7 @@ blocksAfter blocks (plain p) = blocks
 
 module _ {I : Type 0} (Γ : Scope I) where
   unfoldable pub itemNo : Space → ℕ → Index I → Answer ℕ
-  itemNo k r x = numberIn (Γ .eq) (space k (Γ .items)) r x
+  itemNo k r x = numberIn (Γ .eq) (Γ .names k) r x
 
   -- ## Type uses: the index, then 15, then 16
 

@@ -58,27 +58,27 @@ module _ {P : Type 0} {M : Kind → P → Type 0} (r : ℕ) where
   of-source i n (tableOf wide xs) b h g w = search (wholes, of-offset)
   of-source i n (memOf wide d) b h g w = search (wholes, of-offset)
 
-  of-field : (seen : List Space) (x : FieldRec P) (b : List (Instr P)) → Every M (fieldNames r x) → Every M (bodyNames r b)
-      → Every M (numberedNames (at-record r (fieldsOf seen x b)))
+  of-field : (next : Space → ℕ) (x : FieldRec P) (b : List (Instr P)) → Every M (fieldNames r x) → Every M (bodyNames r b)
+      → Every M (numberedNames (at-record r (fieldsOf next x b)))
   unfolding fieldNames fieldsOf numberedNames itemOf usedNames
-  of-field seen (typeR i t) b h w = search wholes
-  of-field seen (importR n i d) b h w = search (wholes, parts)
-  of-field seen (itemR i es x) b h w =
-      let n = count (sourceSpace x) seen in
+  of-field next (typeR i t) b h w = search wholes
+  of-field next (importR n i d) b h w = search (wholes, parts)
+  of-field next (itemR i es x) b h w =
+      let n = next (sourceSpace x) in
       rw (map-append, numberedNames-append)
       (joined (of-exports (sourceSpace x) n es) (of-source i n x b (search parts) (search parts) w))
-  of-field seen (exportR n k x) b h w = search wholes
-  of-field seen (startR x) b h w = search wholes
-  of-field seen (elemR i m xs) b h w = search (wholes, parts)
-  of-field seen (dataR i m d) b h w = search (wholes, parts)
+  of-field next (exportR n k x) b h w = search wholes
+  of-field next (startR x) b h w = search wholes
+  of-field next (elemR i m xs) b h w = search (wholes, parts)
+  of-field next (dataR i m d) b h w = search (wholes, parts)
 
 pub of-fields : {P : Type 0} {M : Kind → P → Type 0} (f r : ℕ) (seen : List Space) (rs : List (Rec P))
     → Every M (namesFrom f r rs) → Every M (numberedNames (deinlineFrom r seen rs))
 unfolding namesFrom deinlineFrom
 of-fields f r seen [] h = unfold numberedNames in nothing-said
 of-fields f r seen (field x ∷ rs) h =
-    rw (numberedNames-append (at-record r (fieldsOf seen x (bodyOf rs))))
-    (joined (of-field r seen x (bodyOf rs) (search parts) (of-body r (r + 1) rs (search parts)))
+    rw (numberedNames-append (at-record r (fieldsOf (λ k. count k seen) x (bodyOf rs))))
+    (joined (of-field r (λ k. count k seen) x (bodyOf rs) (search parts) (of-body r (r + 1) rs (search parts)))
     (of-fields r (r + 1) (brings x ++ seen) rs (search parts)))
 of-fields f r seen (instr x ∷ rs) h = of-fields f (r + 1) seen rs (search parts)
 of-fields f r seen (bodyEnd ∷ rs) h = of-fields f (r + 1) seen rs h

@@ -262,19 +262,19 @@ module _ {I J : Type 0} (f : I → J) where
   exports-map : (k : Space) (n : ℕ) (es : List Bytes) → map (λ e. exportF e k (number n)) es ≡ map mapField (map (λ e. exportF e k (number n)) es)
   exports-map k n es = simp map-map
 
-  fieldsOf-map : (seen : List Space) (x : FieldRec I) (b : List (Instr I))
-      → fieldsOf seen (mapFieldRec f x) (map (mapInstr f) b) ≡ map mapField (fieldsOf seen x b)
+  fieldsOf-map : (next : Space → ℕ) (x : FieldRec I) (b : List (Instr I))
+      → fieldsOf next (mapFieldRec f x) (map (mapInstr f) b) ≡ map mapField (fieldsOf next x b)
   unfolding fieldsOf
-  fieldsOf-map seen (typeR i t) b = refl
-  fieldsOf-map seen (importR n i d) b = refl
-  fieldsOf-map seen (itemR i es x) b =
-      let n = count (sourceSpace x) seen in
+  fieldsOf-map next (typeR i t) b = refl
+  fieldsOf-map next (importR n i d) b = refl
+  fieldsOf-map next (itemR i es x) b =
+      let n = next (sourceSpace x) in
       rw (sourceSpace-map x, sourceFields-map i n x b, map-append)
       (ap (λ xs. xs ++ map mapField (sourceFields i n x b)) (exports-map (sourceSpace x) n es))
-  fieldsOf-map seen (exportR n k x) b = refl
-  fieldsOf-map seen (startR x) b = refl
-  fieldsOf-map seen (elemR i m xs) b = refl
-  fieldsOf-map seen (dataR i m d) b = refl
+  fieldsOf-map next (exportR n k x) b = refl
+  fieldsOf-map next (startR x) b = refl
+  fieldsOf-map next (elemR i m xs) b = refl
+  fieldsOf-map next (dataR i m d) b = refl
 
   bodyOf-map : (rs : List (Rec I)) → bodyOf (map (mapRec f) rs) ≡ map (mapInstr f) (bodyOf rs)
   unfolding bodyOf
@@ -291,7 +291,7 @@ module _ {I J : Type 0} (f : I → J) where
   unfolding deinlineFrom
   deinlineFrom-map r seen [] = refl
   deinlineFrom-map r seen (field x ∷ rs) =
-      let fs = fieldsOf seen x (bodyOf rs) in
-      rw (bodyOf-map rs, fieldsOf-map seen x (bodyOf rs), brings-map x, at-record-map r fs, deinlineFrom-map (r + 1) (brings x ++ seen) rs, map-append)
+      let fs = fieldsOf (λ k. count k seen) x (bodyOf rs) in
+      rw (bodyOf-map rs, fieldsOf-map (λ k. count k seen) x (bodyOf rs), brings-map x, at-record-map r fs, deinlineFrom-map (r + 1) (brings x ++ seen) rs, map-append)
   deinlineFrom-map r seen (instr x ∷ rs) = deinlineFrom-map (r + 1) seen rs
   deinlineFrom-map r seen (bodyEnd ∷ rs) = deinlineFrom-map (r + 1) seen rs

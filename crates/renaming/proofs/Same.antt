@@ -121,10 +121,10 @@ module _ {P I : Type 0} (eq : I → I → Bool) (f g : P → I) (M : Kind → P 
 
   module _ (xs : Items P) (ts : List FuncType) (well : (k : Space) → All M (inSpace k) (space k xs)) where
     abbrev Γ₁ : Scope I
-    Γ₁ = record { eq = eq; items = mapItems f xs; allTypes = ts }
+    Γ₁ = record { eq = eq; names = λ k. space k (mapItems f xs); allTypes = ts }
 
     abbrev Γ₂ : Scope I
-    Γ₂ = record { eq = eq; items = mapItems g xs; allTypes = ts }
+    Γ₂ = record { eq = eq; names = λ k. space k (mapItems g xs); allTypes = ts }
 
     itemNo-same : (k : Space) (r : ℕ) (x : Index P) → Every M (indexNames (inSpace k) x) → itemNo Γ₁ k r (mapIndex f x) ≡ itemNo Γ₂ k r (mapIndex g x)
     unfolding itemNo

@@ -107,8 +107,8 @@ module _ {P I : Type 0} (eq : I → I → Bool) (f g : P → I) (M : Kind → P 
   -- ## Resolution, and the whole
 
   resolveAll-same : (xs : Items P) (ts : List FuncType) → Every M (itemsNames xs) → (fs : Numbered P) → Every M (numberedNames fs)
-      → resolveAll (record { eq = eq; items = mapItems f xs; allTypes = ts }) (mapNumbered f fs)
-      ≡ resolveAll (record { eq = eq; items = mapItems g xs; allTypes = ts }) (mapNumbered g fs)
+      → resolveAll (record { eq = eq; names = λ k. space k (mapItems f xs); allTypes = ts }) (mapNumbered f fs)
+      ≡ resolveAll (record { eq = eq; names = λ k. space k (mapItems g xs); allTypes = ts }) (mapNumbered g fs)
   unfolding resolveAll each numberedNames
   resolveAll-same xs ts w [] h = refl
   resolveAll-same xs ts w ((r, x) ∷ fs) h =

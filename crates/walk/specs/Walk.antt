@@ -1,0 +1,156 @@
+-- The fields of a stream as the later passes meet them: total, whatever the stream is. On an accepted stream they are the definition's.
+use Prim.Native.Nat.{ℕ, zero, suc, _+_, _-_, _*_, _≤_}
+use mathlib.Core.Path.{_≡_}
+use mathlib.Core.Bool.{Bool, true, false, _||_}
+use mathlib.Core.List.{List, [], _∷_, _++_, map}
+use mathlib.Core.Option.{Option, none, some}
+use lib.Dec.{leb}
+use lib.ListN.{length, take, drop}
+use Rattle.definition.specs.Basic.{if_then_else_}
+use Rattle.definition.specs.Syntax as Syntax
+use Rattle.definition.specs.Syntax.{Bytes, Identifier, Space, FieldRec, Rec, field, instr, bodyEnd}
+use Rattle.definition.specs.Reader.{Step, got, fault}
+use Rattle.definition.specs.Instructions.{bodyRec}
+use Rattle.definition.specs.Records.{fieldRec}
+use Rattle.definition.specs.Spaces.{brings}
+use Rattle.definition.specs.Read.{openAfter, fieldBody, isStart}
+use Rattle.definition.specs.Deinline.{Numbered, fieldsOf}
+use Rattle.sources.specs.Views.{countOf, roomOf, noneSeen}
+use Rattle.sources.specs.declared.seen.Seen.{Seen}
+use Rattle.fields.specs.Views.{fieldOf}
+use Rattle.stream.specs.Counting.{oneMore}
+use Rattle.walk.specs.declared.Cursor.{Cursor}
+use Rattle.walk.specs.declared.Visit.{Visit}
+use Rattle.walk.specs.declared.Visit.the-variants as V
+
+-- ## Bodies
+
+-- an instruction, or the end of a body, or nothing that was read
+abbrev pub onBody : {B : Type 0} → Step (Rec Identifier) → (Syntax.Instr Identifier → ℕ → B) → (ℕ → B) → B → B
+onBody (got (field f) next) more end z = z
+onBody (got (instr x) next) more end z = more x next
+onBody (got bodyEnd next) more end z = end next
+onBody (fault n) more end z = z
+
+-- the instructions of a body from a place on, `left` records at most, where `k` blocks are open
+unfoldable pub bodyFrom : ℕ → ℕ → Bytes → ℕ → List (Syntax.Instr Identifier)
+bodyFrom zero k s here = []
+bodyFrom (suc left) k s here = onBody (bodyRec k s here) (λ x next. x ∷ bodyFrom left (openAfter x k) s next) (λ next. []) []
+
+-- a place and the number of its record
+pub record Stop : Type 0 where
+  pub at : ℕ
+  pub rec : ℕ
+
+-- where the body ends
+unfoldable pub afterBody : ℕ → ℕ → ℕ → Bytes → ℕ → Stop
+afterBody zero k r s here = record { at = here; rec = r }
+afterBody (suc left) k r s here =
+    onBody (bodyRec k s here) (λ x next. afterBody left (openAfter x k) (r + 1) s next) (λ next. record { at = next; rec = r + 1 })
+    (record { at = here; rec = r })
+
+-- the body of a field that has one; `r` is the record of its first instruction
+abbrev pub bodyIn : Option ℕ → ℕ → Bytes → ℕ → List (Syntax.Instr Identifier)
+bodyIn none r s here = []
+bodyIn (some k) r s here = bodyFrom (4096 - r) k s here
+
+abbrev pub afterField : Option ℕ → ℕ → Bytes → ℕ → Stop
+afterField none r s here = record { at = here; rec = r }
+afterField (some k) r s here = afterBody (4096 - r) k r s here
+
+abbrev pub bodies : Option ℕ → ℕ
+bodies none = 0
+bodies (some k) = 1
+
+-- ## One field
+
+-- what a field brings, in the counts
+unfoldable pub counting : Seen → List Space → Seen
+counting seen [] = seen
+counting seen (k ∷ ks) = oneMore (counting seen ks) k
+
+unfoldable pub seenWith : Seen → FieldRec Identifier → Seen
+seenWith seen f = record { counts = counting seen (brings f) .counts; started = isStart f || seen .started }
+
+unfoldable pub begin : Cursor
+begin = record { at = 0; rec = 0; own = 0; left = 4096; seen = noneSeen }
+
+-- where the walk goes on after a field whose head ends at `here`
+unfoldable pub cursorAfter : Cursor → FieldRec Identifier → Bytes → ℕ → Cursor
+cursorAfter c f s here =
+    record {
+      at = afterField (fieldBody f) (c .rec + 1) s here .at;
+      rec = afterField (fieldBody f) (c .rec + 1) s here .rec;
+      own = c .own + bodies (fieldBody f);
+      left = c .left - 1;
+      seen = seenWith (c .seen) f;
+    }
+
+-- a field, the place after its head, and where the walk goes on
+pub record Visited : Type 0 where
+  pub field : FieldRec Identifier
+  pub head-end : ℕ
+  pub next : Cursor
+
+abbrev pub visitStep : Cursor → Bytes → Step (FieldRec Identifier) → Option Visited
+visitStep c s (got f here) = some (record { field = f; head-end = here; next = cursorAfter c f s here })
+visitStep c s (fault n) = none
+
+unfoldable pub visitAt : Cursor → Bytes → Option Visited
+visitAt c s =
+    if leb 4096 (c .rec) then none else
+    if leb (length s) (c .at) then none else
+    visitStep c s (fieldRec (roomOf (c .seen)) s (c .at))
+
+-- one that may still be visited
+abbrev pub visitIn : ℕ → Cursor → Bytes → Option Visited
+visitIn zero c s = none
+visitIn (suc left) c s = visitAt c s
+
+abbrev pub visitOf : Bytes → Visit → Option Visited
+visitOf s (V.Field f here next) = some (record { field = fieldOf s f; head-end = here; next = next })
+visitOf s V.Done = none
+
+-- ## All fields
+
+abbrev pub onVisit : {B : Type 0} → Option Visited → (Visited → B) → B → B
+onVisit none f z = z
+onVisit (some v) f z = f v
+
+-- the fields of one record, each with its number
+unfoldable pub fieldsHere : Cursor → Bytes → Visited → Numbered Identifier
+fieldsHere c s v =
+    map (λ x. (c .rec, x))
+    (fieldsOf (countOf (c .seen)) (v .field) (bodyIn (fieldBody (v .field)) (c .rec + 1) s (v .head-end)))
+
+-- from a cursor on, `left` records of fields at most
+unfoldable pub fieldsFrom : ℕ → Cursor → Bytes → Numbered Identifier
+fieldsFrom zero c s = []
+fieldsFrom (suc left) c s = onVisit (visitAt c s) (λ v. fieldsHere c s v ++ fieldsFrom left (v .next) s) []
+
+unfoldable pub fieldsAhead : Cursor → Bytes → Numbered Identifier
+fieldsAhead c s = fieldsFrom (c .left) c s
+
+unfoldable pub fieldsIn : Bytes → Numbered Identifier
+fieldsIn s = fieldsAhead begin s
+
+-- ## The ends of bodies, in the work area
+
+-- the place and the record after a body
+abbrev pub endOf : Option ℕ → Cursor → List ℕ
+endOf none c = []
+endOf (some k) c = c .at ∷ c .rec ∷ []
+
+unfoldable pub endsFrom : ℕ → Cursor → Bytes → List ℕ
+endsFrom zero c s = []
+endsFrom (suc left) c s = onVisit (visitAt c s) (λ v. endOf (fieldBody (v .field)) (v .next) ++ endsFrom left (v .next) s) []
+
+-- ys begins with xs
+pub record Begins (xs ys : List ℕ) : Type 0 where
+  pub rest : List ℕ
+  pub is : ys ≡ xs ++ rest
+
+-- the words 8 to 519 of the work area hold the ends that are still ahead
+pub record Ahead (s : Bytes) (w : List ℕ) (c : Cursor) : Type 0 where
+  pub ends : Begins (endsFrom (c .left) c s) (drop (8 + 2 * c .own) (take 520 w))
+  pub few : c .own + c .left ≤ 4096
