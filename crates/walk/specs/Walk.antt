@@ -21,7 +21,7 @@ use Rattle.fields.specs.Views.{fieldOf}
 use Rattle.stream.specs.Counting.{oneMore}
 use Rattle.walk.specs.declared.Cursor.{Cursor}
 use Rattle.walk.specs.declared.Visit.{Visit}
-use Rattle.walk.specs.declared.Visit.the-variants as V
+use Rattle.walk.specs.declared.Visit.the-variants as X
 
 -- ## Bodies
 
@@ -108,8 +108,8 @@ visitIn zero c s = none
 visitIn (suc left) c s = visitAt c s
 
 abbrev pub visitOf : Bytes → Visit → Option Visited
-visitOf s (V.Field f here next) = some (record { field = fieldOf s f; head-end = here; next = next })
-visitOf s V.Done = none
+visitOf s (X.Field f here next) = some (record { field = fieldOf s f; head-end = here; next = next })
+visitOf s X.Done = none
 
 -- ## All fields
 
