@@ -1,27 +1,27 @@
 -- Plain mathematics of the loops over the work area.
-use Prim.Native.Nat.{ℕ, zero, suc, _+_, _-_, _*_, _≤_, _<_}
+use Prim.Native.Nat.{ℕ, zero, suc, _+_, _-_, _*_, _≤_, _<_, min}
 use mathlib.Core.Path.{_≡_, refl, sym, _∙_, ap}
 use mathlib.Core.Bool.{Bool, true, false, _&&_}
 use mathlib.Core.List.{List, [], _∷_, _++_, append-nil}
 use mathlib.Core.Option.{Option, none, some}
-use lib.ListN.{length, getD, set, take, drop, replicate, length-take, length-drop, length-set, drop-of-length-le}
-use lib.Seq.{drop-cons, drop-length}
-use lib.Dec.{eqb, ltb}
-use borrow.Author.Tests.{eq-eqb, ne-eqb, lt-ltb, le-ltb, ltb-false}
+use lib.ListN.{length, getD, set, take, drop, replicate, length-set, drop-of-length-le}
+use lib.Seq.{drop-cons, drop-length, getD-set-same, getD-set-other}
+use lib.Dec.{eqb}
+use borrow.Author.Tests.{eq-eqb, ne-eqb}
 use borrow.Author.Fill.{fill-more}
 use mir.Syntax.{w32}
 use mir.Val.{Fits}
 use native.Mathlib.Omega.{arith}
+use native.Mathlib.Decide.{decLe}
 use native.Mathlib.Numerals.{add-one}
 use Rattle.definition.specs.Basic.{if_then_else_, same, sameBytes, firstAt, later, ok, refused}
 use Rattle.definition.specs.Syntax.{Identifier}
 use Rattle.definition.specs.Names.{carries, find, numberIn, Namespace}
-use Rattle.laws.proofs.Exits.{if-either}
-use Rattle.token.specs.Views.{part, partOf, indexOf}
+use Rattle.token.specs.Views.{part, partOf, idOf, indexOf}
 use Rattle.token.specs.declared.text.Part.{Part}
 use Rattle.token.specs.declared.index.Index.{Index}
 use Rattle.token.specs.declared.index.Index.the-variants as X
-use Rattle.space.specs.Area.{nameIn, entry, names, labels, found}
+use Rattle.space.specs.Area.{entry, entryWords, names, labels, found}
 use Rattle.space.specs.declared.table.Found.{Found}
 use Rattle.space.specs.declared.table.Found.the-variants as F
 
@@ -72,43 +72,36 @@ module _ {a b : List ℕ} {i : ℕ} (v : Same a b i) (e : length a ≡ length b)
 -- ## One entry
 
 module _ (s w name : List ℕ) (at len : ℕ) (l : len ≡ getD w (at + 1) 0) where
-  -- the length differs: whatever else the entry says, it does not carry the name
-  pub carries-long : (len ≡ length name → ⊥) → false ≡ carries sameBytes name (entry s w at)
-  unfolding entry nameIn part
-  carries-long d = rw (sym l) (if-either (λ o. false ≡ carries sameBytes name o) (eqb len 0) (λ _. refl)
-      (λ _. if-either (λ o. false ≡ carries sameBytes name o) (ltb (length s) (getD w at 0 + len)) (λ _. refl)
-      (λ u. differ name (take len (drop (getD w at 0) s)) (λ e. d (
-      let h : getD w at 0 + len ≤ length s = ltb-false _ _ u in
-      let m : length (take len (drop (getD w at 0) s)) ≡ len = simp (length-take, length-drop) (omega arith) in
-      sym (e ∙ m))))))
-
   -- an entry of length 0 is no identifier
   pub carries-none : len ≡ 0 → false ≡ carries sameBytes name (entry s w at)
-  unfolding entry nameIn
+  unfolding entry
   carries-none e = rw (sym l) (sym (rw (eq-eqb _ _ e)))
 
-  module _ (h : len ≡ 0 → ⊥) where
-    -- an entry that passes the stream's end
-    past : length s < getD w at 0 + len → false ≡ carries sameBytes name (entry s w at)
-    unfolding entry nameIn
-    past g = rw (sym l) (sym (rw (ne-eqb _ _ h, lt-ltb _ _ g)))
+  -- the bytes decide
+  pub carries-same : (r : Bool) (place : ℕ) (other : List ℕ) → (len ≡ 0 → ⊥) → place ≡ getD w at 0 → other ≡ partOf s (record { at = place; len = len })
+      → r ≡ sameBytes name other → r ≡ carries sameBytes name (entry s w at)
+  unfolding entry
+  carries-same r place other h o b e = e ∙ sym (rw (sym l, sym o, b) (rw (ne-eqb _ _ h)))
 
-    -- it is longer than the stream
-    pub carries-big : length s < len → false ≡ carries sameBytes name (entry s w at)
-    carries-big g = past (omega arith)
+-- an entry that was written says its identifier
+part-clipped : (s : List ℕ) (at len : ℕ) → part s (min at (length s)) len ≡ part s at len
+unfolding part
+part-clipped s at len = go (decLe at (length s))
+  where
+    go : Dec (at ≤ length s) → take len (drop (min at (length s)) s) ≡ take len (drop at s)
+    go (yes h) = let e : min at (length s) ≡ at = omega arith in rw e
+    go (no h) = let e : min at (length s) ≡ length s = omega arith in let g : length s ≤ at = omega arith in rw (e, drop-length s, drop-of-length-le s g)
 
-    module _ (off : ℕ) (o : off ≡ getD w at 0) (g : len ≤ length s) where
-      -- it starts too late in it
-      pub carries-out : length s - len < off → false ≡ carries sameBytes name (entry s w at)
-      carries-out u = past (omega arith)
-
-      -- an entry in the stream: its bytes decide
-      pub carries-same : (r : Bool) → r ≡ sameBytes name (take (off + len - off) (drop off s)) → off ≤ length s - len → r ≡ carries sameBytes name (entry s w at)
-      unfolding entry nameIn part
-      carries-same r e u =
-          let m : off + len - off ≡ len = omega arith in
-          let v : off + len ≤ length s = omega arith in
-          (rw m at e) ∙ sym (rw (sym l, sym o) (rw (ne-eqb _ _ h, le-ltb _ _ v)))
+pub entry-written : (s w : List ℕ) (at : ℕ) (p : Part) (r : ℕ) → at + 2 < length w → entry s (entryWords s w at p r) at ≡ idOf s p
+unfolding entry entryWords
+entry-written s w at p r h =
+    let a = set w at (min (p .at) (length s)) in
+    let b = set a (at + 1) (p .len) in
+    let la : length a ≡ length w = length-set w at (min (p .at) (length s)) in
+    let x : getD (set b (at + 2) r) at 0 ≡ min (p .at) (length s) =
+    getD-set-other b (at + 2) at r 0 (λ e. omega arith) ∙ getD-set-other a (at + 1) at (p .len) 0 (λ e. omega arith) ∙ getD-set-same w at _ 0 (omega arith) in
+    let y : getD (set b (at + 2) r) (at + 1) 0 ≡ p .len = getD-set-other b (at + 2) (at + 1) r 0 (λ e. omega arith) ∙ getD-set-same a (at + 1) (p .len) 0 (omega arith) in
+    rw (x, y) (ap (λ (l : List ℕ). if eqb (p .len) 0 then none else some l) (part-clipped s (p .at) (p .len)))
 
 -- ## Looking along a list
 
@@ -308,6 +301,10 @@ module _ (name : List ℕ) (q : Found) (k : ℕ) (d : q ≡ F.At k) where
     labels-fit told h = let l : k < n = rw labels-length at (found-low (labels n s w base) told) in record { fits = omega arith }
 
 -- ## Writing
+
+pub entry-words : (s w : List ℕ) (at place : ℕ) (p : Part) (r : ℕ) → place ≡ min (p .at) (length s) → set (set (set w at place) (at + 1) (p .len)) (at + 2) r ≡ entryWords s w at p r
+unfolding entryWords
+entry-words s w at place p r e = rw e
 
 module _ (w : List ℕ) (at a : ℕ) (h : at + 2 < length w) where
   -- the second word of an entry lies in the area

@@ -1,15 +1,39 @@
 // The words of the work area.
+use token::Part;
 ghost use mathlib.Core.Path.{_≡_};
-ghost use Prim.Native.Nat.{_+_, _<_};
-ghost use lib.ListN.{length, set, replicate};
+ghost use Prim.Native.Nat.{_+_, _≤_, _<_, min};
+ghost use lib.ListN.{length, getD, replicate};
+ghost use Rattle.space.specs.Area.{entryWords};
 
-// An entry is written.
-pub fn put_name(work: &mut [u32], at: usize, place: u32, len: u32, rec: u32)
-    requires { ⌜ at + 2 < length (now work) ⌝ }
-    ensures { λ _. ⌜ now (work .exit) ≡ set (set (set (now (work .entry)) at place) (at + 1) len) (at + 2) rec ⌝ }
+// The word at a place; past the end 0.
+pub fn word(work: &[u32], at: usize) -> u32
+    ensures { λ r. ⌜ r ≡ getD (now (work .entry)) at 0 ⌝ }
 {
+    if at < work.len() {
+        return work[at];
+    }
+    0
+}
+
+// A place in the stream, or its end.
+fn place_in(s: &[u8], at: usize) -> u32
+    requires { ⌜ length (now s) ≤ 65536 ⌝ }
+    ensures { λ r. ⌜ r ≡ min at (length (now (s .entry))) ⌝ }
+{
+    if at < s.len() {
+        return at as u32;
+    }
+    s.len() as u32
+}
+
+// An entry is written: an identifier, and the record that defined it.
+pub fn put_name(s: &[u8], work: &mut [u32], at: usize, id: Part, rec: u32)
+    requires { ⌜ (length (now s) ≤ 65536) × (at + 2 < length (now work)) ⌝ }
+    ensures { λ _. ⌜ now (work .exit) ≡ entryWords (now (s .entry)) (now (work .entry)) at id rec ⌝ }
+{
+    let place = place_in(s, id.at);
     work[at] = place;
-    work[at + 1] = len;
+    work[at + 1] = id.len;
     work[at + 2] = rec;
 }
 

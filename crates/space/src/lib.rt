@@ -6,6 +6,7 @@ pub mod table;
 
 pub use area::clear;
 pub use area::put_name;
+pub use area::word;
 pub use label::depth_of;
 pub use label::label_depth;
 pub use name::carries;

@@ -1,4 +1,5 @@
 // Names compared: with bytes, and with an entry of the work area.
+use token::Part;
 ghost use mathlib.Core.Path.{_≡_};
 ghost use Prim.Native.Nat.{_+_, _<_};
 ghost use lib.ListN.{length};
@@ -35,20 +36,11 @@ pub fn carries(s: &[u8], work: &[u32], at: usize, name: &[u8]) -> bool
     requires { ⌜ at + 1 < length (now work) ⌝ }
     ensures { λ r. ⌜ r ≡ Names.carries sameBytes (now (name .entry)) (entry (now (s .entry)) (now (work .entry)) at) ⌝ }
 {
-    let len = wide(work[at + 1]);
-    if len != name.len() {
-        return false;
-    }
+    let len = work[at + 1];
     if len == 0 {
         return false;
     }
-    let off = wide(work[at]);
-    if s.len() < len {
-        return false;
-    }
-    if s.len() - len < off {
-        return false;
-    }
-    let end = off + len;
-    same(name, &s[off..end])
+    let place = wide(work[at]);
+    let other = token::bytes_of(s, Part { at: place, len });
+    same(name, other)
 }

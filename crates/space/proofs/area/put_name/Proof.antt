@@ -1,7 +1,10 @@
-use Rattle.space.proofs.Walk.{second-word, third-word}
+use Rattle.space.proofs.Walk.{second-word, third-word, entry-words}
 use borrow.Author.Needs.{needs}
 use Rattle.space.proofs.area.put_name.Statement.{statement}
 use Rattle.space.proofs.area.put_name.Tie as tie
+
+place-in-requires : tie.Need-place-in-requires
+place-in-requires c κs = search needs
 
 mul-work : tie.Need-mul-work
 mul-work c = search needs
@@ -31,12 +34,13 @@ same-length : tie.Need-same-length
 same-length c = search needs
 
 returns : tie.Need-returns
-returns c = search needs
+returns c = search entry-words
 
 pub put-name-spec : {M : Type 1} → statement M
 put-name-spec =
     tie.close
     (tie.spec
+    place-in-requires
     mul-work
     slice-write-work
     add-work
