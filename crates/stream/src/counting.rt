@@ -21,7 +21,7 @@ fn one_up(n: u32) -> u32
     n
 }
 
-fn one_more(seen: Seen, k: Space) -> Seen
+pub fn one_more(seen: Seen, k: Space) -> Seen
     ensures { λ r. ⌜ r ≡ oneMore seen (spaceOf k) ⌝ }
 {
     let i = sources::space_code(k);
@@ -33,7 +33,7 @@ fn one_more(seen: Seen, k: Space) -> Seen
     }
 }
 
-fn extern_space(x: Extern) -> Space
+pub fn extern_space(x: Extern) -> Space
     ensures { λ r. ⌜ spaceOf r ≡ externBrings x ⌝ }
 {
     match x {
@@ -44,7 +44,7 @@ fn extern_space(x: Extern) -> Space
     }
 }
 
-fn own_space(o: Own) -> Space
+pub fn own_space(o: Own) -> Space
     ensures { λ r. ⌜ spaceOf r ≡ ownBrings o ⌝ }
 {
     match o {

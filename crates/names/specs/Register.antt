@@ -1,0 +1,94 @@
+-- Registration over the work area: what a field brings goes into the tables, item by item.
+use Prim.Native.Nat.{ℕ, _+_, _*_, _<_, min}
+use mathlib.Core.Path.{_≡_}
+use mathlib.Core.List.{List, [], _∷_}
+use lib.ListN.{length, getD}
+use Rattle.definition.specs.Basic.{if_then_else_, Answer, ok, refused, sameBytes}
+use Rattle.definition.specs.Syntax as Syntax
+use Rattle.definition.specs.Syntax.{Bytes, Identifier, Space, funcs, tables, mems, globals, types, elems, datas, code}
+use Rattle.definition.specs.Names.{Namespace, Items, taken, space, register}
+use Rattle.token.specs.Views.{idOf}
+use Rattle.token.specs.declared.text.Part.{Part}
+use Rattle.sources.specs.Views.{countOf}
+use Rattle.sources.specs.declared.seen.Seen.{Seen}
+use Rattle.sources.specs.declared.source.Source.{Source}
+use Rattle.sources.specs.declared.source.Source.the-variants as S
+use Rattle.fields.specs.declared.field.Field.{Field}
+use Rattle.fields.specs.declared.field.Field.the-variants as F
+use Rattle.stream.specs.Counting.{oneMore, externBrings, ownBrings}
+use Rattle.space.specs.Area.{entryWords, names}
+use Rattle.space.specs.Kept.{Kept}
+use Rattle.walk.specs.Walk.{fieldsIn}
+use Rattle.names.specs.declared.register.Registered.{Registered}
+use Rattle.names.specs.declared.register.Registered.the-variants as R
+
+-- ## The tables
+
+-- where the table of a space begins
+unfoldable pub base : Space → ℕ
+base k = 5904 + 768 * code k
+
+-- the names of a space, where so many of its items have come
+unfoldable pub tableAt : Seen → Space → Bytes → List ℕ → Namespace Identifier
+tableAt seen k s w = names (countOf seen k) s w (base k)
+
+-- all its names: word 5897 and those after it say how many
+unfoldable pub tableOf : Space → Bytes → List ℕ → Namespace Identifier
+tableOf k s w = names (min (getD w (5897 + code k) 0) 256) s w (base k)
+
+-- ## Items, one after the other
+
+-- an item: its space and its identifier
+abbrev pub Entry : Type 0
+Entry = Space × Part
+
+unfoldable pub registerIn : Bytes → List ℕ → Seen → ℕ → List Entry → Answer (List ℕ)
+registerIn s w seen r [] = ok w
+registerIn s w seen r ((k, p) ∷ ps) =
+    if taken sameBytes (idOf s p) (tableAt seen k s w) then refused 13 r else
+    registerIn s (entryWords s w (base k + 3 * countOf seen k) p r) (oneMore seen k) r ps
+
+-- no identifier
+abbrev pub nameless : Part
+nameless = record { at = 0; len = 0 }
+
+-- an inline table or memory brings its segment first
+abbrev pub sourceItems : Part → Source → List Entry
+sourceItems i (S.Own o) = (ownBrings o, i) ∷ []
+sourceItems i (S.Imported n x) = (externBrings x, i) ∷ []
+sourceItems i (S.TableOf w xs) = (elems, nameless) ∷ (tables, i) ∷ []
+sourceItems i (S.MemOf w d) = (datas, nameless) ∷ (mems, i) ∷ []
+
+abbrev pub brought : Field → List Entry
+brought (F.Type i ps rs) = (types, i) ∷ []
+brought (F.Import n i x) = (externBrings x, i) ∷ []
+brought (F.Item i es x) = sourceItems i x
+brought (F.Export n k x) = []
+brought (F.Start x) = []
+brought (F.Elem i m xs) = (elems, i) ∷ []
+brought (F.Data i m d) = (datas, i) ∷ []
+
+-- the tables have room for them
+unfoldable pub Fit : Seen → List Entry → Type 0
+Fit seen [] = Unit {0}
+Fit seen ((k, p) ∷ ps) = (countOf seen k < 256) × Fit (oneMore seen k) ps
+
+abbrev pub registered : Registered → List ℕ → Answer (List ℕ)
+registered R.Done w = ok w
+registered (R.Refused n r) w = refused n r
+
+-- ## The pass
+
+-- the items that were registered stand in the tables
+pub record Tables (s w : List ℕ) (xs : Items Identifier) : Type 0 where
+  pub each : (k : Space) → space k xs ≡ tableOf k s w
+
+pub record Stands (s w w′ : List ℕ) : Type 0 where
+  pub items : Items Identifier
+  pub says : register sameBytes [] (fieldsIn s) ≡ ok items
+  pub tables : Tables s w′ items
+  pub kept : Kept 5897 w w′
+
+unfoldable pub Registers : Bytes → List ℕ → Registered → List ℕ → Type 0
+Registers s w R.Done w′ = Stands s w w′
+Registers s w (R.Refused n r) w′ = (register sameBytes [] (fieldsIn s) ≡ refused n r) × (length w′ ≡ length w)

@@ -1,0 +1,126 @@
+// One item in its table, and the items that a field brings.
+use crate::register::Registered;
+use fields::Field;
+use sources::Seen;
+use sources::Source;
+use space::Found;
+use token::Part;
+use token::Space;
+ghost use mathlib.Core.Path.{_≡_};
+ghost use mathlib.Core.List.{[], _∷_};
+ghost use Prim.Native.Nat.{_+_, _*_, _≤_, _<_};
+ghost use lib.ListN.{length};
+ghost use Rattle.definition.specs.Basic.{sameBytes};
+ghost use Rattle.definition.specs.Names as Names;
+ghost use Rattle.token.specs.Views.{idOf, spaceOf};
+ghost use Rattle.sources.specs.Views.{countOf};
+ghost use Rattle.space.specs.Area.{names};
+ghost use Rattle.names.specs.Register.{base, Fit, registerIn, registered, brought, sourceItems, nameless};
+
+// An identifier that is there already.
+fn is_taken(s: &[u8], work: &[u32], base: usize, count: usize, id: Part) -> bool
+    requires { ⌜ base + 3 * count ≤ length (now work) ⌝ }
+    ensures { λ r. ⌜ r ≡ Names.taken sameBytes (idOf (now (s .entry)) id) (names count (now (s .entry)) (now (work .entry)) base) ⌝ }
+{
+    if id.len == 0 {
+        return false;
+    }
+    let name = token::bytes_of(s, id);
+    match space::find_name(s, work, base, count, name) {
+        Found::At(_) => true,
+        Found::Nothing => false,
+    }
+}
+
+// Where the table of a space begins.
+pub fn table_base(k: Space) -> usize
+    ensures { λ r. ⌜ r ≡ base (spaceOf k) ⌝ }
+{
+    5904 + 768 * sources::space_code(k)
+}
+
+// The next item of a space.
+fn register_item(s: &[u8], work: &mut [u32], seen: Seen, k: Space, id: Part, rec: u32) -> Registered
+    requires { ⌜ (length (now s) ≤ 65536) × (16384 ≤ length (now work)) × (countOf seen (spaceOf k) < 256) ⌝ }
+    ensures { λ r. ⌜ registerIn (now (s .entry)) (now (work .entry)) seen rec ((spaceOf k, id) ∷ []) ≡ registered r (now (work .exit)) ⌝ }
+{
+    let base = table_base(k);
+    let count = sources::seen::count_of(seen, k) as usize;
+    if is_taken(s, work, base, count, id) {
+        return Registered::Refused(13, rec);
+    }
+    space::put_name(s, work, base + 3 * count, id, rec);
+    Registered::Done
+}
+
+// An inline segment has no identifier.
+fn nameless() -> Part
+    ensures { λ r. ⌜ r ≡ nameless ⌝ }
+{
+    Part { at: 0, len: 0 }
+}
+
+// An inline table or memory: its segment, and then the item.
+fn register_with(s: &[u8], work: &mut [u32], seen: Seen, segment: Space, k: Space, id: Part, rec: u32) -> Registered
+    requires { ⌜ (length (now s) ≤ 65536) × (16384 ≤ length (now work)) × Fit seen ((spaceOf segment, nameless) ∷ (spaceOf k, id) ∷ []) ⌝ }
+    ensures { λ r. ⌜ registerIn (now (s .entry)) (now (work .entry)) seen rec ((spaceOf segment, nameless) ∷ (spaceOf k, id) ∷ []) ≡ registered r (now (work .exit)) ⌝ }
+{
+    match register_item(s, work, seen, segment, nameless(), rec) {
+        Registered::Done => {
+            let more = stream::counting::one_more(seen, segment);
+            register_item(s, work, more, k, id, rec)
+        }
+        Registered::Refused(n, r) => Registered::Refused(n, r),
+    }
+}
+
+fn register_source(s: &[u8], work: &mut [u32], seen: Seen, id: Part, x: Source, rec: u32) -> Registered
+    requires { ⌜ (length (now s) ≤ 65536) × (16384 ≤ length (now work)) × Fit seen (sourceItems id x) ⌝ }
+    ensures { λ r. ⌜ registerIn (now (s .entry)) (now (work .entry)) seen rec (sourceItems id x) ≡ registered r (now (work .exit)) ⌝ }
+{
+    match x {
+        Source::Own(o) => register_item(s, work, seen, stream::counting::own_space(o), id, rec),
+        Source::Imported(_, e) => register_item(s, work, seen, stream::counting::extern_space(e), id, rec),
+        Source::TableOf(_, _) => register_with(s, work, seen, Space::Elems, Space::Tables, id, rec),
+        Source::MemOf(_, _) => register_with(s, work, seen, Space::Datas, Space::Mems, id, rec),
+    }
+}
+
+pub fn register_field(s: &[u8], work: &mut [u32], seen: Seen, f: Field, rec: u32) -> Registered
+    requires { ⌜ (length (now s) ≤ 65536) × (16384 ≤ length (now work)) × Fit seen (brought f) ⌝ }
+    ensures { λ r. ⌜ registerIn (now (s .entry)) (now (work .entry)) seen rec (brought f) ≡ registered r (now (work .exit)) ⌝ }
+{
+    match f {
+        Field::Type {
+            id,
+            params: _,
+            results: _,
+        } => register_item(s, work, seen, Space::Types, id, rec),
+        Field::Import {
+            name: _,
+            id,
+            what,
+        } => register_item(s, work, seen, stream::counting::extern_space(what), id, rec),
+        Field::Item {
+            id,
+            exports: _,
+            source,
+        } => register_source(s, work, seen, id, source, rec),
+        Field::Export {
+            name: _,
+            space: _,
+            index: _,
+        } => Registered::Done,
+        Field::Start(_) => Registered::Done,
+        Field::Elem {
+            id,
+            mode: _,
+            funcs: _,
+        } => register_item(s, work, seen, Space::Elems, id, rec),
+        Field::Data {
+            id,
+            mode: _,
+            bytes: _,
+        } => register_item(s, work, seen, Space::Datas, id, rec),
+    }
+}
