@@ -16,7 +16,7 @@ use Rattle.definition.specs.Token.{u32, upTo, counted, identifier, string, byte
 use Rattle.definition.specs.Instructions.{constant}
 use Rattle.definition.specs.Records.{Room, Extern, Forms, importName, funcExtern, tableExtern, memExtern, globalExtern, importOf, importRec, itemRec, importForm, ownFuncForm, ownTableForm, inlineTableForm, ownMemForm, inlineMemForm, ownGlobalForm}
 use Rattle.definition.specs.Records.{funcRec, tableRec, memRec, globalRec, typeRec, kind, exportRec, startRec, mode, elemRec, dataRec, fieldRecs, fieldRec}
-use Rattle.definition.specs.Spaces.{sourceSpace, externSpace, ownSpace}
+use Rattle.definition.specs.Spaces.{sourceSpace, externSpace, ownSpace, segments}
 use Rattle.laws.proofs.Backwards.{came, passed}
 
 -- ## What a reader can give
@@ -60,6 +60,10 @@ module _ {B : Type 0} {P : B → Type 0} where
       go true h = g .0
       go false h = h
 
+-- what is known before a reader
+any : {A : Type 0} {Q : Type 0} (m : Reader A) → Q → Gives (λ _. Q) m
+any m h = record { all = λ s at y q e. h }
+
 -- ## Counts
 
 up-to : (n ceiling : ℕ) → Gives (λ k. k ≤ ceiling) (upTo n ceiling)
@@ -94,41 +98,49 @@ FewIn (imported n d) = Unit {0}
 FewIn (tableOf w xs) = Unit {0}
 FewIn (memOf w d) = Unit {0}
 
-record Source-of (k : Space) (x : Source Identifier) : Type 0 where
+-- there is room for one more item of each of these spaces
+abbrev pub Rooms : Room → List Space → Type 0
+Rooms room [] = Unit {0}
+Rooms room (k ∷ ks) = (room .item k ≡ true) × Rooms room ks
+
+record Source-of (room : Room) (k : Space) (x : Source Identifier) : Type 0 where
   space : sourceSpace x ≡ k
   few : FewIn x
+  rooms : Rooms room (segments x)
 
-own-func : Gives (Source-of funcs) ownFuncForm
-unfolding ownFuncForm sourceSpace ownSpace
-own-func =
+own-func : (room : Room) → Gives (Source-of room funcs) ownFuncForm
+unfolding ownFuncForm sourceSpace ownSpace segments
+own-func room =
     gives-then typeUse _ use-few (λ t h.
-    gives-then (counted 64 param) _ (counted-few 64 param) (λ ls g. gives-give (own (ownFunc t ls)) (record { space = refl; few = (h, g) })))
+    gives-then (counted 64 param) _ (counted-few 64 param) (λ ls g. gives-give (own (ownFunc t ls)) (record { space = refl; few = (h, g); rooms = tt })))
 
-own-table : Gives (Source-of tables) ownTableForm
-unfolding ownTableForm sourceSpace ownSpace
-own-table = gives-after tableType _ (λ t. gives-give (own (ownTable t)) (record { space = refl; few = tt }))
+own-table : (room : Room) → Gives (Source-of room tables) ownTableForm
+unfolding ownTableForm sourceSpace ownSpace segments
+own-table room = gives-after tableType _ (λ t. gives-give (own (ownTable t)) (record { space = refl; few = tt; rooms = tt }))
 
-own-mem : Gives (Source-of mems) ownMemForm
-unfolding ownMemForm sourceSpace ownSpace
-own-mem = gives-after limits _ (λ l. gives-give (own (ownMem l)) (record { space = refl; few = tt }))
+own-mem : (room : Room) → Gives (Source-of room mems) ownMemForm
+unfolding ownMemForm sourceSpace ownSpace segments
+own-mem room = gives-after limits _ (λ l. gives-give (own (ownMem l)) (record { space = refl; few = tt; rooms = tt }))
 
-own-global : Gives (Source-of globals) ownGlobalForm
-unfolding ownGlobalForm sourceSpace ownSpace
-own-global = gives-after globalType _ (λ t. gives-after constant _ (λ c. gives-give (own (ownGlobal t c)) (record { space = refl; few = tt })))
+own-global : (room : Room) → Gives (Source-of room globals) ownGlobalForm
+unfolding ownGlobalForm sourceSpace ownSpace segments
+own-global room = gives-after globalType _ (λ t. gives-after constant _ (λ c. gives-give (own (ownGlobal t c)) (record { space = refl; few = tt; rooms = tt })))
 
-inline-table : (room : Room) → Gives (Source-of tables) (inlineTableForm room)
-unfolding inlineTableForm sourceSpace
+inline-table : (room : Room) → Gives (Source-of room tables) (inlineTableForm room)
+unfolding inlineTableForm sourceSpace segments
 inline-table room =
-    gives-after (require 7 (room .item elems) >> flag64) _ (λ w. gives-after (counted 1024 present) _ (λ xs. gives-give (tableOf w xs) (record { space = refl; few = tt })))
+    gives-then (require 7 (room .item elems) >> flag64) _ (gives-require 7 (room .item elems) flag64 (λ free. any flag64 free)) (λ w free.
+    gives-after (counted 1024 present) _ (λ xs. gives-give (tableOf w xs) (record { space = refl; few = tt; rooms = (free, tt) })))
 
-inline-mem : (room : Room) → Gives (Source-of mems) (inlineMemForm room)
-unfolding inlineMemForm sourceSpace
+inline-mem : (room : Room) → Gives (Source-of room mems) (inlineMemForm room)
+unfolding inlineMemForm sourceSpace segments
 inline-mem room =
-    gives-after (require 7 (room .item datas) >> flag64) _ (λ w. gives-after bytes _ (λ d. gives-give (memOf w d) (record { space = refl; few = tt })))
+    gives-then (require 7 (room .item datas) >> flag64) _ (gives-require 7 (room .item datas) flag64 (λ free. any flag64 free)) (λ w free.
+    gives-after bytes _ (λ d. gives-give (memOf w d) (record { space = refl; few = tt; rooms = (free, tt) })))
 
-import-form : (k : Space) (extern : Reader Extern) → Gives (λ d. externSpace d ≡ k) extern → Gives (Source-of k) (importForm extern)
-unfolding importForm sourceSpace
-import-form k extern g = gives-after importName _ (λ n. gives-then extern _ g (λ d e. gives-give (imported n d) (record { space = e; few = tt })))
+import-form : (room : Room) (k : Space) (extern : Reader Extern) → Gives (λ d. externSpace d ≡ k) extern → Gives (Source-of room k) (importForm extern)
+unfolding importForm sourceSpace segments
+import-form room k extern g = gives-after importName _ (λ n. gives-then extern _ g (λ d e. gives-give (imported n d) (record { space = e; few = tt; rooms = tt })))
 
 extern-func : Gives (λ d. externSpace d ≡ funcs) funcExtern
 unfolding funcExtern externSpace
@@ -152,18 +164,19 @@ extern-global = gives-after globalType _ (λ t. gives-give (ExternType.global t)
 pub record Roomy (room : Room) (x : Source Identifier) : Type 0 where
   pub space : room .item (sourceSpace x) ≡ true
   pub few : FewIn x
+  pub rooms : Rooms room (segments x)
 
 abbrev pub RoomyField : Room → FieldRec Identifier → Type 0
-RoomyField room (typeR i t) = Unit {0}
-RoomyField room (importR n i d) = Unit {0}
+RoomyField room (typeR i t) = room .item types ≡ true
+RoomyField room (importR n i d) = room .item (externSpace d) ≡ true
 RoomyField room (itemR i es x) = Roomy room x
 RoomyField room (exportR n k x) = Unit {0}
 RoomyField room (startR x) = Unit {0}
-RoomyField room (elemR i m xs) = Unit {0}
-RoomyField room (dataR i m d) = Unit {0}
+RoomyField room (elemR i m xs) = room .item elems ≡ true
+RoomyField room (dataR i m d) = room .item datas ≡ true
 
 module _ (room : Room) where
-  item-roomy : (k : Space) (forms : Forms) → Each (Source-of k) forms → Gives (RoomyField room) (itemRec room k forms)
+  item-roomy : (k : Space) (forms : Forms) → Each (Source-of room k) forms → Gives (RoomyField room) (itemRec room k forms)
   unfolding itemRec
   item-roomy k forms g =
       gives-require 7 (room .item k) _ (λ free.
@@ -171,23 +184,23 @@ module _ (room : Room) where
       gives-after (counted 8 string) _ (λ es.
       gives-after byte _ (λ b.
       gives-then (choose b forms) _ (gives-choose b forms g) (λ x e.
-      gives-give (itemR i es x) (record { space = ap (room .item) (e .space) ∙ free; few = e .few }))))))
+      gives-give (itemR i es x) (record { space = ap (room .item) (e .space) ∙ free; few = e .few; rooms = e .rooms }))))))
 
   func-roomy : Gives (RoomyField room) (funcRec room)
   unfolding funcRec
-  func-roomy = item-roomy funcs _ (own-func, (import-form funcs funcExtern extern-func, tt))
+  func-roomy = item-roomy funcs _ (own-func room, (import-form room funcs funcExtern extern-func, tt))
 
   table-roomy : Gives (RoomyField room) (tableRec room)
   unfolding tableRec
-  table-roomy = item-roomy tables _ (own-table, (import-form tables tableExtern extern-table, (inline-table room, tt)))
+  table-roomy = item-roomy tables _ (own-table room, (import-form room tables tableExtern extern-table, (inline-table room, tt)))
 
   mem-roomy : Gives (RoomyField room) (memRec room)
   unfolding memRec
-  mem-roomy = item-roomy mems _ (own-mem, (import-form mems memExtern extern-mem, (inline-mem room, tt)))
+  mem-roomy = item-roomy mems _ (own-mem room, (import-form room mems memExtern extern-mem, (inline-mem room, tt)))
 
   global-roomy : Gives (RoomyField room) (globalRec room)
   unfolding globalRec
-  global-roomy = item-roomy globals _ (own-global, (import-form globals globalExtern extern-global, tt))
+  global-roomy = item-roomy globals _ (own-global room, (import-form room globals globalExtern extern-global, tt))
 
   type-roomy : Gives (RoomyField room) (typeRec room)
   unfolding typeRec
@@ -195,12 +208,13 @@ module _ (room : Room) where
       gives-require 7 (room .item types) _ (λ free.
       gives-after identifier _ (λ i.
       gives-after (counted 64 valType) _ (λ ps.
-      gives-after (counted 16 valType) _ (λ rs. gives-give (typeR i (record { params = ps; results = rs })) tt))))
+      gives-after (counted 16 valType) _ (λ rs. gives-give (typeR i (record { params = ps; results = rs })) free))))
 
-  import-of : (n : _) (k : Space) (extern : Reader Extern) → Gives (RoomyField room) (importOf room n k extern)
+  import-of : (n : _) (k : Space) (extern : Reader Extern) → Gives (λ d. externSpace d ≡ k) extern → Gives (RoomyField room) (importOf room n k extern)
   unfolding importOf
-  import-of n k extern =
-      gives-require 7 (room .item k) _ (λ free. gives-after identifier _ (λ i. gives-after extern _ (λ d. gives-give (importR n i d) tt)))
+  import-of n k extern g =
+      gives-require 7 (room .item k) _ (λ free.
+      gives-after identifier _ (λ i. gives-then extern _ g (λ d e. gives-give (importR n i d) (ap (room .item) e ∙ free))))
 
   import-roomy : Gives (RoomyField room) (importRec room)
   unfolding importRec
@@ -213,7 +227,8 @@ module _ (room : Room) where
       ∷ (2, importOf room n mems memExtern)
       ∷ (3, importOf room n globals globalExtern)
       ∷ [])
-      (import-of n funcs funcExtern, (import-of n tables tableExtern, (import-of n mems memExtern, (import-of n globals globalExtern, tt))))))
+      (import-of n funcs funcExtern extern-func,
+      (import-of n tables tableExtern extern-table, (import-of n mems memExtern extern-mem, (import-of n globals globalExtern extern-global, tt))))))
 
   export-roomy : Gives (RoomyField room) exportRec
   unfolding exportRec
@@ -227,12 +242,12 @@ module _ (room : Room) where
   unfolding elemRec
   elem-roomy =
       gives-require 7 (room .item elems) _ (λ free.
-      gives-after identifier _ (λ i. gives-after mode _ (λ m. gives-after (counted 1024 present) _ (λ xs. gives-give (elemR i m xs) tt))))
+      gives-after identifier _ (λ i. gives-after mode _ (λ m. gives-after (counted 1024 present) _ (λ xs. gives-give (elemR i m xs) free))))
 
   data-roomy : Gives (RoomyField room) (dataRec room)
   unfolding dataRec
   data-roomy =
-      gives-require 7 (room .item datas) _ (λ free. gives-after identifier _ (λ i. gives-after mode _ (λ m. gives-after bytes _ (λ d. gives-give (dataR i m d) tt))))
+      gives-require 7 (room .item datas) _ (λ free. gives-after identifier _ (λ i. gives-after mode _ (λ m. gives-after bytes _ (λ d. gives-give (dataR i m d) free))))
 
   field-roomy : Gives (RoomyField room) (fieldRec room)
   unfolding fieldRec fieldRecs
