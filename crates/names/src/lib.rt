@@ -3,3 +3,4 @@ pub mod item;
 pub mod register;
 
 pub use register::Registered;
+pub use register::register_all;

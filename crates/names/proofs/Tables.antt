@@ -1,0 +1,145 @@
+-- The tables hold what has been registered: one item more, and the items of a field.
+use Prim.Native.Nat.{ℕ, zero, suc, _+_, _*_, _≤_, _<_, min}
+use mathlib.Core.Path.{_≡_, refl, sym, _∙_, ap}
+use mathlib.Core.Bool.{Bool, true, false}
+use mathlib.Core.List.{List, [], _∷_, _++_, map, append-assoc, append-nil}
+use mathlib.Core.Option.{Option, none, some}
+use lib.ListN.{length, getD, set, length-set}
+use lib.Seq.{getD-set-same, getD-set-other}
+use lib.Dec.{eqb, ltb}
+use borrow.Author.Tests.{eqb-true, eqb-false, lt-ltb}
+use native.Mathlib.Omega.{arith}
+use native.Mathlib.Decide.{decLe}
+use Rattle.definition.specs.Basic.{if_then_else_, Answer, ok, refused, sameBytes}
+use Rattle.definition.specs.Syntax.{Bytes, Identifier, Space, funcs, tables, mems, globals, types, elems, datas, code, sameSpace}
+use Rattle.definition.specs.Names.{Namespace, Items, taken, space}
+use Rattle.token.specs.Views.{idOf}
+use Rattle.token.specs.declared.text.Part.{Part}
+use Rattle.sources.specs.Views.{countOf, noneSeen}
+use Rattle.sources.specs.declared.seen.Seen.{Seen}
+use Rattle.stream.specs.Counting.{up, oneMore}
+use Rattle.space.specs.Area.{entry, entryWords, names}
+use Rattle.space.specs.Kept.{Kept}
+use Rattle.space.proofs.Kept.{kept-set, kept-then, kept-same}
+use Rattle.space.proofs.Walk.{entry-written}
+use Rattle.names.specs.Register.{base, tableAt, Entry, registerIn, Fit}
+use Rattle.names.proofs.Items.{base-low}
+
+-- ## Words that are not written
+
+module _ (s w : List ℕ) (at : ℕ) (p : Part) (r : ℕ) where
+  words-other : (i : ℕ) → (i ≡ at → ⊥) → (i ≡ at + 1 → ⊥) → (i ≡ at + 2 → ⊥) → getD (entryWords s w at p r) i 0 ≡ getD w i 0
+  unfolding entryWords
+  words-other i a b c =
+      let x = set w at (min (p .at) (length s)) in
+      getD-set-other (set x (at + 1) (p .len)) (at + 2) i r 0 c ∙ getD-set-other x (at + 1) i (p .len) 0 b ∙ getD-set-other w at i (min (p .at) (length s)) 0 a
+
+  pub words-length : length (entryWords s w at p r) ≡ length w
+  unfolding entryWords
+  words-length =
+      let x = set w at (min (p .at) (length s)) in
+      length-set (set x (at + 1) (p .len)) (at + 2) r ∙ length-set x (at + 1) (p .len) ∙ length-set w at (min (p .at) (length s))
+
+  pub words-kept : (n : ℕ) → n ≤ at → Kept n w (entryWords s w at p r)
+  unfolding entryWords
+  words-kept n h =
+      let x = set w at (min (p .at) (length s)) in
+      kept-then (kept-then (kept-set n at (min (p .at) (length s)) w h) (kept-set n (at + 1) (p .len) x (omega arith))) (kept-set n (at + 2) r (set x (at + 1) (p .len)) (omega arith))
+
+  -- a table that ends before the entry, or begins after it
+  names-low : (n b : ℕ) → b + 3 * n ≤ at → names n s (entryWords s w at p r) b ≡ names n s w b
+  unfolding names entry
+  names-low zero b h = refl
+  names-low (suc n) b h =
+      rw (words-other b (λ e. omega arith) (λ e. omega arith) (λ e. omega arith), words-other (b + 1) (λ e. omega arith) (λ e. omega arith) (λ e. omega arith),
+      names-low n (b + 3) (omega arith))
+
+  names-high : (n b : ℕ) → at + 3 ≤ b → names n s (entryWords s w at p r) b ≡ names n s w b
+  unfolding names entry
+  names-high zero b h = refl
+  names-high (suc n) b h =
+      rw (words-other b (λ e. omega arith) (λ e. omega arith) (λ e. omega arith), words-other (b + 1) (λ e. omega arith) (λ e. omega arith) (λ e. omega arith),
+      names-high n (b + 3) (omega arith))
+
+-- the last name, after the others
+names-snoc : (n : ℕ) (s w : List ℕ) (b : ℕ) → names (suc n) s w b ≡ names n s w b ++ (entry s w (b + 3 * n) ∷ [])
+unfolding names
+names-snoc zero s w b = (let e : b + 3 * 0 ≡ b = omega arith in rw e)
+names-snoc (suc n) s w b = (let e : b + 3 + 3 * n ≡ b + 3 * suc n = omega arith in ap (λ (l : Namespace Identifier). entry s w b ∷ l) (names-snoc n s w (b + 3) ∙ rw e))
+
+-- ## One item more
+
+-- the tables, as far as items have come
+pub record Holding (s w : List ℕ) (seen : Seen) (xs : Items Identifier) : Type 0 where
+  pub each : (k : Space) → space k xs ≡ tableAt seen k s w
+  pub few : (k : Space) → countOf seen k ≤ 256
+  pub seven : length (seen .counts) ≡ 7
+
+code-small : (k : Space) → code k < 7
+code-small funcs = omega arith
+code-small tables = omega arith
+code-small mems = omega arith
+code-small globals = omega arith
+code-small types = omega arith
+code-small elems = omega arith
+code-small datas = omega arith
+
+space-append : (k : Space) (xs ys : Items Identifier) → space k (xs ++ ys) ≡ space k xs ++ space k ys
+unfolding space
+space-append k [] ys = refl
+space-append k ((j, i) ∷ xs) ys = rw (space-append k xs ys) (sym (append-assoc (if sameSpace k j then i ∷ [] else []) (space k xs) (space k ys)))
+
+-- two tables do not meet
+apart : (k j : Space) (n m : ℕ) → n ≤ 256 → m < 256 → (code k ≡ code j → ⊥) → (base k + 3 * n ≤ base j + 3 * m → ⊥) → base j + 3 * m + 3 ≤ base k
+unfolding base
+apart k j n m h g d e = omega arith
+
+module _ (s w : List ℕ) (seen : Seen) (xs : Items Identifier) (h : Holding s w seen xs) (j : Space) (p : Part) (r : ℕ) (low : countOf seen j < 256) (long : 16384 ≤ length w) where
+  abbrev w′ : List ℕ
+  w′ = entryWords s w (base j + 3 * countOf seen j) p r
+
+  count-same : (k : Space) → code k ≡ code j → countOf (oneMore seen j) k ≡ countOf seen k + 1
+  unfolding oneMore up
+  count-same k d =
+      let l : code j < length (seen .counts) = omega (arith, code-small j, h .seven) in
+      rw (d, getD-set-same (seen .counts) (code j) _ 0 l, lt-ltb _ _ low) refl
+
+  count-other : (k : Space) → (code k ≡ code j → ⊥) → countOf (oneMore seen j) k ≡ countOf seen k
+  unfolding oneMore
+  count-other k d = getD-set-other (seen .counts) (code j) (code k) _ 0 d
+
+  table-same : (k : Space) → code k ≡ code j → tableAt (oneMore seen j) k s w′ ≡ tableAt seen k s w ++ (idOf s p ∷ [])
+  unfolding tableAt base
+  table-same k d =
+      let c : countOf (oneMore seen j) k ≡ suc (countOf seen k) = count-same k d ∙ omega arith in
+      let e : countOf seen k ≡ countOf seen j = ap (λ n. getD (seen .counts) n 0) d in
+      let a : names (countOf seen k) s w′ (base k) ≡ names (countOf seen k) s w (base k) = names-low s w (base j + 3 * countOf seen j) p r (countOf seen k) (base k) (omega arith) in
+      let g : base k + 3 * countOf seen k ≡ base j + 3 * countOf seen j = omega arith in
+      let b : entry s w′ (base k + 3 * countOf seen k) ≡ idOf s p = rw g (entry-written s w (base j + 3 * countOf seen j) p r (omega (arith, base-low j))) in
+      rw (c, names-snoc (countOf seen k) s w′ (base k), a, b) refl
+
+  table-other : (k : Space) → (code k ≡ code j → ⊥) → tableAt (oneMore seen j) k s w′ ≡ tableAt seen k s w
+  unfolding tableAt
+  table-other k d = rw (count-other k d) (go (decLe (base k + 3 * countOf seen k) (base j + 3 * countOf seen j)))
+    where
+      go : Dec (base k + 3 * countOf seen k ≤ base j + 3 * countOf seen j) → names (countOf seen k) s w′ (base k) ≡ names (countOf seen k) s w (base k)
+      go (yes e) = names-low s w (base j + 3 * countOf seen j) p r (countOf seen k) (base k) e
+      go (no e) = names-high s w (base j + 3 * countOf seen j) p r (countOf seen k) (base k) (apart k j (countOf seen k) (countOf seen j) (h .few k) low d e)
+
+  pub holding-more : Holding s w′ (oneMore seen j) (xs ++ ((j, idOf s p) ∷ []))
+  unfolding space
+  holding-more = record { each = λ k. go k (eqb (code k) (code j)) refl; few = λ k. less k (eqb (code k) (code j)) refl; seven = long-as }
+    where
+      long-as : length (oneMore seen j .counts) ≡ 7
+      long-as = unfold oneMore in length-set (seen .counts) (code j) _ ∙ h .seven
+
+      less : (k : Space) (t : Bool) → eqb (code k) (code j) ≡ t → countOf (oneMore seen j) k ≤ 256
+      less k true e =
+          let d = eqb-true _ _ e in
+          let f : countOf seen k ≡ countOf seen j = ap (λ n. getD (seen .counts) n 0) d in
+          omega (arith, count-same k d)
+      less k false e = omega (arith, count-other k (eqb-false _ _ e), h .few k)
+
+      go : (k : Space) (t : Bool) → eqb (code k) (code j) ≡ t → space k (xs ++ ((j, idOf s p) ∷ [])) ≡ tableAt (oneMore seen j) k s w′
+      go k true e = rw (space-append k xs, e, h .each k) (sym (table-same k (eqb-true _ _ e)))
+      go k false e = rw (space-append k xs, e, append-nil, h .each k) (sym (table-other k (eqb-false _ _ e)))
