@@ -1,4 +1,4 @@
 pub mod Cursors
-pub mod Steps
 pub mod Gives
+pub mod Steps
 pub mod Join
