@@ -16,7 +16,7 @@ use Rattle.definition.specs.Syntax.{FieldRec, typeR, importR, itemR, exportR, s
 use Rattle.definition.specs.Reader.{Step, got, fault, onward, require, give, byte, _>>=_, _>>_}
 use Rattle.definition.specs.Instructions.{formOf, formed, bodyRec}
 use Rattle.definition.specs.Records.{Room, fieldRec}
-use Rattle.definition.specs.Spaces.{sourceSpace, brings, count}
+use Rattle.definition.specs.Spaces.{sourceSpace, externSpace, ownSpace, segments, brings, count}
 use Rattle.definition.specs.Read as Read
 use Rattle.definition.specs.Read.{room, seenAfter, bodyAfter, itemsAfter, startedAfter, fieldBody, sourceBody, ownBody, openAfter, instrBody, recordIn, oneRecord, beginsIn, atEnd, nothingSeen, records, read}
 use Rattle.definition.specs.Deinline.{fieldsOf, bodyOf, deinlineFrom, deinline}
@@ -156,3 +156,192 @@ body-after (suc n) k r seen s here rs b e = go (decLe (length s) here) (λ k′ 
         let l : here < length s = omega arith in
         let v = accepted-next n r seen s here rs l e in
         on l ih (v .rec) (v .next) (v .rest) (v .reads) (v .is) (v .goes-on)
+
+-- ## Fields
+
+-- outside a body a field is read
+record Field-read (seen : Read.Seen) (s : Bytes) (here : ℕ) (x : Rec Identifier) (next : ℕ) : Type 0 where
+  rec : FieldRec Identifier
+  is : x ≡ field rec
+  reads : fieldRec (room seen) s here ≡ got rec next
+
+field-read : (seen : Read.Seen) (s : Bytes) (here : ℕ) (x : Rec Identifier) (next : ℕ) → seen .body ≡ none → oneRecord seen s here ≡ got x next
+    → Field-read seen s here x next
+unfolding oneRecord
+field-read seen s here x next b e =
+    let c = came (fieldRec (room seen) s here) (ap (λ z. recordIn (room seen) z s here) (sym b) ∙ e) in
+    let d = c .rest in
+    let i : field (c .value) ≡ x = cc in
+    let n : c .next ≡ next = cc in
+    record { rec = c .value; is = sym i; reads = c .first ∙ rw n }
+
+-- so no body follows
+no-body : (left r : ℕ) (seen : Read.Seen) (s : Bytes) (here : ℕ) (rs : List (Rec Identifier)) → seen .body ≡ none → records left r seen s here ≡ ok rs → bodyOf rs ≡ []
+unfolding bodyOf
+no-body left r seen s here rs b e = go left (decLe (length s) here) e
+  where
+    go : (left : ℕ) → Dec (length s ≤ here) → records left r seen s here ≡ ok rs → bodyOf rs ≡ []
+    go left (yes h) e = rw (at-end r seen s here rs left h e b)
+    go zero (no h) e = let z = some-left r seen s here rs zero (omega arith) e in absurd (omega arith)
+    go (suc n) (no h) e =
+        let v = accepted-next n r seen s here rs (omega arith) e in
+        let f = field-read seen s here (v .rec) (v .next) b (v .reads) in
+        let i : rs ≡ field (f .rec) ∷ v .rest = v .is ∙ ap (λ z. z ∷ v .rest) (f .is) in
+        rw i
+
+-- ## What a field brings
+
+brings-more : (items : List Space) (c : Seen) (ks : List Space) → Holds items (c .counts) → Holds (ks ++ items) (counting c ks .counts)
+unfolding counting oneMore
+brings-more items c [] h = h
+brings-more items c (k ∷ ks) h = holds-more k (brings-more items c ks h)
+
+counts-with : (d : Read.Seen) (c : Seen) (f : FieldRec Identifier) → Counts d c → Counts (seenAfter d (field f)) (seenWith c f)
+unfolding seenAfter itemsAfter startedAfter seenWith
+counts-with d c f h =
+    let e = h .started in
+    record { items = brings-more (d .items) c (brings f) (h .items); started = rw e }
+
+-- the number of an item that had room is not capped
+number-is : (d : Read.Seen) (c : Seen) (f : FieldRec Identifier) (b : List (Syntax.Instr Identifier)) → Counts d c → RoomyField (room d) f
+    → fieldsOf (countOf c) f b ≡ fieldsOf (λ k. count k (d .items)) f b
+unfolding fieldsOf room
+number-is d c (typeR i t) b h v = refl
+number-is d c (importR n i x) b h v = refl
+number-is d c (itemR i es x) b h v =
+    let l : count (sourceSpace x) (d .items) < 256 = ltb-true _ _ (v .space) in
+    let e : countOf c (sourceSpace x) ≡ count (sourceSpace x) (d .items) = h .items .each (sourceSpace x) ∙ omega arith in
+    rw e
+number-is d c (exportR n k x) b h v = refl
+number-is d c (startR x) b h v = refl
+number-is d c (elemR i m xs) b h v = refl
+number-is d c (dataR i m x) b h v = refl
+
+-- functions: 256 at most, and one more with each body
+record Funcs (items : List Space) (f : FieldRec Identifier) : Type 0 where
+  few : count funcs (brings f ++ items) ≤ 256
+  more : count funcs items + bodies (fieldBody f) ≤ count funcs (brings f ++ items)
+
+module _ (d : Read.Seen) (l : count funcs (d .items) ≤ 256) where
+  extern-funcs : (k : Space) → ltb (count k (d .items)) 256 ≡ true → (count funcs (k ∷ d .items) ≤ 256) × (count funcs (d .items) ≤ count funcs (k ∷ d .items))
+  unfolding count
+  extern-funcs Syntax.funcs v = let h : count funcs (d .items) < 256 = ltb-true _ _ v in (omega arith, omega arith)
+  extern-funcs Syntax.tables v = (omega arith, omega arith)
+  extern-funcs Syntax.mems v = (omega arith, omega arith)
+  extern-funcs Syntax.globals v = (omega arith, omega arith)
+  extern-funcs Syntax.types v = (omega arith, omega arith)
+  extern-funcs Syntax.elems v = (omega arith, omega arith)
+  extern-funcs Syntax.datas v = (omega arith, omega arith)
+
+  source-funcs : (i : Option Identifier) (es : List Bytes) (x : Source Identifier) → Roomy (room d) x → Funcs (d .items) (itemR i es x)
+  unfolding count brings fieldBody sourceBody ownBody sourceSpace ownSpace segments room
+  source-funcs i es (own (ownFunc t ls)) v = let h : count funcs (d .items) < 256 = ltb-true _ _ (v .space) in record { few = omega arith; more = omega arith }
+  source-funcs i es (own (ownTable t)) v = record { few = omega arith; more = omega arith }
+  source-funcs i es (own (ownMem m)) v = record { few = omega arith; more = omega arith }
+  source-funcs i es (own (ownGlobal t c)) v = record { few = omega arith; more = omega arith }
+  source-funcs i es (imported n x) v = let h = extern-funcs (externSpace x) (v .space) in record { few = h .0; more = omega (arith, h .1) }
+  source-funcs i es (tableOf w xs) v = record { few = omega arith; more = omega arith }
+  source-funcs i es (memOf w x) v = record { few = omega arith; more = omega arith }
+
+  field-funcs : (f : FieldRec Identifier) → RoomyField (room d) f → Funcs (d .items) f
+  unfolding count brings fieldBody room
+  field-funcs (typeR i t) v = record { few = omega arith; more = omega arith }
+  field-funcs (importR n i x) v = let h = extern-funcs (externSpace x) v in record { few = h .0; more = omega (arith, h .1) }
+  field-funcs (itemR i es x) v = source-funcs i es x v
+  field-funcs (exportR n k x) v = record { few = omega arith; more = omega arith }
+  field-funcs (startR x) v = record { few = omega arith; more = omega arith }
+  field-funcs (elemR i m xs) v = record { few = omega arith; more = omega arith }
+  field-funcs (dataR i m x) v = record { few = omega arith; more = omega arith }
+
+-- ## The join
+
+-- a cursor stands where the definition reads on, outside a body
+record Stands (c : Cursor) (s : Bytes) (left : ℕ) (seen : Read.Seen) (rs : List (Rec Identifier)) : Type 0 where
+  goes-on : records left (c .rec) seen s (c .at) ≡ ok rs
+  outside : seen .body ≡ none
+  counts : Counts seen (c .seen)
+  sum : left + c .rec ≡ 4096
+  funcs : count funcs (seen .items) ≤ 256
+
+-- after a field, the cursor that follows stands too
+record Onward (c : Cursor) (f : FieldRec Identifier) (s : Bytes) (next n : ℕ) (seen : Read.Seen) (rest : List (Rec Identifier)) : Type 0 where
+  later : ℕ
+  seen′ : Read.Seen
+  rest′ : List (Rec Identifier)
+  stands : Stands (cursorAfter c f s next) s later seen′ rest′
+  fewer : later ≤ n
+  body : bodyIn (fieldBody f) (c .rec + 1) s next ≡ bodyOf rest
+  fields : deinlineFrom (c .rec + 1) (brings f ++ seen .items) rest ≡ deinlineFrom (cursorAfter c f s next .rec) (seen′ .items) rest′
+  passes : (es : List ℕ) → pass n (c .rec + 1) (seenAfter seen (field f)) es s next
+      ≡ pass later (cursorAfter c f s next .rec) seen′ (es ++ endOf (fieldBody f) (cursorAfter c f s next)) s (cursorAfter c f s next .at)
+  more : count funcs (seen .items) + bodies (fieldBody f) ≤ count funcs (seen′ .items)
+
+module _ (c : Cursor) (f : FieldRec Identifier) (s : Bytes) (next n : ℕ) (seen : Read.Seen) (rest : List (Rec Identifier))
+    (v : Counts seen (c .seen)) (l : n + (c .rec + 1) ≡ 4096) (k : Funcs (seen .items) f) (g : records n (c .rec + 1) (seenAfter seen (field f)) s next ≡ ok rest) where
+  onward-none : fieldBody f ≡ none → Onward c f s next n seen rest
+  unfolding cursorAfter seenAfter bodyAfter itemsAfter
+  onward-none b =
+      let q : afterField (fieldBody f) (c .rec + 1) s next ≡ record { at = next; rec = c .rec + 1 } = ap (λ z. afterField z (c .rec + 1) s next) b in
+      record {
+        later = n;
+        seen′ = seenAfter seen (field f);
+        rest′ = rest;
+        stands = record {
+          goes-on = ap (λ (z : Stop). records n (z .rec) (seenAfter seen (field f)) s (z .at)) q ∙ g;
+          outside = b;
+          counts = counts-with seen (c .seen) f v;
+          sum = ap (λ (z : Stop). n + z .rec) q ∙ l;
+          funcs = k .few;
+        };
+        fewer = omega arith;
+        body = ap (λ z. bodyIn z (c .rec + 1) s next) b ∙ sym (no-body n (c .rec + 1) (seenAfter seen (field f)) s next rest b g);
+        fields = sym (ap (λ (z : Stop). deinlineFrom (z .rec) (brings f ++ seen .items) rest) q);
+        passes = λ es.
+            ap (λ z. pass n (c .rec + 1) (seenAfter seen (field f)) z s next) (sym (append-nil es))
+            ∙ sym (ap (λ (z : Stop). pass n (z .rec) (seenAfter seen (field f)) (es ++ []) s (z .at)) q)
+            ∙ ap (λ z. pass n (cursorAfter c f s next .rec) (seenAfter seen (field f)) (es ++ endOf z (cursorAfter c f s next)) s (cursorAfter c f s next .at)) (sym b);
+        more = k .more;
+      }
+
+  onward-some : (j : ℕ) → fieldBody f ≡ some j → After n j (c .rec + 1) (seenAfter seen (field f)) s next rest → Onward c f s next n seen rest
+  unfolding cursorAfter seenAfter bodyAfter itemsAfter startedAfter
+  onward-some j b a =
+      let m : 4096 - (c .rec + 1) ≡ n = omega arith in
+      let q : afterField (fieldBody f) (c .rec + 1) s next ≡ a .stop =
+          ap (λ z. afterField z (c .rec + 1) s next) b ∙ ap (λ z. afterBody z j (c .rec + 1) s next) m ∙ a .stops in
+      let w = counts-with seen (c .seen) f v in
+      let i = a .items in
+      record {
+        later = a .later;
+        seen′ = a .seen′;
+        rest′ = a .rest;
+        stands = record {
+          goes-on = ap (λ (z : Stop). records (a .later) (z .rec) (a .seen′) s (z .at)) q ∙ a .goes-on;
+          outside = a .outside;
+          counts = record { items = rw i (w .items); started = a .started ∙ w .started };
+          sum = ap (λ (z : Stop). a .later + z .rec) q ∙ a .sum ∙ l;
+          funcs = rw i (k .few);
+        };
+        fewer = omega (arith, a .fewer);
+        body = ap (λ z. bodyIn z (c .rec + 1) s next) b ∙ ap (λ z. bodyFrom z j s next) m ∙ a .body;
+        fields =
+            a .fields (brings f ++ seen .items)
+            ∙ sym (ap (λ (z : Stop). deinlineFrom (z .rec) (brings f ++ seen .items) (a .rest)) q)
+            ∙ ap (λ z. deinlineFrom (cursorAfter c f s next .rec) z (a .rest)) (sym i);
+        passes = λ es.
+            a .passes es
+            ∙ sym (ap (λ (z : Stop). pass (a .later) (z .rec) (a .seen′) (es ++ (z .at ∷ z .rec ∷ [])) s (z .at)) q)
+            ∙ ap (λ z. pass (a .later) (cursorAfter c f s next .rec) (a .seen′) (es ++ endOf z (cursorAfter c f s next)) s (cursorAfter c f s next .at)) (sym b);
+        more = rw i (k .more);
+      }
+
+  in-body : (j : ℕ) → fieldBody f ≡ some j → After n j (c .rec + 1) (seenAfter seen (field f)) s next rest
+  unfolding seenAfter bodyAfter
+  in-body j b = body-after n j (c .rec + 1) (seenAfter seen (field f)) s next rest b g
+
+  onward-is : Onward c f s next n seen rest
+  onward-is = go (fieldBody f) refl
+    where
+      go : (b : Option ℕ) → fieldBody f ≡ b → Onward c f s next n seen rest
+      go none b = onward-none b
+      go (some j) b = onward-some j b (in-body j b)
