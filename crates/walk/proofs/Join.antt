@@ -24,7 +24,8 @@ use Rattle.laws.proofs.Backwards.{came, passed}
 use Rattle.laws.proofs.Reading.{records-end, records-full, accepted-next, Next}
 use Rattle.sources.specs.Views.{countOf, roomOf, noneSeen}
 use Rattle.sources.specs.declared.seen.Seen.{Seen}
-use Rattle.stream.specs.Pass.{pass}
+use Rattle.stream.specs.Pass as Pass
+use Rattle.stream.specs.Pass.{Passed, pass}
 use Rattle.stream.specs.Counting.{oneMore}
 use Rattle.stream.proofs.Model.{pass-end, pass-got}
 use Rattle.stream.proofs.Counts.{Holds, Counts, holds-more, counts-none, counts-instr, counts-end, room-same}
@@ -345,3 +346,132 @@ module _ (c : Cursor) (f : FieldRec Identifier) (s : Bytes) (next n : ℕ) (seen
       go : (b : Option ℕ) → fieldBody f ≡ b → Onward c f s next n seen rest
       go none b = onward-none b
       go (some j) b = onward-some j b (in-body j b)
+
+-- the fields and the ends from a cursor on, and how many ends there are
+record Joined (fuel : ℕ) (c : Cursor) (s : Bytes) (left : ℕ) (seen : Read.Seen) (rs : List (Rec Identifier)) : Type 0 where
+  fields : fieldsFrom fuel c s ≡ deinlineFrom (c .rec) (seen .items) rs
+  ends : (es : List ℕ) → pass left (c .rec) seen es s (c .at) .ends ≡ es ++ endsFrom fuel c s
+  few : length (endsFrom fuel c s) + 2 * count funcs (seen .items) ≤ 512
+
+-- at the stream's end nothing is visited
+visit-nothing : (c : Cursor) (s : Bytes) → length s ≤ c .at → visitAt c s ≡ none
+unfolding visitAt
+visit-nothing c s h = rw (le-leb _ _ h) (go (leb 4096 (c .rec)))
+  where
+    go : (t : Bool) → _≡_ {A = Option Visited} (if t then none else none) none
+    go true = refl
+    go false = refl
+
+-- within it the field that the definition reads
+visit-read : (c : Cursor) (s : Bytes) (seen : Read.Seen) (f : FieldRec Identifier) (next : ℕ) → Counts seen (c .seen) → c .rec < 4096 → c .at < length s
+    → fieldRec (room seen) s (c .at) ≡ got f next → visitAt c s ≡ some (record { field = f; head-end = next; next = cursorAfter c f s next })
+unfolding visitAt
+visit-read c s seen f next v l h e =
+    let d : fieldRec (roomOf (c .seen)) s (c .at) ≡ got f next = rw (← room-same v) e in
+    rw (lt-leb _ _ l, lt-leb _ _ h, d)
+
+ends-long : (b : Option ℕ) (c : Cursor) → length (endOf b c) ≡ 2 * bodies b
+ends-long none c = refl
+ends-long (some k) c = refl
+
+-- nothing is left
+joined-end : (fuel : ℕ) (c : Cursor) (s : Bytes) (left : ℕ) (seen : Read.Seen) (rs : List (Rec Identifier)) → length s ≤ c .at
+    → Stands c s left seen rs → Joined fuel c s left seen rs
+unfolding fieldsFrom endsFrom deinlineFrom
+joined-end fuel c s left seen rs h v = go fuel
+  where
+    none-left : rs ≡ []
+    none-left = at-end (c .rec) seen s (c .at) rs left h (v .goes-on) (v .outside)
+
+    ends-same : (es : List ℕ) → pass left (c .rec) seen es s (c .at) .ends ≡ es
+    ends-same es = ap (λ (z : Passed). z .ends) (pass-end (c .rec) seen es s (c .at) left h)
+
+    go : (fuel : ℕ) → Joined fuel c s left seen rs
+    go zero = record { fields = rw none-left; ends = λ es. ends-same es ∙ sym (append-nil es); few = omega (arith, v .funcs) }
+    go (suc m) =
+        let d = visit-nothing c s h in
+        record { fields = rw (d, none-left); ends = λ es. ends-same es ∙ rw d (sym (append-nil es)); few = rw d (omega (arith, v .funcs)) }
+
+-- one field is read, and the rest is joined
+joined-field : (m : ℕ) (c : Cursor) (s : Bytes) (n : ℕ) (seen : Read.Seen) (rs rest : List (Rec Identifier)) (f : FieldRec Identifier) (next : ℕ)
+    → Counts seen (c .seen) → RoomyField (room seen) f
+    → visitAt c s ≡ some (record { field = f; head-end = next; next = cursorAfter c f s next })
+    → ((es : List ℕ) → pass (suc n) (c .rec) seen es s (c .at) ≡ pass n (c .rec + 1) (seenAfter seen (field f)) es s next)
+    → rs ≡ field f ∷ rest
+    → (o : Onward c f s next n seen rest)
+    → Joined m (cursorAfter c f s next) s (o .later) (o .seen′) (o .rest′)
+    → Joined (suc m) c s (suc n) seen rs
+unfolding fieldsFrom endsFrom deinlineFrom fieldsHere
+joined-field m c s n seen rs rest f next v k d p i o j =
+    let a : bodyIn (fieldBody f) (c .rec + 1) s next ≡ bodyOf rest = o .body in
+    let b : fieldsOf (countOf (c .seen)) f (bodyOf rest) ≡ fieldsOf (λ k. count k (seen .items)) f (bodyOf rest) = number-is seen (c .seen) f (bodyOf rest) v k in
+    let g : fieldsFrom m (cursorAfter c f s next) s ≡ deinlineFrom (c .rec + 1) (brings f ++ seen .items) rest = j .fields ∙ sym (o .fields) in
+    let l = length-append (endOf (fieldBody f) (cursorAfter c f s next)) (endsFrom m (cursorAfter c f s next) s) in
+    let e = ends-long (fieldBody f) (cursorAfter c f s next) in
+    record {
+      fields = rw (d, i, a, b, g);
+      ends = λ es.
+          ap (λ (z : Passed). z .ends) (p es ∙ o .passes es)
+          ∙ j .ends (es ++ endOf (fieldBody f) (cursorAfter c f s next))
+          ∙ append-assoc es (endOf (fieldBody f) (cursorAfter c f s next)) (endsFrom m (cursorAfter c f s next) s)
+          ∙ rw d;
+      few = rw d (omega (arith, l, e, j .few, o .more));
+    }
+
+joined : (fuel : ℕ) (c : Cursor) (s : Bytes) (left : ℕ) (seen : Read.Seen) (rs : List (Rec Identifier)) → left ≤ fuel → Stands c s left seen rs
+    → Joined fuel c s left seen rs
+joined zero c s left seen rs h v = go (decLe (length s) (c .at))
+  where
+    go : Dec (length s ≤ c .at) → Joined zero c s left seen rs
+    go (yes g) = joined-end zero c s left seen rs g v
+    go (no g) = let z = some-left (c .rec) seen s (c .at) rs left (omega arith) (v .goes-on) in absurd (omega arith)
+joined (suc m) c s left seen rs h v = go (decLe (length s) (c .at)) left h v (λ c left seen rs. joined m c s left seen rs)
+  where
+    Again : Type 0
+    Again = (c : Cursor) (left : ℕ) (seen : Read.Seen) (rs : List (Rec Identifier)) → left ≤ m → Stands c s left seen rs → Joined m c s left seen rs
+
+    on : (n : ℕ) → n ≤ m → Again → c .at < length s → Stands c s (suc n) seen rs → (x : Next n (c .rec) seen s (c .at) rs)
+        → Field-read seen s (c .at) (x .rec) (x .next) → Joined (suc m) c s (suc n) seen rs
+    on n h ih g v x f =
+        let i : rs ≡ field (f .rec) ∷ x .rest = x .is ∙ ap (λ z. z ∷ x .rest) (f .is) in
+        let k = roomy (room seen) s (c .at) (f .rec) (x .next) (f .reads) in
+        let l : c .rec < 4096 = omega (arith, v .sum) in
+        let d = visit-read c s seen (f .rec) (x .next) (v .counts) l g (f .reads) in
+        let y : oneRecord seen s (c .at) ≡ got (field (f .rec)) (x .next) = x .reads ∙ ap (λ z. got z (x .next)) (f .is) in
+        let w : records n (c .rec + 1) (seenAfter seen (field (f .rec))) s (x .next) ≡ ok (x .rest) =
+            ap (λ z. records n (c .rec + 1) (seenAfter seen z) s (x .next)) (sym (f .is)) ∙ x .goes-on in
+        let t : suc n - 1 ≡ n = omega arith in
+        let o = onward-is c (f .rec) s (x .next) n seen (x .rest) (v .counts) (omega (arith, v .sum)) (field-funcs seen (v .funcs) (f .rec) k) w in
+        joined-field m c s n seen rs (x .rest) (f .rec) (x .next) (v .counts) k d
+        (λ es. pass-got (c .rec) seen es s (c .at) (suc n) (field (f .rec)) (x .next) g (omega arith) y ∙ rw (t, append-nil))
+        i o (ih (cursorAfter c (f .rec) s (x .next)) (o .later) (o .seen′) (o .rest′) (omega (arith, o .fewer)) (o .stands))
+
+    go : Dec (length s ≤ c .at) → (left : ℕ) → left ≤ suc m → Stands c s left seen rs → Again → Joined (suc m) c s left seen rs
+    go (yes g) left h v ih = joined-end (suc m) c s left seen rs g v
+    go (no g) zero h v ih = let z = some-left (c .rec) seen s (c .at) rs zero (omega arith) (v .goes-on) in absurd (omega arith)
+    go (no g) (suc n) h v ih =
+        let l : c .at < length s = omega arith in
+        let x = accepted-next n (c .rec) seen s (c .at) rs l (v .goes-on) in
+        on n (omega arith) ih l v x (field-read seen s (c .at) (x .rec) (x .next) (v .outside) (x .reads))
+
+-- ## A whole stream
+
+stands-begin : (s : Bytes) (rs : List (Rec Identifier)) → read s ≡ ok rs → Stands begin s 4096 nothingSeen rs
+unfolding read begin nothingSeen count
+stands-begin s rs e = record { goes-on = e; outside = refl; counts = counts-none; sum = refl; funcs = omega arith }
+
+joined-begin : (s : Bytes) (rs : List (Rec Identifier)) → read s ≡ ok rs → Joined 4096 begin s 4096 nothingSeen rs
+joined-begin s rs e = joined 4096 begin s 4096 nothingSeen rs (omega arith) (stands-begin s rs e)
+
+-- the fields are the definition's
+pub fields-in : (s : Bytes) (rs : List (Rec Identifier)) → read s ≡ ok rs → fieldsIn s ≡ deinline rs
+unfolding fieldsIn fieldsAhead begin deinline nothingSeen
+fields-in s rs e = joined-begin s rs e .fields
+
+-- the ends of bodies are those that reading finds, for 256 functions at most
+pub ends-in : (s : Bytes) (rs : List (Rec Identifier)) → read s ≡ ok rs → Pass.passed s .ends ≡ endsFrom 4096 begin s
+unfolding Pass.passed begin
+ends-in s rs e = joined-begin s rs e .ends []
+
+pub ends-few : (s : Bytes) (rs : List (Rec Identifier)) → read s ≡ ok rs → length (endsFrom 4096 begin s) ≤ 512
+ends-few s rs e = omega (arith, joined-begin s rs e .few)
