@@ -1,4 +1,4 @@
--- What a field that was read tells: its item had room, and a function has at most 64 parameters and 64 locals.
+-- What a field that was read tells: what it brings had room, and a function has at most 64 parameters and 64 locals.
 use mathlib.Core.Path.{_≡_, refl, ap, sym, _∙_, subst}
 use Prim.Native.Nat.{ℕ, zero, suc, _≤_}
 use mathlib.Core.Bool.{Bool, true, false}
@@ -9,7 +9,7 @@ use lib.ListN.{length}
 use borrow.Author.Tests.{leb-true}
 use native.Mathlib.Omega.{arith}
 use Rattle.definition.specs.Basic.{if_then_else_}
-use Rattle.definition.specs.Syntax.{Bytes, Identifier, Space, funcs, tables, mems, globals, types, elems, datas, TypeUse, Local, ExternType}
+use Rattle.definition.specs.Syntax.{Bytes, Identifier, Space, funcs, tables, mems, globals, types, elems, datas, TypeUse, Local, ImportName, ExternType}
 use Rattle.definition.specs.Syntax.{Own, ownFunc, ownTable, ownMem, ownGlobal, Source, own, imported, tableOf, memOf, FieldRec, typeR, importR, itemR, exportR, startR, elemR, dataR}
 use Rattle.definition.specs.Reader.{Step, got, fault, Reader, onward, require, give, byte, many, choose, _>>=_, _>>_}
 use Rattle.definition.specs.Token.{u32, upTo, counted, identifier, string, bytes, valType, flag64, limits, tableType, globalType, present, optional, param, typeUse}
