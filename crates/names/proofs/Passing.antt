@@ -4,9 +4,9 @@ use mathlib.Core.Path.{_≡_, refl, sym, _∙_, ap}
 use mathlib.Core.Bool.{Bool, true, false}
 use mathlib.Core.List.{List, [], _∷_, _++_, map, append-assoc, map-append}
 use mathlib.Core.Option.{Option, none, some}
-use lib.ListN.{length, getD, take}
+use lib.ListN.{length, getD, set, take, length-set}
 use lib.Dec.{ltb}
-use lib.Seq.{sets, getD-set-other}
+use lib.Seq.{sets, getD-set-same, getD-set-other, take-all}
 use borrow.Author.Tests.{ltb-true}
 use native.Mathlib.Omega.{arith}
 use Rattle.definition.specs.Basic.{if_then_else_, Answer, ok, refused, _>>=_, sameBytes}
@@ -32,9 +32,10 @@ use Rattle.fields.specs.declared.field.Field as Code
 use Rattle.fields.specs.declared.field.Field.the-variants as F
 use Rattle.stream.specs.Counting.{up, oneMore, externBrings, ownBrings}
 use Rattle.stream.proofs.Counts.{extern-brings, own-brings}
-use Rattle.space.specs.Area.{entryWords, names}
+use Rattle.laws.proofs.Sets.{sets-more}
+use Rattle.space.specs.Area.{entry, entryWords, names}
 use Rattle.space.specs.Kept.{Kept}
-use Rattle.space.proofs.Kept.{kept-then, kept-same, kept-less}
+use Rattle.space.proofs.Kept.{kept-then, kept-same, kept-less, kept-set}
 use Rattle.definition.specs.Read.{fieldBody}
 use Rattle.walk.specs.Walk.{bodyIn, counting, seenWith, begin, cursorAfter, visitIn, visitOf, fieldsHere, fieldsAhead, fieldsIn, Ahead}
 use Rattle.walk.specs.declared.Cursor.{Cursor}
@@ -46,7 +47,7 @@ use Rattle.names.specs.Register.{base, tableAt, tableOf, Entry, register
 use Rattle.names.specs.declared.register.Registered.{Registered}
 use Rattle.names.specs.declared.register.Registered.the-variants as R
 use Rattle.names.proofs.Items.{base-low}
-use Rattle.names.proofs.Tables.{Holding, holding-more, words-length, words-kept}
+use Rattle.names.proofs.Tables.{Holding, holding-more, words-length, words-kept, code-small}
 
 -- ## What the definition registers of a field
 
@@ -308,3 +309,83 @@ module _ (s w₀ w : List ℕ) (c : Cursor) (v : Registering s w₀ w c) where
     pub registering-done : m .what ≡ W.Done → register sameBytes [] (fieldsIn s) ≡ ok (v .items)
     unfolding register
     registering-done is = v .same ∙ rw (visit-done s c m told is) refl
+
+-- ## The counts
+
+pub record Counting (w₀ xs w : List ℕ) (i : ℕ) : Type 0 where
+  pub some : i ≤ 7
+  pub same : w ≡ sets w₀ 5897 (take i xs)
+  pub long : length w ≡ length w₀
+
+pub counting-begin : (w xs : List ℕ) → Counting w xs w 0
+counting-begin w xs = record { some = omega arith; same = refl; long = refl }
+
+module _ (w₀ xs w : List ℕ) (i : ℕ) (v : Counting w₀ xs w i) where
+  pub counting-long : length w ≡ length w₀
+  counting-long = v .long
+
+  module _ (f : length xs ≡ 7) where
+    pub counting-again : i < 7 → Counting w₀ xs (set w (5897 + i) (getD xs i 0)) (i + 1)
+    counting-again h =
+        let a = v .same in
+        record {
+          some = omega arith;
+          same = rw a (sym (sets-more w₀ xs 5897 i (omega arith)));
+          long = length-set w (5897 + i) (getD xs i 0) ∙ v .long;
+        }
+
+    pub counting-done : 7 ≤ i → w ≡ sets w₀ 5897 xs
+    counting-done h = let e : i ≡ 7 = omega (arith, v .some) in let t : take i xs ≡ xs = take-all i xs (omega arith) in v .same ∙ rw t
+
+-- the words that were put, and those that were not
+sets-other : (w : List ℕ) (b : ℕ) (xs : List ℕ) (i : ℕ) → b + length xs ≤ i → getD (sets w b xs) i 0 ≡ getD w i 0
+sets-other w b [] i h = refl
+sets-other w b (x ∷ xs) i h = sets-other (set w b x) (suc b) xs i (omega arith) ∙ getD-set-other w b i x 0 (λ e. omega arith)
+
+sets-below : (w : List ℕ) (b : ℕ) (xs : List ℕ) (i : ℕ) → i < b → getD (sets w b xs) i 0 ≡ getD w i 0
+sets-below w b [] i h = refl
+sets-below w b (x ∷ xs) i h = sets-below (set w b x) (suc b) xs i (omega arith) ∙ getD-set-other w b i x 0 (λ e. omega arith)
+
+sets-there : (w : List ℕ) (b : ℕ) (xs : List ℕ) (i : ℕ) → i < length xs → b + length xs ≤ length w → getD (sets w b xs) (b + i) 0 ≡ getD xs i 0
+sets-there w b [] i h l = absurd (omega arith)
+sets-there w b (x ∷ xs) zero h l = (let e : b + 0 ≡ b = omega arith in rw e (sets-below (set w b x) (suc b) xs b (omega arith) ∙ getD-set-same w b x 0 (omega arith)))
+sets-there w b (x ∷ xs) (suc i) h l =
+    (let e : b + suc i ≡ suc b + i = omega arith in rw e (sets-there (set w b x) (suc b) xs i (omega arith) (rw (length-set w b x) (omega arith))))
+
+sets-kept : (n : ℕ) (w : List ℕ) (b : ℕ) (xs : List ℕ) → n ≤ b → Kept n w (sets w b xs)
+sets-kept n w b [] h = kept-same n w
+sets-kept n w b (x ∷ xs) h = kept-then (kept-set n b x w h) (sets-kept n (set w b x) (suc b) xs (omega arith))
+
+-- a table stands above the counts
+names-above : (s w : List ℕ) (xs : List ℕ) (n b : ℕ) → 5897 + length xs ≤ b → names n s (sets w 5897 xs) b ≡ names n s w b
+unfolding names entry
+names-above s w xs zero b h = refl
+names-above s w xs (suc n) b h = rw (sets-other w 5897 xs b h, sets-other w 5897 xs (b + 1) (omega arith), names-above s w xs n (b + 3) (omega arith))
+
+-- all fields were registered, and the counts say how many names there are
+module _ (s w₀ w : List ℕ) (c : Cursor) (v : Registering s w₀ w c) (m : Met) (told : visitIn (c .left) c s ≡ visitOf s m) (is : m .what ≡ W.Done)
+    (long : 16384 ≤ length w) (w′ : List ℕ) (e : w′ ≡ sets w 5897 (c .seen .counts)) where
+  stands-table : (k : Space) → space k (v .items) ≡ tableOf k s w′
+  unfolding tableOf tableAt
+  stands-table k =
+      let a : getD (sets w 5897 (c .seen .counts)) (5897 + code k) 0 ≡ countOf (c .seen) k =
+      sets-there w 5897 (c .seen .counts) (code k) (omega (arith, code-small k, v .holding .seven)) (omega (arith, v .holding .seven)) in
+      let b : min (countOf (c .seen) k) 256 ≡ countOf (c .seen) k = omega (arith, v .holding .few k) in
+      rw (e, a, b, names-above s w (c .seen .counts) (countOf (c .seen) k) (base k) (omega (arith, base-high k, v .holding .seven))) (v .holding .each k)
+
+  pub registers-done : Registers s w₀ R.Done w′
+  unfolding Registers
+  registers-done =
+      record {
+        items = v .items;
+        says = registering-done s w₀ w c v m told is;
+        tables = record { each = stands-table };
+        kept = kept-then (kept-less 5897 5904 (omega arith) (v .kept)) (rw e (sets-kept 5897 w 5897 (c .seen .counts) (omega arith)));
+      }
+
+-- one was refused
+module _ (s w₀ w : List ℕ) (c : Cursor) (v : Registering s w₀ w c) (m : Met) (told : visitIn (c .left) c s ≡ visitOf s m) (f : Code.Field) (here : ℕ) (is : m .what ≡ W.Field f here)
+    (q : Registered) (w′ : List ℕ) (put : registerIn s w (c .seen) (c .rec) (brought f) ≡ registered q w′) (long : 16384 ≤ length w) where
+  pub registers-stops : (n z : ℕ) → q ≡ R.Refused n z → length w′ ≡ length w → Registers s w₀ (R.Refused n z) w′
+  unfolding Registers
+  registers-stops n z d l = (registering-stops s w₀ w c v m told f here is q w′ put long n z d, l ∙ v .kept .long)

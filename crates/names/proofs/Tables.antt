@@ -75,7 +75,7 @@ pub record Holding (s w : List ℕ) (seen : Seen) (xs : Items Identifier) : Type
   pub few : (k : Space) → countOf seen k ≤ 256
   pub seven : length (seen .counts) ≡ 7
 
-code-small : (k : Space) → code k < 7
+pub code-small : (k : Space) → code k < 7
 code-small funcs = omega arith
 code-small tables = omega arith
 code-small mems = omega arith

@@ -35,7 +35,8 @@ pub fn register_all(s: &[u8], work: &mut [u32]) -> Registered
     let mut c = walk::start();
     loop {
         let m = walk::visit(s, work, c);
-        match m.what {
+        let what = m.what;
+        match what {
             What::Field(f, _) => match register_field(s, work, c.seen, f, c.rec) {
                 Registered::Done => {
                     c = m.next;
