@@ -1,0 +1,4 @@
+pub mod Emitting
+pub mod Immediates
+pub mod Parts
+pub mod Ranges
