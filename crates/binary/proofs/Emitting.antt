@@ -1,8 +1,7 @@
 -- Laws of emitters that also resolve: alone, after one another, and where the value goes on into another.
 use Prim.Native.Nat.{ℕ}
-use mathlib.Core.Path.{_≡_, refl, sym, _∙_, ap}
+use mathlib.Core.Path.{_≡_, refl}
 use mathlib.Core.List.{List, _++_}
-use native.Mathlib.Omega.{arith}
 use Rattle.definition.specs.Basic.{Answer, ok, refused, _>>=_}
 use Rattle.definition.specs.Syntax.{Bytes}
 use Rattle.emit.specs.Put.{Put}

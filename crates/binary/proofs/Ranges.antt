@@ -12,7 +12,6 @@ use Rattle.definition.specs.Binary.{limits, limitsOf}
 use Rattle.emit.specs.Put.{Put}
 use Rattle.coretypes.specs.Views.{limitsIs}
 use Rattle.coretypes.specs.declared.Limits.{Limits}
-use Rattle.coretypes.specs.declared.Maximum.{Maximum}
 use Rattle.coretypes.specs.declared.Maximum.the-variants as M
 use Rattle.binary.proofs.Parts.{put-byte-is}
 

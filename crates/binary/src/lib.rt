@@ -1,5 +1,6 @@
 // The binary format (the standard, chapter 5): emitters of what is already resolved.
 pub mod instructions;
+pub mod locals;
 pub mod names;
 pub mod types;
 
@@ -16,6 +17,8 @@ pub use instructions::put_instruction;
 pub use instructions::put_local;
 pub use instructions::put_memarg;
 pub use instructions::put_type_no;
+pub use locals::count_runs;
+pub use locals::put_runs;
 pub use names::put_export;
 pub use names::put_import_name;
 pub use names::put_name;

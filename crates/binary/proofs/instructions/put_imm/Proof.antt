@@ -4,198 +4,143 @@ use Rattle.definition.specs.Binary as Binary
 use borrow.Author.Needs.{needs}
 use Rattle.binary.proofs.instructions.put_imm.Statement.{statement}
 use Rattle.binary.proofs.instructions.put_imm.Tie as tie
-use Rattle.binary.proofs.instructions.put_imm.Reads as reads
-use Rattle.binary.proofs.instructions.put_imm.Lts as lts
-use Rattle.binary.proofs.instructions.put_block_type.Reads as put-block-type-reads
-use Rattle.binary.proofs.instructions.put_depth.Reads as put-depth-reads
-use Rattle.binary.proofs.instructions.put_indirect.Reads as put-indirect-reads
-use Rattle.binary.proofs.instructions.put_local.Reads as put-local-reads
-use Rattle.binary.proofs.instructions.put_memarg.Reads as put-memarg-reads
-use Rattle.binary.proofs.names.put_part.Reads as put-part-reads
-use Rattle.emit.proofs.put.Reads as put-reads
-use Rattle.leb.proofs.put_i32.Reads as put-i32-reads
-use Rattle.leb.proofs.put_i64.Reads as put-i64-reads
-use Rattle.leb.proofs.put_u.Reads as put-u-reads
 
--- src/instructions.rt:91:25
 enum-told : tie.Need-enum-told
 enum-told c = search needs
 
--- src/instructions.rt:92:20
 enum-known-imm : tie.Need-enum-known-imm
 enum-known-imm c = search needs
 
--- src/instructions.rt:92:26
 put-block-type-requires : tie.Need-put-block-type-requires
 put-block-type-requires c κs = search needs
 
--- src/instructions.rt:93:20
 enum-known-imm-2 : tie.Need-enum-known-imm-2
 enum-known-imm-2 c = search needs
 
--- src/instructions.rt:93:26
 put-depth-requires : tie.Need-put-depth-requires
 put-depth-requires c κs = search needs
 
--- src/instructions.rt:94:20
 enum-known-imm-3 : tie.Need-enum-known-imm-3
 enum-known-imm-3 c = search needs
 
--- src/instructions.rt:94:26
 put-local-requires : tie.Need-put-local-requires
 put-local-requires c κs = search needs
 
--- src/instructions.rt:95:19
 enum-known-imm-4 : tie.Need-enum-known-imm-4
 enum-known-imm-4 c = search needs
 
--- src/instructions.rt:95:45
 cast-put-u : tie.Need-cast-put-u
 cast-put-u c = search needs
 
--- src/instructions.rt:95:25
 put-u-requires : tie.Need-put-u-requires
 put-u-requires c κs = search needs
 
--- src/instructions.rt:96:23
 enum-known-imm-5 : tie.Need-enum-known-imm-5
 enum-known-imm-5 c = search needs
 
--- src/instructions.rt:96:36
 put-indirect-requires : tie.Need-put-indirect-requires
 put-indirect-requires c κs = search needs
 
--- src/instructions.rt:97:21
 enum-known-imm-6 : tie.Need-enum-known-imm-6
 enum-known-imm-6 c = search needs
 
--- src/instructions.rt:97:50
 put-memarg-requires : tie.Need-put-memarg-requires
 put-memarg-requires c κs = search needs
 
--- src/instructions.rt:98:20
 enum-known-imm-7 : tie.Need-enum-known-imm-7
 enum-known-imm-7 c = search needs
 
--- src/instructions.rt:98:26
 put-i32-requires : tie.Need-put-i32-requires
 put-i32-requires c κs = search needs
 
--- src/instructions.rt:99:20
 enum-known-imm-8 : tie.Need-enum-known-imm-8
 enum-known-imm-8 c = search needs
 
--- src/instructions.rt:99:26
 put-i64-requires : tie.Need-put-i64-requires
 put-i64-requires c κs = search needs
 
--- src/instructions.rt:100:18
 enum-known-imm-9 : tie.Need-enum-known-imm-9
 enum-known-imm-9 c = search needs
 
--- src/instructions.rt:100:24
 put-part-requires : tie.Need-put-part-requires
 put-part-requires c κs = search needs
 
--- src/instructions.rt:101:19
 enum-known-imm-10 : tie.Need-enum-known-imm-10
 enum-known-imm-10 c = search needs
 
--- src/instructions.rt:101:25
 put-requires : tie.Need-put-requires
 put-requires c κs = search needs
 
--- src/instructions.rt:87:1
 returns : tie.Need-returns
 unfolding Binary.imm
 returns c = search (imm-is, put-skip)
 
--- src/instructions.rt:87:1
 same-length : tie.Need-same-length
 same-length c = search needs
 
--- src/instructions.rt:87:1
 returns-2 : tie.Need-returns-2
 unfolding Binary.imm
 returns-2 c = search imm-is
 
--- src/instructions.rt:87:1
 same-length-2 : tie.Need-same-length-2
 same-length-2 c = search needs
 
--- src/instructions.rt:87:1
 returns-3 : tie.Need-returns-3
 unfolding Binary.imm
 returns-3 c = search imm-is
 
--- src/instructions.rt:87:1
 same-length-3 : tie.Need-same-length-3
 same-length-3 c = search needs
 
--- src/instructions.rt:87:1
 returns-4 : tie.Need-returns-4
 unfolding Binary.imm
 returns-4 c = search imm-is
 
--- src/instructions.rt:87:1
 same-length-4 : tie.Need-same-length-4
 same-length-4 c = search needs
 
--- src/instructions.rt:87:1
 returns-5 : tie.Need-returns-5
 unfolding Binary.imm
 returns-5 c = search imm-is
 
--- src/instructions.rt:87:1
 same-length-5 : tie.Need-same-length-5
 same-length-5 c = search needs
 
--- src/instructions.rt:87:1
 returns-6 : tie.Need-returns-6
 unfolding Binary.imm
 returns-6 c = search imm-is
 
--- src/instructions.rt:87:1
 same-length-6 : tie.Need-same-length-6
 same-length-6 c = search needs
 
--- src/instructions.rt:87:1
 returns-7 : tie.Need-returns-7
 unfolding Binary.imm
 returns-7 c = search imm-is
 
--- src/instructions.rt:87:1
 same-length-7 : tie.Need-same-length-7
 same-length-7 c = search needs
 
--- src/instructions.rt:87:1
 returns-8 : tie.Need-returns-8
 unfolding Binary.imm
 returns-8 c = search imm-is
 
--- src/instructions.rt:87:1
 same-length-8 : tie.Need-same-length-8
 same-length-8 c = search needs
 
--- src/instructions.rt:87:1
 returns-9 : tie.Need-returns-9
 unfolding Binary.imm
 returns-9 c = search imm-is
 
--- src/instructions.rt:87:1
 same-length-9 : tie.Need-same-length-9
 same-length-9 c = search needs
 
--- src/instructions.rt:87:1
 returns-10 : tie.Need-returns-10
 unfolding Binary.imm
 returns-10 c = search imm-is
 
--- src/instructions.rt:87:1
 same-length-10 : tie.Need-same-length-10
 same-length-10 c = search needs
 
--- src/instructions.rt:87:1
 returns-11 : tie.Need-returns-11
 unfolding Binary.imm
 returns-11 c = search imm-is

@@ -3,47 +3,34 @@ use Rattle.emit.proofs.Laws.{put-then}
 use borrow.Author.Needs.{needs}
 use Rattle.binary.proofs.instructions.put_memarg.Statement.{statement}
 use Rattle.binary.proofs.instructions.put_memarg.Tie as tie
-use Rattle.binary.proofs.instructions.put_memarg.Reads as reads
-use Rattle.binary.proofs.instructions.put_memarg.Lts as lts
-use Rattle.leb.proofs.put_u.Reads as put-u-reads
 
--- src/instructions.rt:55:13
 put-u-requires : tie.Need-put-u-requires
 put-u-requires c κs = search needs
 
--- src/instructions.rt:56:9
 put-u-requires-2 : tie.Need-put-u-requires-2
 put-u-requires-2 c κs = search needs
 
--- src/instructions.rt:56:9
 same-length : tie.Need-same-length
 same-length c = search needs
 
--- src/instructions.rt:56:9
 returns : tie.Need-returns
 returns c = search (on-memory-0, on-another, put-then) depth 12
 
--- src/instructions.rt:58:33
 add-put-u : tie.Need-add-put-u
 add-put-u c = search needs
 
--- src/instructions.rt:58:9
 put-u-requires-3 : tie.Need-put-u-requires-3
 put-u-requires-3 c κs = search needs
 
--- src/instructions.rt:59:9
 put-u-requires-4 : tie.Need-put-u-requires-4
 put-u-requires-4 c κs = search needs
 
--- src/instructions.rt:60:5
 put-u-requires-5 : tie.Need-put-u-requires-5
 put-u-requires-5 c κs = search needs
 
--- src/instructions.rt:51:1
 same-length-2 : tie.Need-same-length-2
 same-length-2 c = search needs
 
--- src/instructions.rt:51:1
 returns-2 : tie.Need-returns-2
 returns-2 c = search (on-memory-0, on-another, put-then) depth 12
 

@@ -2,19 +2,13 @@ use Rattle.binary.proofs.Parts.{code-fits}
 use borrow.Author.Needs.{needs}
 use Rattle.binary.proofs.names.space_byte.Statement.{statement}
 use Rattle.binary.proofs.names.space_byte.Tie as tie
-use Rattle.binary.proofs.names.space_byte.Reads as reads
-use Rattle.binary.proofs.names.space_byte.Lts as lts
-use Rattle.sources.proofs.space_code.Reads as space-code-reads
 
--- src/names.rt:41:5
 space-code-requires : tie.Need-space-code-requires
 space-code-requires c κs = search needs
 
--- src/names.rt:41:5
 cast-result : tie.Need-cast-result
 cast-result c = search code-fits
 
--- src/names.rt:38:1
 returns : tie.Need-returns
 returns c = search needs
 
