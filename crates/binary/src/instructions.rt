@@ -2,6 +2,7 @@
 // stand for another.
 use token::Part;
 ghost use mathlib.Core.List.{[], _∷_, _++_};
+ghost use lib.IntN.{pos};
 ghost use Rattle.definition.specs.Binary as Binary;
 ghost use Rattle.emit.specs.Put.{Put};
 ghost use Rattle.binary.specs.Views.{localNoOf, typeNoOf, depthOf, blockTypeOf, immOf, opOf};
@@ -36,14 +37,20 @@ pub enum BlockType {
     Typed(TypeNo),
 }
 
-// A type's number stands in the signed form, so that it differs from the bytes of the short forms.
+// A type's number, in the signed form: so it differs from the bytes of the short forms.
+fn put_typed(out: &mut [u8], at: usize, n: TypeNo) -> usize
+    ensures { λ r. ⌜ Put (now (out .entry)) at (Binary.s (pos (typeNoOf n .type-no))) r (now (out .exit)) ⌝ }
+{
+    leb::put_s33(out, at, n.0)
+}
+
 pub fn put_block_type(out: &mut [u8], at: usize, b: BlockType) -> usize
     ensures { λ r. ⌜ Put (now (out .entry)) at (Binary.blockType (blockTypeOf b)) r (now (out .exit)) ⌝ }
 {
     match b {
         BlockType::Empty => emit::put(out, at, 0x40),
         BlockType::Single(t) => emit::put(out, at, t),
-        BlockType::Typed(n) => leb::put_s33(out, at, n.0),
+        BlockType::Typed(n) => put_typed(out, at, n),
     }
 }
 

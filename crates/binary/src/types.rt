@@ -3,6 +3,7 @@ use coretypes::GlobalType;
 use coretypes::Limits;
 use coretypes::Maximum;
 use coretypes::TableType;
+ghost use Prim.Native.Nat.{_+_};
 ghost use mathlib.Core.Path.{_≡_};
 ghost use mathlib.Core.Option.{none, some};
 ghost use Rattle.definition.specs.Basic.{if_then_else_};
@@ -21,6 +22,16 @@ fn flag(is64: bool) -> u8
     0
 }
 
+// And that of limits with one.
+fn flag_with_maximum(is64: bool) -> u8
+    ensures { λ r. ⌜ r ≡ (if is64 then 4 else 0) + 1 ⌝ }
+{
+    if is64 {
+        return 5;
+    }
+    1
+}
+
 fn put_minimum(out: &mut [u8], at: usize, is64: bool, low: u64) -> usize
     ensures { λ r. ⌜ Put (now (out .entry)) at (Binary.limitsOf (if is64 then 4 else 0) low none) r (now (out .exit)) ⌝ }
 {
@@ -28,11 +39,10 @@ fn put_minimum(out: &mut [u8], at: usize, is64: bool, low: u64) -> usize
     leb::put_u(out, a, low)
 }
 
-// The flag says that a maximum follows.
 fn put_both(out: &mut [u8], at: usize, is64: bool, low: u64, high: u64) -> usize
     ensures { λ r. ⌜ Put (now (out .entry)) at (Binary.limitsOf (if is64 then 4 else 0) low (some high)) r (now (out .exit)) ⌝ }
 {
-    let a = emit::put(out, at, flag(is64) + 1);
+    let a = emit::put(out, at, flag_with_maximum(is64));
     let b = leb::put_u(out, a, low);
     leb::put_u(out, b, high)
 }

@@ -19,29 +19,29 @@ put-requires-2 c κs = search needs
 enum-known-b-2 : tie.Need-enum-known-b-2
 enum-known-b-2 c = search needs
 
-put-s33-requires : tie.Need-put-s33-requires
-put-s33-requires c κs = search needs
+put-typed-requires : tie.Need-put-typed-requires
+put-typed-requires c κs = search needs
 
 same-length : tie.Need-same-length
 same-length c = search needs
 
 returns : tie.Need-returns
 unfolding Binary.blockType
-returns c = search (block-is, needs) depth 8
+returns c = search (block-is)
 
 same-length-2 : tie.Need-same-length-2
 same-length-2 c = search needs
 
 returns-2 : tie.Need-returns-2
 unfolding Binary.blockType
-returns-2 c = search (block-is, needs) depth 8
+returns-2 c = search (block-is)
 
 same-length-3 : tie.Need-same-length-3
 same-length-3 c = search needs
 
 returns-3 : tie.Need-returns-3
 unfolding Binary.blockType
-returns-3 c = search (block-is, needs) depth 8
+returns-3 c = search (block-is)
 
 pub put-block-type-spec : {M : Type 1} → statement M
 put-block-type-spec =
@@ -52,7 +52,7 @@ put-block-type-spec =
     enum-known-b
     put-requires-2
     enum-known-b-2
-    put-s33-requires
+    put-typed-requires
     same-length
     returns
     same-length-2

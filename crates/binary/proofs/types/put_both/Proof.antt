@@ -1,14 +1,11 @@
 use Rattle.emit.proofs.Laws.{put-then}
-use Rattle.binary.proofs.Ranges.{flag-fits, flag-more}
+use Rattle.binary.proofs.Parts.{put-byte-is}
 use borrow.Author.Needs.{needs}
 use Rattle.binary.proofs.types.put_both.Statement.{statement}
 use Rattle.binary.proofs.types.put_both.Tie as tie
 
-flag-requires : tie.Need-flag-requires
-flag-requires c κs = search needs
-
-add-put : tie.Need-add-put
-add-put c = search flag-fits
+flag-with-maximum-requires : tie.Need-flag-with-maximum-requires
+flag-with-maximum-requires c κs = search needs
 
 put-requires : tie.Need-put-requires
 put-requires c κs = search needs
@@ -23,14 +20,13 @@ same-length : tie.Need-same-length
 same-length c = search needs
 
 returns : tie.Need-returns
-returns c = search (flag-more, put-then)
+returns c = search (put-byte-is, put-then)
 
 pub put-both-spec : {M : Type 1} → statement M
 put-both-spec =
     tie.close
     (tie.spec
-    flag-requires
-    add-put
+    flag-with-maximum-requires
     put-requires
     put-u-requires
     put-u-requires-2
