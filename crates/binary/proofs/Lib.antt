@@ -1,0 +1,5 @@
+pub mod Emitting
+pub mod Immediates
+pub mod Parts
+pub mod Ranges
+pub mod Running

@@ -1,0 +1,125 @@
+// Instructions whose immediates are resolved. A local's number, a type's number and a label's depth are three sorts: none can
+// stand for another.
+use token::Part;
+ghost use mathlib.Core.List.{[], _∷_, _++_};
+ghost use lib.IntN.{pos};
+ghost use Rattle.definition.specs.Binary as Binary;
+ghost use Rattle.emit.specs.Put.{Put};
+ghost use Rattle.binary.specs.Views.{localNoOf, typeNoOf, depthOf, blockTypeOf, immOf, opOf};
+
+pub struct LocalNo(pub u32);
+
+pub struct TypeNo(pub u32);
+
+pub struct Depth(pub u32);
+
+pub fn put_local(out: &mut [u8], at: usize, n: LocalNo) -> usize
+    ensures { λ r. ⌜ Put (now (out .entry)) at (Binary.u (localNoOf n .local-no)) r (now (out .exit)) ⌝ }
+{
+    leb::put_u(out, at, n.0 as u64)
+}
+
+pub fn put_type_no(out: &mut [u8], at: usize, n: TypeNo) -> usize
+    ensures { λ r. ⌜ Put (now (out .entry)) at (Binary.u (typeNoOf n .type-no)) r (now (out .exit)) ⌝ }
+{
+    leb::put_u(out, at, n.0 as u64)
+}
+
+pub fn put_depth(out: &mut [u8], at: usize, n: Depth) -> usize
+    ensures { λ r. ⌜ Put (now (out .entry)) at (Binary.u (depthOf n .depth)) r (now (out .exit)) ⌝ }
+{
+    leb::put_u(out, at, n.0 as u64)
+}
+
+pub enum BlockType {
+    Empty,
+    Single(u8),
+    Typed(TypeNo),
+}
+
+// A type's number, in the signed form: so it differs from the bytes of the short forms.
+fn put_typed(out: &mut [u8], at: usize, n: TypeNo) -> usize
+    ensures { λ r. ⌜ Put (now (out .entry)) at (Binary.s (pos (typeNoOf n .type-no))) r (now (out .exit)) ⌝ }
+{
+    leb::put_s33(out, at, n.0)
+}
+
+pub fn put_block_type(out: &mut [u8], at: usize, b: BlockType) -> usize
+    ensures { λ r. ⌜ Put (now (out .entry)) at (Binary.blockType (blockTypeOf b)) r (now (out .exit)) ⌝ }
+{
+    match b {
+        BlockType::Empty => emit::put(out, at, 0x40),
+        BlockType::Single(t) => emit::put(out, at, t),
+        BlockType::Typed(n) => put_typed(out, at, n),
+    }
+}
+
+// A load's or store's alignment, offset and memory. Memory 0 goes without saying.
+pub fn put_memarg(out: &mut [u8], at: usize, exponent: u8, offset: u32, memory: u32) -> usize
+    ensures { λ r. ⌜ Put (now (out .entry)) at (Binary.memarg exponent offset memory) r (now (out .exit)) ⌝ }
+{
+    if memory == 0 {
+        let a = leb::put_u(out, at, exponent as u64);
+        return leb::put_u(out, a, offset as u64);
+    }
+    let a = leb::put_u(out, at, exponent as u64 + 64);
+    let b = leb::put_u(out, a, memory as u64);
+    leb::put_u(out, b, offset as u64)
+}
+
+// What stands after an opcode, the labels of a br_table excepted.
+pub enum Imm {
+    Nothing,
+    Block(BlockType),
+    Label(Depth),
+    Local(LocalNo),
+    Item(u32),
+    // the type, the table
+    Indirect(TypeNo, u32),
+    // the alignment's exponent, the offset, the memory
+    Access(u8, u32, u32),
+    Int32(u32),
+    Int64(u64),
+    Raw(Part),
+    Heap(u8),
+}
+
+fn put_indirect(out: &mut [u8], at: usize, t: TypeNo, table: u32) -> usize
+    ensures { λ r. ⌜ Put (now (out .entry)) at (Binary.u (typeNoOf t .type-no) ++ Binary.u table) r (now (out .exit)) ⌝ }
+{
+    let a = put_type_no(out, at, t);
+    leb::put_u(out, a, table as u64)
+}
+
+pub fn put_imm(out: &mut [u8], at: usize, s: &[u8], imm: Imm) -> usize
+    ensures { λ r. ⌜ Put (now (out .entry)) at (Binary.imm (immOf (now (s .entry)) imm)) r (now (out .exit)) ⌝ }
+{
+    match imm {
+        Imm::Nothing => at,
+        Imm::Block(b) => put_block_type(out, at, b),
+        Imm::Label(d) => put_depth(out, at, d),
+        Imm::Local(n) => put_local(out, at, n),
+        Imm::Item(n) => leb::put_u(out, at, n as u64),
+        Imm::Indirect(t, table) => put_indirect(out, at, t, table),
+        Imm::Access(exponent, offset, memory) => put_memarg(out, at, exponent, offset, memory),
+        Imm::Int32(n) => leb::put_i32(out, at, n),
+        Imm::Int64(n) => leb::put_i64(out, at, n),
+        Imm::Raw(p) => crate::names::put_part(out, at, s, p),
+        Imm::Heap(t) => emit::put(out, at, t),
+    }
+}
+
+pub fn put_instruction(out: &mut [u8], at: usize, s: &[u8], opcode: u8, imm: Imm) -> usize
+    ensures { λ r. ⌜ Put (now (out .entry)) at (Binary.instruction (opOf (now (s .entry)) opcode imm)) r (now (out .exit)) ⌝ }
+{
+    let a = emit::put(out, at, opcode);
+    put_imm(out, a, s, imm)
+}
+
+// A constant: one instruction, and the end.
+pub fn put_constant(out: &mut [u8], at: usize, s: &[u8], opcode: u8, imm: Imm) -> usize
+    ensures { λ r. ⌜ Put (now (out .entry)) at (Binary.expr (opOf (now (s .entry)) opcode imm ∷ [])) r (now (out .exit)) ⌝ }
+{
+    let a = put_instruction(out, at, s, opcode, imm);
+    emit::put(out, a, 0x0B)
+}
