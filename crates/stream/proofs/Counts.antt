@@ -86,14 +86,14 @@ counts-none = record { items = record { each = none; seven = refl }; started = r
     none elems = refl
     none datas = refl
 
-extern-brings : (s : Bytes) (x : Extern) → externBrings x ≡ externSpace (externIs s x)
+pub extern-brings : (s : Bytes) (x : Extern) → externBrings x ≡ externSpace (externIs s x)
 unfolding externSpace
 extern-brings s (E.Func t) = refl
 extern-brings s (E.Table t) = refl
 extern-brings s (E.Mem l) = refl
 extern-brings s (E.Global t) = refl
 
-own-brings : (s : Bytes) (o : Own) → ownBrings o ≡ ownSpace (ownOf s o)
+pub own-brings : (s : Bytes) (o : Own) → ownBrings o ≡ ownSpace (ownOf s o)
 unfolding ownSpace
 own-brings s (O.Func t ls) = refl
 own-brings s (O.Table t) = refl

@@ -4,8 +4,10 @@ pub mod export;
 pub mod pass;
 pub mod record;
 
+pub use counting::with_field;
 pub use pass::Count;
 pub use pass::read_all;
 pub use record::Place;
 pub use record::RecordAt;
+pub use record::field_depth;
 pub use record::read_record;

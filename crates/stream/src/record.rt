@@ -31,7 +31,7 @@ pub enum RecordAt {
 }
 
 // An own function begins a body.
-fn field_depth(f: Field) -> u32
+pub fn field_depth(f: Field) -> u32
     ensures { λ r. ⌜ r ≡ fieldDepth f ⌝ }
 {
     match f {

@@ -1,0 +1,4 @@
+pub mod Cursors
+pub mod Steps
+pub mod Gives
+pub mod Join

@@ -5,7 +5,7 @@ use mathlib.Core.Bool.{Bool, true, false, _||_}
 use mathlib.Core.List.{List, [], _∷_, _++_, map}
 use mathlib.Core.Option.{Option, none, some}
 use lib.Dec.{leb}
-use lib.ListN.{length, take, drop}
+use lib.ListN.{length, take, drop, getD}
 use Rattle.definition.specs.Basic.{if_then_else_}
 use Rattle.definition.specs.Syntax as Syntax
 use Rattle.definition.specs.Syntax.{Bytes, Identifier, Space, FieldRec, Rec, field, instr, bodyEnd}
@@ -18,10 +18,14 @@ use Rattle.definition.specs.Deinline.{Numbered, fieldsOf}
 use Rattle.sources.specs.Views.{countOf, roomOf, noneSeen}
 use Rattle.sources.specs.declared.seen.Seen.{Seen}
 use Rattle.fields.specs.Views.{fieldOf}
-use Rattle.stream.specs.Counting.{oneMore}
+use Rattle.fields.specs.declared.field.Field.{Field}
+use Rattle.stream.specs.Counting.{oneMore, fieldSeen}
+use Rattle.stream.specs.Answers.{fieldDepth}
 use Rattle.walk.specs.declared.Cursor.{Cursor}
-use Rattle.walk.specs.declared.Visit.{Visit}
-use Rattle.walk.specs.declared.Visit.the-variants as X
+use Rattle.walk.specs.declared.Stop.{Stop}
+use Rattle.walk.specs.declared.Met.{Met}
+use Rattle.walk.specs.declared.What.{What}
+use Rattle.walk.specs.declared.What.the-variants as W
 
 -- ## Bodies
 
@@ -36,11 +40,6 @@ onBody (fault n) more end z = z
 unfoldable pub bodyFrom : ℕ → ℕ → Bytes → ℕ → List (Syntax.Instr Identifier)
 bodyFrom zero k s here = []
 bodyFrom (suc left) k s here = onBody (bodyRec k s here) (λ x next. x ∷ bodyFrom left (openAfter x k) s next) (λ next. []) []
-
--- a place and the number of its record
-pub record Stop : Type 0 where
-  pub at : ℕ
-  pub rec : ℕ
 
 -- where the body ends
 unfoldable pub afterBody : ℕ → ℕ → ℕ → Bytes → ℕ → Stop
@@ -107,9 +106,12 @@ abbrev pub visitIn : ℕ → Cursor → Bytes → Option Visited
 visitIn zero c s = none
 visitIn (suc left) c s = visitAt c s
 
-abbrev pub visitOf : Bytes → Visit → Option Visited
-visitOf s (X.Field f here next) = some (record { field = fieldOf s f; head-end = here; next = next })
-visitOf s X.Done = none
+abbrev pub metOf : Bytes → What → Cursor → Option Visited
+metOf s (W.Field f here) next = some (record { field = fieldOf s f; head-end = here; next = next })
+metOf s W.Done next = none
+
+abbrev pub visitOf : Bytes → Met → Option Visited
+visitOf s m = metOf s (m .what) (m .next)
 
 -- ## All fields
 
@@ -154,3 +156,22 @@ pub record Begins (xs ys : List ℕ) : Type 0 where
 pub record Ahead (s : Bytes) (w : List ℕ) (c : Cursor) : Type 0 where
   pub ends : Begins (endsFrom (c .left) c s) (drop (8 + 2 * c .own) (take 520 w))
   pub few : c .own + c .left ≤ 4096
+
+-- the n-th body's end, as the work area has it
+unfoldable pub endIn : List ℕ → ℕ → Stop
+endIn w n = record { at = getD w (8 + 2 * n) 0; rec = getD w (8 + 2 * n + 1) 0 }
+
+-- where the walk goes on by the work area; `depth` is 1 for an own function, else 0
+abbrev pub stopIn : ℕ → List ℕ → Cursor → ℕ → Stop
+stopIn zero w c here = record { at = here; rec = c .rec + 1 }
+stopIn (suc d) w c here = endIn w (c .own)
+
+unfoldable pub cursorIn : List ℕ → Cursor → Field → ℕ → Cursor
+cursorIn w c f here =
+    record {
+      at = stopIn (fieldDepth f) w c here .at;
+      rec = stopIn (fieldDepth f) w c here .rec;
+      own = c .own + fieldDepth f;
+      left = c .left - 1;
+      seen = fieldSeen (c .seen) f;
+    }

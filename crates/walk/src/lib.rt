@@ -3,7 +3,9 @@ use fields::Field;
 use fields::FieldAt;
 use sources::Seen;
 ghost use mathlib.Core.Path.{_≡_};
-ghost use Rattle.walk.specs.Walk.{Ahead, visitIn, visitOf, begin};
+ghost use Prim.Native.Nat.{ℕ, _+_, _≤_, _<_};
+ghost use lib.ListN.{getD};
+ghost use Rattle.walk.specs.Walk.{Ahead, visitIn, visitOf, begin, endIn, stopIn, cursorIn};
 
 // Where a walk stands: the byte and the number of the next record, how many own functions came before it, how many fields it may
 // still visit, and what the fields before have brought.
@@ -15,10 +17,22 @@ pub struct Cursor {
     pub seen: Seen,
 }
 
-pub enum Visit {
-    // a field, the place after it (of a function: where its body begins), and where the walk goes on
-    Field(Field, usize, Cursor),
+// A place and the number of its record.
+pub struct Stop {
+    pub at: usize,
+    pub rec: u32,
+}
+
+pub enum What {
+    // a field, and the place after it (of an own function: where its body begins)
+    Field(Field, usize),
     Done,
+}
+
+// What a walk meets, and where it goes on.
+pub struct Met {
+    pub what: What,
+    pub next: Cursor,
 }
 
 // Before the first field.
@@ -31,5 +45,96 @@ pub fn start() -> Cursor
         own: 0,
         left: 4096,
         seen: Seen::none(),
+    }
+}
+
+// A word of the work area, 0 beyond its end.
+fn word(work: &[u32], i: usize) -> u32
+    ensures { λ r. ⌜ r ≡ getD (now (work .entry)) i 0 ⌝ }
+{
+    if i < work.len() {
+        return work[i];
+    }
+    0
+}
+
+// Where the n-th body ended.
+fn body_end(work: &[u32], n: u32) -> Stop
+    ensures { λ r. ⌜ r ≡ endIn (now (work .entry)) n ⌝ }
+{
+    let i = 8 + 2 * (n as usize);
+    let at = word(work, i);
+    let rec = word(work, i + 1);
+    Stop {
+        at: at as usize,
+        rec,
+    }
+}
+
+// Where the walk goes on after a field whose head ends at `here`: after the body of an own function, or right there.
+fn next_stop(work: &[u32], c: Cursor, depth: u32, here: usize) -> Stop
+    requires { ⌜ c .rec < 4096 ⌝ }
+    ensures { λ r. ⌜ r ≡ stopIn depth (now (work .entry)) c here ⌝ }
+{
+    if depth < 1 {
+        return Stop {
+            at: here,
+            rec: c.rec + 1,
+        };
+    }
+    body_end(work, c.own)
+}
+
+fn next_cursor(work: &[u32], c: Cursor, f: Field, here: usize) -> Cursor
+    requires { ⌜ (c .rec < 4096) × (1 ≤ c .left) × (c .own + c .left ≤ 4096) ⌝ }
+    ensures { λ r. ⌜ r ≡ cursorIn (now (work .entry)) c f here ⌝ }
+{
+    let depth = stream::field_depth(f);
+    let stop = next_stop(work, c, depth, here);
+    let seen = stream::with_field(c.seen, f);
+    Cursor {
+        at: stop.at,
+        rec: stop.rec,
+        own: c.own + depth,
+        left: c.left - 1,
+        seen,
+    }
+}
+
+// What stands at a cursor, and where the walk goes on; nothing where the stream, the records or the fields end.
+pub fn visit(s: &[u8], work: &[u32], c: Cursor) -> Met
+    requires { ⌜ Ahead (now s) (now work) c ⌝ }
+    ensures { λ r. ⌜ visitIn (c .left) c (now (s .entry)) ≡ visitOf (now (s .entry)) r ⌝ }
+{
+    if c.left < 1 {
+        return Met {
+            what: What::Done,
+            next: c,
+        };
+    }
+    if 4096 <= c.rec {
+        return Met {
+            what: What::Done,
+            next: c,
+        };
+    }
+    if s.len() <= c.at {
+        return Met {
+            what: What::Done,
+            next: c,
+        };
+    }
+    match fields::read_field(s, c.at, c.seen) {
+        FieldAt::Got(f, here) => {
+            let next = next_cursor(work, c, f, here);
+            Met {
+                what: What::Field(f, here),
+                next,
+            }
+        }
+        FieldAt::Fault(_) => Met {
+            what: What::Done,
+            next: c,
+        },
     }
 }

@@ -1,0 +1,251 @@
+-- What a field that was read tells: its item had room, and a function has at most 64 parameters and 64 locals.
+use mathlib.Core.Path.{_≡_, refl, ap, sym, _∙_, subst}
+use Prim.Native.Nat.{ℕ, zero, suc, _≤_}
+use mathlib.Core.Bool.{Bool, true, false}
+use mathlib.Core.List.{List, [], _∷_}
+use mathlib.Core.Option.{Option}
+use lib.Dec.{eqb, leb}
+use lib.ListN.{length}
+use borrow.Author.Tests.{leb-true}
+use native.Mathlib.Omega.{arith}
+use Rattle.definition.specs.Basic.{if_then_else_}
+use Rattle.definition.specs.Syntax.{Bytes, Identifier, Space, funcs, tables, mems, globals, types, elems, datas, TypeUse, Local, ExternType}
+use Rattle.definition.specs.Syntax.{Own, ownFunc, ownTable, ownMem, ownGlobal, Source, own, imported, tableOf, memOf, FieldRec, typeR, importR, itemR, exportR, startR, elemR, dataR}
+use Rattle.definition.specs.Reader.{Step, got, fault, Reader, onward, require, give, byte, many, choose, _>>=_, _>>_}
+use Rattle.definition.specs.Token.{u32, upTo, counted, identifier, string, bytes, valType, flag64, limits, tableType, globalType, present, optional, param, typeUse}
+use Rattle.definition.specs.Instructions.{constant}
+use Rattle.definition.specs.Records.{Room, Extern, Forms, importName, funcExtern, tableExtern, memExtern, globalExtern, importOf, importRec, itemRec, importForm, ownFuncForm, ownTableForm, inlineTableForm, ownMemForm, inlineMemForm, ownGlobalForm}
+use Rattle.definition.specs.Records.{funcRec, tableRec, memRec, globalRec, typeRec, kind, exportRec, startRec, mode, elemRec, dataRec, fieldRecs, fieldRec}
+use Rattle.definition.specs.Spaces.{sourceSpace, externSpace, ownSpace}
+use Rattle.laws.proofs.Backwards.{came, passed}
+
+-- ## What a reader can give
+
+-- a property of whatever it gives
+record Gives {A : Type 0} (P : A → Type 0) (m : Reader A) : Type 0 where
+  all : (s : Bytes) (at : ℕ) (y : A) (q : ℕ) → m s at ≡ got y q → P y
+
+-- every row of a table does
+abbrev Each : {B : Type 0} → (B → Type 0) → List (ℕ × Reader B) → Type 0
+Each P [] = Unit {0}
+Each P (row ∷ rows) = Gives P (row .1) × Each P rows
+
+module _ {B : Type 0} {P : B → Type 0} where
+  gives-give : (b : B) → P b → Gives P (give b)
+  gives-give b p = record { all = λ s at y q e. let z : b ≡ y = cc in subst P z p }
+
+  -- after a reader of whose value something is known
+  gives-then : {A : Type 0} {Q : A → Type 0} (m : Reader A) (k : A → Reader B) → Gives Q m → ((a : A) → Q a → Gives P (k a)) → Gives P (m >>= k)
+  gives-then m k g h =
+      record {
+        all = λ s at y q e.
+            let c = came (m s at) e in
+            h (c .value) (g .all s at (c .value) (c .next) (c .first)) .all s (c .next) y q (c .rest);
+      }
+
+  -- after any reader
+  gives-after : {A : Type 0} (m : Reader A) (k : A → Reader B) → ((a : A) → Gives P (k a)) → Gives P (m >>= k)
+  gives-after m k h = record { all = λ s at y q e. let c = came (m s at) e in h (c .value) .all s (c .next) y q (c .rest) }
+
+  -- after a test
+  gives-require : (n : ℕ) (t : Bool) (m : Reader B) → (t ≡ true → Gives P m) → Gives P (require n t >>= λ _. m)
+  gives-require n t m h = record { all = λ s at y q e. let c = passed _ n t s at e in h (c .0) .all s at y q (c .1) }
+
+  -- what is chosen from such a table
+  gives-choose : (b : ℕ) (rows : List (ℕ × Reader B)) → Each P rows → Gives P (choose b rows)
+  gives-choose b [] g = record { all = λ s at y q e. let z : _≡_ {A = ℕ} 0 1 = cc in absurd (omega arith) }
+  gives-choose b (row ∷ rows) g = go (eqb b (row .0)) (gives-choose b rows (g .1))
+    where
+      go : (t : Bool) → Gives P (choose b rows) → Gives P (if t then row .1 else choose b rows)
+      go true h = g .0
+      go false h = h
+
+-- ## Counts
+
+up-to : (n ceiling : ℕ) → Gives (λ k. k ≤ ceiling) (upTo n ceiling)
+unfolding upTo
+up-to n ceiling = gives-after u32 _ (λ k. gives-require n (leb k ceiling) (give k) (λ e. gives-give k (leb-true k ceiling e)))
+
+many-long : {A : Type 0} (p : Reader A) (n : ℕ) → Gives (λ xs. length xs ≡ n) (many n p)
+unfolding many
+many-long p zero = gives-give [] refl
+many-long p (suc n) = gives-after p _ (λ x. gives-then (many n p) _ (many-long p n) (λ xs e. gives-give (x ∷ xs) (ap suc e)))
+
+counted-few : {A : Type 0} (ceiling : ℕ) (p : Reader A) → Gives (λ xs. length xs ≤ ceiling) (counted ceiling p)
+unfolding counted
+counted-few ceiling p = gives-then (upTo 7 ceiling) _ (up-to 7 ceiling) (λ n h. record { all = λ s at y q e. let l = many-long p n .all s at y q e in omega arith })
+
+use-few : Gives (λ t. length (t .params) ≤ 64) typeUse
+unfolding typeUse
+use-few =
+    gives-after optional _ (λ x.
+    gives-then (counted 64 param) _ (counted-few 64 param) (λ ps h.
+    gives-after (counted 16 valType) _ (λ rs. gives-give (record { index = x; params = ps; results = rs }) h)))
+
+-- ## Sources
+
+-- few parameters and few locals
+abbrev pub FewIn : Source Identifier → Type 0
+FewIn (own (ownFunc t ls)) = (length (t .params) ≤ 64) × (length ls ≤ 64)
+FewIn (own (ownTable t)) = Unit {0}
+FewIn (own (ownMem l)) = Unit {0}
+FewIn (own (ownGlobal t c)) = Unit {0}
+FewIn (imported n d) = Unit {0}
+FewIn (tableOf w xs) = Unit {0}
+FewIn (memOf w d) = Unit {0}
+
+record Source-of (k : Space) (x : Source Identifier) : Type 0 where
+  space : sourceSpace x ≡ k
+  few : FewIn x
+
+own-func : Gives (Source-of funcs) ownFuncForm
+unfolding ownFuncForm sourceSpace ownSpace
+own-func =
+    gives-then typeUse _ use-few (λ t h.
+    gives-then (counted 64 param) _ (counted-few 64 param) (λ ls g. gives-give (own (ownFunc t ls)) (record { space = refl; few = (h, g) })))
+
+own-table : Gives (Source-of tables) ownTableForm
+unfolding ownTableForm sourceSpace ownSpace
+own-table = gives-after tableType _ (λ t. gives-give (own (ownTable t)) (record { space = refl; few = tt }))
+
+own-mem : Gives (Source-of mems) ownMemForm
+unfolding ownMemForm sourceSpace ownSpace
+own-mem = gives-after limits _ (λ l. gives-give (own (ownMem l)) (record { space = refl; few = tt }))
+
+own-global : Gives (Source-of globals) ownGlobalForm
+unfolding ownGlobalForm sourceSpace ownSpace
+own-global = gives-after globalType _ (λ t. gives-after constant _ (λ c. gives-give (own (ownGlobal t c)) (record { space = refl; few = tt })))
+
+inline-table : (room : Room) → Gives (Source-of tables) (inlineTableForm room)
+unfolding inlineTableForm sourceSpace
+inline-table room =
+    gives-after (require 7 (room .item elems) >> flag64) _ (λ w. gives-after (counted 1024 present) _ (λ xs. gives-give (tableOf w xs) (record { space = refl; few = tt })))
+
+inline-mem : (room : Room) → Gives (Source-of mems) (inlineMemForm room)
+unfolding inlineMemForm sourceSpace
+inline-mem room =
+    gives-after (require 7 (room .item datas) >> flag64) _ (λ w. gives-after bytes _ (λ d. gives-give (memOf w d) (record { space = refl; few = tt })))
+
+import-form : (k : Space) (extern : Reader Extern) → Gives (λ d. externSpace d ≡ k) extern → Gives (Source-of k) (importForm extern)
+unfolding importForm sourceSpace
+import-form k extern g = gives-after importName _ (λ n. gives-then extern _ g (λ d e. gives-give (imported n d) (record { space = e; few = tt })))
+
+extern-func : Gives (λ d. externSpace d ≡ funcs) funcExtern
+unfolding funcExtern externSpace
+extern-func = gives-after typeUse _ (λ t. gives-give (ExternType.func t) refl)
+
+extern-table : Gives (λ d. externSpace d ≡ tables) tableExtern
+unfolding tableExtern externSpace
+extern-table = gives-after tableType _ (λ t. gives-give (ExternType.table t) refl)
+
+extern-mem : Gives (λ d. externSpace d ≡ mems) memExtern
+unfolding memExtern externSpace
+extern-mem = gives-after limits _ (λ l. gives-give (ExternType.mem l) refl)
+
+extern-global : Gives (λ d. externSpace d ≡ globals) globalExtern
+unfolding globalExtern externSpace
+extern-global = gives-after globalType _ (λ t. gives-give (ExternType.global t) refl)
+
+-- ## Fields
+
+-- an item had room for one more, and is few
+pub record Roomy (room : Room) (x : Source Identifier) : Type 0 where
+  pub space : room .item (sourceSpace x) ≡ true
+  pub few : FewIn x
+
+abbrev pub RoomyField : Room → FieldRec Identifier → Type 0
+RoomyField room (typeR i t) = Unit {0}
+RoomyField room (importR n i d) = Unit {0}
+RoomyField room (itemR i es x) = Roomy room x
+RoomyField room (exportR n k x) = Unit {0}
+RoomyField room (startR x) = Unit {0}
+RoomyField room (elemR i m xs) = Unit {0}
+RoomyField room (dataR i m d) = Unit {0}
+
+module _ (room : Room) where
+  item-roomy : (k : Space) (forms : Forms) → Each (Source-of k) forms → Gives (RoomyField room) (itemRec room k forms)
+  unfolding itemRec
+  item-roomy k forms g =
+      gives-require 7 (room .item k) _ (λ free.
+      gives-after identifier _ (λ i.
+      gives-after (counted 8 string) _ (λ es.
+      gives-after byte _ (λ b.
+      gives-then (choose b forms) _ (gives-choose b forms g) (λ x e.
+      gives-give (itemR i es x) (record { space = ap (room .item) (e .space) ∙ free; few = e .few }))))))
+
+  func-roomy : Gives (RoomyField room) (funcRec room)
+  unfolding funcRec
+  func-roomy = item-roomy funcs _ (own-func, (import-form funcs funcExtern extern-func, tt))
+
+  table-roomy : Gives (RoomyField room) (tableRec room)
+  unfolding tableRec
+  table-roomy = item-roomy tables _ (own-table, (import-form tables tableExtern extern-table, (inline-table room, tt)))
+
+  mem-roomy : Gives (RoomyField room) (memRec room)
+  unfolding memRec
+  mem-roomy = item-roomy mems _ (own-mem, (import-form mems memExtern extern-mem, (inline-mem room, tt)))
+
+  global-roomy : Gives (RoomyField room) (globalRec room)
+  unfolding globalRec
+  global-roomy = item-roomy globals _ (own-global, (import-form globals globalExtern extern-global, tt))
+
+  type-roomy : Gives (RoomyField room) (typeRec room)
+  unfolding typeRec
+  type-roomy =
+      gives-require 7 (room .item types) _ (λ free.
+      gives-after identifier _ (λ i.
+      gives-after (counted 64 valType) _ (λ ps.
+      gives-after (counted 16 valType) _ (λ rs. gives-give (typeR i (record { params = ps; results = rs })) tt))))
+
+  import-of : (n : _) (k : Space) (extern : Reader Extern) → Gives (RoomyField room) (importOf room n k extern)
+  unfolding importOf
+  import-of n k extern =
+      gives-require 7 (room .item k) _ (λ free. gives-after identifier _ (λ i. gives-after extern _ (λ d. gives-give (importR n i d) tt)))
+
+  import-roomy : Gives (RoomyField room) (importRec room)
+  unfolding importRec
+  import-roomy =
+      gives-after importName _ (λ n.
+      gives-after byte _ (λ b.
+      gives-choose b
+      ((0, importOf room n funcs funcExtern)
+      ∷ (1, importOf room n tables tableExtern)
+      ∷ (2, importOf room n mems memExtern)
+      ∷ (3, importOf room n globals globalExtern)
+      ∷ [])
+      (import-of n funcs funcExtern, (import-of n tables tableExtern, (import-of n mems memExtern, (import-of n globals globalExtern, tt))))))
+
+  export-roomy : Gives (RoomyField room) exportRec
+  unfolding exportRec
+  export-roomy = gives-after string _ (λ n. gives-after kind _ (λ k. gives-after present _ (λ x. gives-give (exportR n k x) tt)))
+
+  start-roomy : Gives (RoomyField room) (startRec room)
+  unfolding startRec
+  start-roomy = gives-after (require 9 (room .start) >> present) _ (λ x. gives-give (startR x) tt)
+
+  elem-roomy : Gives (RoomyField room) (elemRec room)
+  unfolding elemRec
+  elem-roomy =
+      gives-require 7 (room .item elems) _ (λ free.
+      gives-after identifier _ (λ i. gives-after mode _ (λ m. gives-after (counted 1024 present) _ (λ xs. gives-give (elemR i m xs) tt))))
+
+  data-roomy : Gives (RoomyField room) (dataRec room)
+  unfolding dataRec
+  data-roomy =
+      gives-require 7 (room .item datas) _ (λ free. gives-after identifier _ (λ i. gives-after mode _ (λ m. gives-after bytes _ (λ d. gives-give (dataR i m d) tt))))
+
+  field-roomy : Gives (RoomyField room) (fieldRec room)
+  unfolding fieldRec fieldRecs
+  field-roomy =
+      gives-after byte _ (λ b.
+      gives-choose b (fieldRecs room)
+      (type-roomy, (import-roomy, (func-roomy, (table-roomy, (mem-roomy, (global-roomy, (export-roomy, (start-roomy, (elem-roomy, (data-roomy, tt)))))))))))
+
+  -- a field that was read
+  pub roomy : (s : Bytes) (at : ℕ) (f : FieldRec Identifier) (q : ℕ) → fieldRec room s at ≡ got f q → RoomyField room f
+  roomy s at f q e = field-roomy .all s at f q e
+
+  -- a function has at most 64 parameters and 64 locals
+  pub func-few : (s : Bytes) (at next : ℕ) (i : Option Identifier) (es : List Bytes) (t : TypeUse Identifier) (ls : List (Local Identifier))
+      → fieldRec room s at ≡ got (itemR i es (own (ownFunc t ls))) next → (length (t .params) ≤ 64) × (length ls ≤ 64)
+  func-few s at next i es t ls e = roomy s at _ next e .few

@@ -1,0 +1,155 @@
+-- What a visit tells a caller. `told` is the visit's promise, and `is` is what a match on the answer gives.
+use mathlib.Core.Path.{_≡_, refl, ap, sym, _∙_}
+use Prim.Native.Nat.{ℕ, zero, suc, _+_, _-_, _*_, _≤_, _<_}
+use mathlib.Core.Bool.{Bool, true, false}
+use mathlib.Core.List.{List, [], _∷_, _++_}
+use mathlib.Core.Option.{Option, none, some}
+use lib.Dec.{leb}
+use lib.ListN.{length, take, drop}
+use lib.Seq.{drop-drop}
+use borrow.Author.Tests.{leb-false}
+use native.Mathlib.Omega.{arith}
+use Rattle.definition.specs.Basic.{if_then_else_}
+use Rattle.definition.specs.Syntax.{Bytes, Identifier, FieldRec}
+use Rattle.definition.specs.Reader.{Step, got, fault}
+use Rattle.definition.specs.Records.{fieldRec}
+use Rattle.definition.specs.Read.{fieldBody}
+use Rattle.sources.specs.Views.{roomOf}
+use Rattle.fields.specs.Views.{fieldOf}
+use Rattle.fields.specs.declared.field.Field.{Field}
+use Rattle.space.specs.Kept.{Kept}
+use Rattle.walk.specs.Walk.{onVisit, bodies, cursorAfter, Visited, visitStep, visitAt, visitIn, visitOf, metOf, fieldsHere, fieldsFrom, fieldsAhead, endOf, endsFrom, Begins, Ahead}
+use Rattle.walk.specs.declared.Cursor.{Cursor}
+use Rattle.walk.specs.declared.Met.{Met}
+use Rattle.walk.specs.declared.What.{What}
+use Rattle.walk.specs.declared.What.the-variants as W
+
+-- ## Backwards through a visit
+
+-- what was met: a field that was read, and where the walk goes on after it
+pub record Goes (s : Bytes) (c : Cursor) (v : Visited) : Type 0 where
+  pub few : c .rec < 4096
+  pub inside : c .at < length s
+  pub reads : fieldRec (roomOf (c .seen)) s (c .at) ≡ got (v .field) (v .head-end)
+  pub goes-on : v .next ≡ cursorAfter c (v .field) s (v .head-end)
+
+pub visited : (s : Bytes) (c : Cursor) (v : Visited) → visitAt c s ≡ some v → Goes s c v
+unfolding visitAt
+visited s c v e = go (leb 4096 (c .rec)) refl (leb (length s) (c .at)) refl (fieldRec (roomOf (c .seen)) s (c .at)) refl e
+  where
+    go : (t : Bool) → leb 4096 (c .rec) ≡ t → (u : Bool) → leb (length s) (c .at) ≡ u → (st : Step (FieldRec Identifier)) → fieldRec (roomOf (c .seen)) s (c .at) ≡ st
+        → (if t then none else if u then none else visitStep c s st) ≡ some v → Goes s c v
+    go true d u g st f e = let z : _≡_ {A = ℕ} 0 1 = cc in absurd (omega arith)
+    go false d true g st f e = let z : _≡_ {A = ℕ} 0 1 = cc in absurd (omega arith)
+    go false d false g (fault n) f e = let z : _≡_ {A = ℕ} 0 1 = cc in absurd (omega arith)
+    go false d false g (got x here) f e =
+        let j : _≡_ {A = Visited} (record { field = x; head-end = here; next = cursorAfter c x s here }) v = cc in
+        record {
+          few = leb-false _ _ d;
+          inside = leb-false _ _ g;
+          reads = f ∙ ap (λ (z : Visited). got (z .field) (z .head-end)) j;
+          goes-on = ap (λ (z : Visited). z .next) (sym j) ∙ ap (λ (z : Visited). cursorAfter c (z .field) s (z .head-end)) j;
+        }
+
+-- one of those that may still be visited
+pub some-visit : (s : Bytes) (c : Cursor) (v : Visited) → visitIn (c .left) c s ≡ some v → (1 ≤ c .left) × (visitAt c s ≡ some v)
+some-visit s c v e = go (c .left) e
+  where
+    go : (left : ℕ) → visitIn left c s ≡ some v → (1 ≤ left) × (visitAt c s ≡ some v)
+    go zero e = let z : _≡_ {A = ℕ} 0 1 = cc in absurd (omega arith)
+    go (suc n) e = (omega arith, e)
+
+-- ## What a caller has
+
+module _ (s : Bytes) (c : Cursor) (r : Met) (told : visitIn (c .left) c s ≡ visitOf s r) where
+  -- the walk is over
+  pub visit-done : r .what ≡ W.Done → fieldsAhead c s ≡ []
+  unfolding fieldsAhead fieldsFrom
+  visit-done is = go (c .left) (told ∙ ap (λ z. metOf s z (r .next)) is)
+    where
+      go : (left : ℕ) → visitIn left c s ≡ none → fieldsFrom left c s ≡ []
+      go zero e = refl
+      go (suc n) e = ap (λ z. onVisit z (λ v. fieldsHere c s v ++ fieldsFrom n (v .next) s) []) e
+
+  module _ (f : Field) (here : ℕ) (is : r .what ≡ W.Field f here) where
+    at-met : (1 ≤ c .left) × (visitAt c s ≡ some (record { field = fieldOf s f; head-end = here; next = r .next }))
+    at-met = some-visit s c (record { field = fieldOf s f; head-end = here; next = r .next }) (told ∙ ap (λ z. metOf s z (r .next)) is)
+
+    goes : Goes s c (record { field = fieldOf s f; head-end = here; next = r .next })
+    goes = visited s c _ (at-met .1)
+
+    left-less : r .next .left ≡ c .left - 1
+    unfolding cursorAfter
+    left-less = ap (λ (z : Cursor). z .left) (goes .goes-on)
+
+    -- fewer may still be visited: the loop's measure
+    pub visit-less : r .next .left < c .left
+    visit-less = omega (arith, left-less, at-met .0)
+
+    -- the field was read at the cursor
+    pub visit-read : fieldRec (roomOf (c .seen)) s (c .at) ≡ got (fieldOf s f) here
+    visit-read = goes .reads
+
+    -- its record has a number below 4,096
+    pub visit-few : c .rec < 4096
+    visit-few = goes .few
+
+    -- where the walk goes on, in the model
+    pub visit-next : r .next ≡ cursorAfter c (fieldOf s f) s here
+    visit-next = goes .goes-on
+
+    -- one record's fields, and the others
+    pub visit-fields : fieldsAhead c s ≡ fieldsHere c s (record { field = fieldOf s f; head-end = here; next = r .next }) ++ fieldsAhead (r .next) s
+    unfolding fieldsAhead fieldsFrom
+    visit-fields = go (c .left) refl (at-met .0)
+      where
+        go : (left : ℕ) → c .left ≡ left → 1 ≤ left
+            → fieldsFrom left c s ≡ fieldsHere c s (record { field = fieldOf s f; head-end = here; next = r .next }) ++ fieldsFrom (r .next .left) (r .next) s
+        go zero l h = absurd (omega arith)
+        go (suc n) l h =
+            let m : r .next .left ≡ n = omega (arith, left-less) in
+            ap (λ z. onVisit z (λ v. fieldsHere c s v ++ fieldsFrom n (v .next) s) []) (at-met .1) ∙ rw m
+
+    -- the ends of bodies that are still ahead
+    ends-are : endsFrom (c .left) c s ≡ endOf (fieldBody (fieldOf s f)) (r .next) ++ endsFrom (r .next .left) (r .next) s
+    unfolding endsFrom
+    ends-are = go (c .left) refl (at-met .0)
+      where
+        go : (left : ℕ) → c .left ≡ left → 1 ≤ left
+            → endsFrom left c s ≡ endOf (fieldBody (fieldOf s f)) (r .next) ++ endsFrom (r .next .left) (r .next) s
+        go zero l h = absurd (omega arith)
+        go (suc n) l h =
+            let m : r .next .left ≡ n = omega (arith, left-less) in
+            ap (λ z. onVisit z (λ v. endOf (fieldBody (v .field)) (v .next) ++ endsFrom n (v .next) s) []) (at-met .1) ∙ rw m
+
+    own-is : r .next .own ≡ c .own + bodies (fieldBody (fieldOf s f))
+    unfolding cursorAfter
+    own-is = ap (λ (z : Cursor). z .own) (goes .goes-on)
+
+    -- the ends of bodies are in the work area for the rest of the walk too
+    pub visit-ahead : (w : List ℕ) → Ahead s w c → Ahead s w (r .next)
+    visit-ahead w v = go (fieldBody (fieldOf s f)) ends-are own-is
+      where
+        go : (b : Option ℕ) → endsFrom (c .left) c s ≡ endOf b (r .next) ++ endsFrom (r .next .left) (r .next) s → r .next .own ≡ c .own + bodies b
+            → Ahead s w (r .next)
+        go none e o =
+            let same : 8 + 2 * r .next .own ≡ 8 + 2 * c .own = omega arith in
+            record {
+              ends = record { rest = v .ends .rest; is = ap (λ n. drop n (take 520 w)) same ∙ v .ends .is ∙ ap (λ z. z ++ v .ends .rest) e };
+              few = omega (arith, o, left-less, at-met .0, v .few);
+            }
+        go (some k) e o =
+            let two : 8 + 2 * r .next .own ≡ 8 + 2 * c .own + 2 = omega arith in
+            record {
+              ends = record {
+                rest = v .ends .rest;
+                is = ap (λ n. drop n (take 520 w)) two ∙ sym (drop-drop 2 (8 + 2 * c .own) (take 520 w)) ∙ ap (drop 2) (v .ends .is ∙ ap (λ z. z ++ v .ends .rest) e);
+              };
+              few = omega (arith, o, left-less, at-met .0, v .few);
+            }
+
+-- ## The work area
+
+-- what is written beyond the ends of bodies leaves them
+pub ahead-kept : (s : Bytes) (w w′ : List ℕ) (c : Cursor) → Kept 520 w w′ → Ahead s w c → Ahead s w′ c
+ahead-kept s w w′ c k v = let e = k .low in record { ends = record { rest = v .ends .rest; is = rw e (v .ends .is) }; few = v .few }

@@ -1,0 +1,45 @@
+use Rattle.walk.proofs.Cursors.{visit-ways}
+use borrow.Author.Needs.{needs}
+use Rattle.walk.proofs.visit.Statement.{statement}
+use Rattle.walk.proofs.visit.Tie as tie
+
+returns : tie.Need-returns
+returns c = search visit-ways
+
+returns-2 : tie.Need-returns-2
+returns-2 c = search visit-ways
+
+returns-3 : tie.Need-returns-3
+returns-3 c = search visit-ways
+
+read-field-requires : tie.Need-read-field-requires
+read-field-requires c κs = search needs
+
+enum-known-f : tie.Need-enum-known-f
+enum-known-f c = search needs
+
+next-cursor-requires : tie.Need-next-cursor-requires
+next-cursor-requires c κs = search needs
+
+enum-told : tie.Need-enum-told
+enum-told c = search needs
+
+returns-4 : tie.Need-returns-4
+returns-4 c = search visit-ways
+
+returns-5 : tie.Need-returns-5
+returns-5 c = search visit-ways
+
+pub visit-spec : {M : Type 1} → statement M
+visit-spec =
+    tie.close
+    (tie.spec
+    returns
+    returns-2
+    returns-3
+    read-field-requires
+    enum-known-f
+    next-cursor-requires
+    enum-told
+    returns-4
+    returns-5)
