@@ -54,7 +54,7 @@ code-small elems = omega arith
 code-small datas = omega arith
 
 -- one item more
-holds-more : (j : Space) {items : List Space} {counts : List ℕ} → Holds items counts → Holds (j ∷ items) (set counts (code j) (up (getD counts (code j) 0)))
+pub holds-more : (j : Space) {items : List Space} {counts : List ℕ} → Holds items counts → Holds (j ∷ items) (set counts (code j) (up (getD counts (code j) 0)))
 unfolding count
 holds-more j {items} {counts} h = record { each = λ k. go k (eqb (code k) (code j)) refl; seven = length-set counts (code j) (up (getD counts (code j) 0)) ∙ h .seven }
   where

@@ -1,4 +1,4 @@
--- What a field that was read tells: its item had room, and a function has at most 64 parameters and 64 locals.
+-- What a field that was read tells: what it brings had room, and a function has at most 64 parameters and 64 locals.
 use mathlib.Core.Path.{_≡_, refl, ap, sym, _∙_, subst}
 use Prim.Native.Nat.{ℕ, zero, suc, _≤_}
 use mathlib.Core.Bool.{Bool, true, false}
@@ -9,7 +9,7 @@ use lib.ListN.{length}
 use borrow.Author.Tests.{leb-true}
 use native.Mathlib.Omega.{arith}
 use Rattle.definition.specs.Basic.{if_then_else_}
-use Rattle.definition.specs.Syntax.{Bytes, Identifier, Space, funcs, tables, mems, globals, types, elems, datas, TypeUse, Local, ExternType}
+use Rattle.definition.specs.Syntax.{Bytes, Identifier, Space, funcs, tables, mems, globals, types, elems, datas, TypeUse, Local, ImportName, ExternType}
 use Rattle.definition.specs.Syntax.{Own, ownFunc, ownTable, ownMem, ownGlobal, Source, own, imported, tableOf, memOf, FieldRec, typeR, importR, itemR, exportR, startR, elemR, dataR}
 use Rattle.definition.specs.Reader.{Step, got, fault, Reader, onward, require, give, byte, many, choose, _>>=_, _>>_}
 use Rattle.definition.specs.Token.{u32, upTo, counted, identifier, string, bytes, valType, flag64, limits, tableType, globalType, present, optional, param, typeUse}
@@ -155,7 +155,7 @@ pub record Roomy (room : Room) (x : Source Identifier) : Type 0 where
 
 abbrev pub RoomyField : Room → FieldRec Identifier → Type 0
 RoomyField room (typeR i t) = Unit {0}
-RoomyField room (importR n i d) = Unit {0}
+RoomyField room (importR n i d) = room .item (externSpace d) ≡ true
 RoomyField room (itemR i es x) = Roomy room x
 RoomyField room (exportR n k x) = Unit {0}
 RoomyField room (startR x) = Unit {0}
@@ -197,10 +197,11 @@ module _ (room : Room) where
       gives-after (counted 64 valType) _ (λ ps.
       gives-after (counted 16 valType) _ (λ rs. gives-give (typeR i (record { params = ps; results = rs })) tt))))
 
-  import-of : (n : _) (k : Space) (extern : Reader Extern) → Gives (RoomyField room) (importOf room n k extern)
+  import-of : (n : ImportName) (k : Space) (extern : Reader Extern) → Gives (λ d. externSpace d ≡ k) extern → Gives (RoomyField room) (importOf room n k extern)
   unfolding importOf
-  import-of n k extern =
-      gives-require 7 (room .item k) _ (λ free. gives-after identifier _ (λ i. gives-after extern _ (λ d. gives-give (importR n i d) tt)))
+  import-of n k extern g =
+      gives-require 7 (room .item k) _ (λ free.
+      gives-after identifier _ (λ i. gives-then extern _ g (λ d e. gives-give (importR n i d) (ap (room .item) e ∙ free))))
 
   import-roomy : Gives (RoomyField room) (importRec room)
   unfolding importRec
@@ -213,7 +214,7 @@ module _ (room : Room) where
       ∷ (2, importOf room n mems memExtern)
       ∷ (3, importOf room n globals globalExtern)
       ∷ [])
-      (import-of n funcs funcExtern, (import-of n tables tableExtern, (import-of n mems memExtern, (import-of n globals globalExtern, tt))))))
+      (import-of n funcs funcExtern extern-func, (import-of n tables tableExtern extern-table, (import-of n mems memExtern extern-mem, (import-of n globals globalExtern extern-global, tt))))))
 
   export-roomy : Gives (RoomyField room) exportRec
   unfolding exportRec

@@ -1,4 +1,5 @@
 pub mod Cursors
-pub mod Steps
 pub mod Gives
+pub mod Steps
 pub mod Join
+pub mod Begin

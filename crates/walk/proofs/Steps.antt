@@ -14,15 +14,25 @@ use Rattle.definition.specs.Syntax.{Bytes, Identifier, FieldRec}
 use Rattle.definition.specs.Reader.{Step, got, fault}
 use Rattle.definition.specs.Records.{fieldRec}
 use Rattle.definition.specs.Read.{fieldBody}
+use Rattle.definition.specs.Token.{string, param}
+use Rattle.token.specs.Views.{idOf}
+use Rattle.token.specs.declared.text.Part.{Part}
+use Rattle.typeuse.specs.Views.{listOf, useOf}
+use Rattle.typeuse.specs.declared.List as Code
+use Rattle.typeuse.specs.declared.TypeUse as Use
 use Rattle.sources.specs.Views.{roomOf}
+use Rattle.sources.specs.declared.source.Own.the-variants as O
+use Rattle.sources.specs.declared.source.Source.the-variants as S
 use Rattle.fields.specs.Views.{fieldOf}
 use Rattle.fields.specs.declared.field.Field.{Field}
+use Rattle.fields.specs.declared.field.Field.the-variants as F
 use Rattle.space.specs.Kept.{Kept}
 use Rattle.walk.specs.Walk.{onVisit, bodies, cursorAfter, Visited, visitStep, visitAt, visitIn, visitOf, metOf, fieldsHere, fieldsFrom, fieldsAhead, endOf, endsFrom, Begins, Ahead}
 use Rattle.walk.specs.declared.Cursor.{Cursor}
 use Rattle.walk.specs.declared.Met.{Met}
 use Rattle.walk.specs.declared.What.{What}
 use Rattle.walk.specs.declared.What.the-variants as W
+use Rattle.walk.proofs.Gives.{func-few}
 
 -- ## Backwards through a visit
 
@@ -93,6 +103,12 @@ module _ (s : Bytes) (c : Cursor) (r : Met) (told : visitIn (c .left) c s ≡ vi
     -- its record has a number below 4,096
     pub visit-few : c .rec < 4096
     visit-few = goes .few
+
+    -- an own function has at most 64 parameters and 64 locals
+    pub visit-func-few : (i : Part) (es : Code.List) (t : Use.TypeUse) (ls : Code.List) → f ≡ F.Item i es (S.Own (O.Func t ls))
+        → (length (useOf s t .params) ≤ 64) × (length (listOf param s ls) ≤ 64)
+    visit-func-few i es t ls e =
+        func-few (roomOf (c .seen)) s (c .at) here (idOf s i) (listOf string s es) (useOf s t) (listOf param s ls) (visit-read ∙ ap (λ z. got (fieldOf s z) here) e)
 
     -- where the walk goes on, in the model
     pub visit-next : r .next ≡ cursorAfter c (fieldOf s f) s here
