@@ -1,2 +1,4 @@
-pub mod Walk
-pub mod Words
+pub mod Bounds
+pub mod Entries
+pub mod Lists
+pub mod Types

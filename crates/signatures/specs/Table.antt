@@ -1,83 +1,120 @@
--- What the table of types says. Total, like the tables of names.
-use Prim.Native.Nat.{ℕ, zero, suc, _+_, _<_}
+-- What the table of types says. Total, like the tables of names: a list ends where its count does, or at the first type that is not read.
+use Prim.Native.Nat.{ℕ, zero, suc, _+_, _-_, _*_, _≤_, _<_, min}
 use mathlib.Core.Path.{_≡_}
-use mathlib.Core.List.{List, [], _∷_}
+use mathlib.Core.List.{List, [], _∷_, _++_, map}
 use mathlib.Core.Bool.{Bool, true, false}
-use lib.ListN.{length, getD, set}
+use mathlib.Core.Option.{Option, none, some}
+use lib.ListN.{length, getD, set, drop}
 use lib.Dec.{eqb}
-use Rattle.definition.specs.Basic.{Answer, ok, refused}
-use Rattle.definition.specs.Syntax.{Bytes, Identifier, ValType, FuncType, Local}
-use Rattle.definition.specs.Reader.{Step, got, fault}
+use Rattle.definition.specs.Basic.{if_then_else_, Answer, ok, refused}
+use Rattle.definition.specs.Syntax.{Bytes, ValType, FuncType}
+use Rattle.definition.specs.Reader.{Reader, _>>=_, give}
 use Rattle.definition.specs.Token.{param, valType}
-use Rattle.definition.specs.Types.{takeOrAdd, typeAt, signature}
-use Rattle.typeuse.specs.Views.{listOf, useOf}
+use Rattle.definition.specs.Types.{takeOrAdd, typeAt, sameType, signature}
+use Rattle.typeuse.specs.Views.{elements, listOf, useOf}
 use Rattle.typeuse.specs.declared.List as Code
 use Rattle.typeuse.specs.declared.TypeUse.{TypeUse}
-use Rattle.signatures.specs.declared.TypeHere.{TypeHere}
-use Rattle.signatures.specs.declared.Interned.{Interned}
-use Rattle.signatures.specs.declared.Interned.the-variants as I
+use Rattle.space.specs.Kept.{Kept}
+use Rattle.signatures.specs.declared.list.NextType.{NextType}
+use Rattle.signatures.specs.declared.list.NextType.the-variants as N
+use Rattle.signatures.specs.declared.entry.Signature.{Signature}
+use Rattle.signatures.specs.declared.table.TypeFound.{TypeFound}
+use Rattle.signatures.specs.declared.table.TypeFound.the-variants as T
+use Rattle.signatures.specs.declared.table.Interned.{Interned}
+use Rattle.signatures.specs.declared.table.Interned.the-variants as I
+use Rattle.signatures.specs.declared.table.Agreement.{Agreement}
+use Rattle.signatures.specs.declared.table.Agreement.the-variants as A
 
--- ## Lists of value types, each after an identifier or not
+-- ## Lists of value types
 
-abbrev pub ofParam : ℕ → Step (Local Identifier) → TypeHere
-ofParam at (got p next) = record { value = p .type; next = next }
-ofParam at (fault n) = record { value = 0; next = at }
+-- the value types of a list of parameters, or of one of types
+unfoldable pub typesOf : Bool → Bytes → Code.List → List ValType
+typesOf true s l = map (λ p. p .type) (listOf param s l)
+typesOf false s l = listOf valType s l
 
-abbrev pub ofType : ℕ → Step ValType → TypeHere
-ofType at (got t next) = record { value = t; next = next }
-ofType at (fault n) = record { value = 0; next = at }
+-- one of them: after an identifier or not
+abbrev pub typed : Bool → Reader ValType
+typed true = param >>= λ p. give (p .type)
+typed false = valType
 
-abbrev pub typeHere : Bool → Bytes → ℕ → TypeHere
-typeHere true s at = ofParam at (param s at)
-typeHere false s at = ofType at (valType s at)
-
-unfoldable pub typesAt : Bool → ℕ → Bytes → ℕ → List ValType
-typesAt named zero s at = []
-typesAt named (suc n) s at = typeHere named s at .value ∷ typesAt named n s (typeHere named s at .next)
+-- the types of which the next was read
+abbrev pub typesNext : Bool → ℕ → Bytes → NextType → List ValType
+typesNext named left s (N.Type t next) = t ∷ elements (typed named) s next (left - 1)
+typesNext named left s N.End = []
 
 -- ## Signatures
 
-unfoldable pub signatureAt : Bytes → TypeUse → FuncType
-signatureAt s t = record { params = typesAt true (t .params .count) s (t .params .at); results = typesAt false (t .results .count) s (t .results .at) }
+unfoldable pub signatureOf : Bytes → Signature → FuncType
+signatureOf s x = record { params = typesOf (x .named) s (x .params); results = typesOf false s (x .results) }
 
-unfoldable pub paramsOf : Bytes → List ℕ → ℕ → List ValType
-paramsOf s w at = typesAt (eqb (getD w at 0) 1) (getD w (at + 2) 0) s (getD w (at + 1) 0)
+-- identifiers stand before the parameters of a use
+abbrev pub ofUse : TypeUse → Signature
+ofUse t = record { named = true; params = t .params; results = t .results }
 
-unfoldable pub resultsOf : Bytes → List ℕ → ℕ → List ValType
-resultsOf s w at = typesAt false (getD w (at + 4) 0) s (getD w (at + 3) 0)
+-- the list whose place and count stand at a place of the work area
+abbrev pub listIn : List ℕ → ℕ → Code.List
+listIn w at = record { at = getD w at 0; count = getD w (at + 1) 0 }
 
 -- the entry at a place of the work area
-unfoldable pub typeEntry : Bytes → List ℕ → ℕ → FuncType
-typeEntry s w at = record { params = paramsOf s w at; results = resultsOf s w at }
+unfoldable pub entryIn : List ℕ → ℕ → Signature
+entryIn w at = record { named = eqb (getD w at 0) 1; params = listIn w (at + 1); results = listIn w (at + 3) }
 
 -- so many entries, the first at a place
 unfoldable pub typeTable : ℕ → Bytes → List ℕ → ℕ → List FuncType
 typeTable zero s w at = []
-typeTable (suc n) s w at = typeEntry s w at ∷ typeTable n s w (at + 5)
+typeTable (suc n) s w at = signatureOf s (entryIn w at) ∷ typeTable n s w (at + 5)
 
--- the lists of a use have as many elements as their counts say
-pub record Whole (s : Bytes) (t : TypeUse) : Type 0 where
-  pub params : length (listOf param s (t .params)) ≡ t .params .count
-  pub results : length (listOf valType s (t .results)) ≡ t .results .count
+-- all types of the work area
+unfoldable pub typesIn : Bytes → List ℕ → List FuncType
+typesIn s w = typeTable (min (getD w 5896 0) 256) s w 520
+
+abbrev pub numberOf : TypeFound → Option ℕ
+numberOf (T.Number n) = some n
+numberOf T.Nothing = none
+
+-- what the comparison of a signature with the type that an index names says
+abbrev pub agreeing : FuncType → Option FuncType → Agreement
+agreeing t none = A.NoType
+agreeing t (some u) = if sameType t u then A.Same else A.Differs
 
 -- ## One more type
 
--- the places of a use go into words
-pub record Small (t : TypeUse) : Type 0 where
-  pub params : t .params .at < 4294967296
-  pub results : t .results .at < 4294967296
+abbrev pub flagOf : Bool → ℕ
+flagOf true = 1
+flagOf false = 0
 
-unfoldable pub listWords : List ℕ → ℕ → Code.List → List ℕ
-listWords w at l = set (set w at (l .at)) (at + 1) (l .count)
+unfoldable pub listWords : Bytes → List ℕ → ℕ → Code.List → List ℕ
+listWords s w at l = set (set w at (min (l .at) (length s))) (at + 1) (l .count)
 
-unfoldable pub typeWords : List ℕ → ℕ → TypeUse → List ℕ
-typeWords w at t = listWords (listWords (set w at 1) (at + 1) (t .params)) (at + 3) (t .results)
+unfoldable pub typeWords : Bytes → List ℕ → ℕ → Signature → List ℕ
+typeWords s w at x = listWords s (listWords s (set w at (flagOf (x .named))) (at + 1) (x .params)) (at + 3) (x .results)
+
+-- of `w` was made `w′`, and only the words from `low` up to `high` may differ
+pub record Inside (low high : ℕ) (w w′ : List ℕ) : Type 0 where
+  pub kept : Kept low w w′
+  pub above : drop high w′ ≡ drop high w
+
+-- a signature was added to `count` types
+pub record Adds (s : Bytes) (w : List ℕ) (count : ℕ) (x : Signature) (w′ : List ℕ) : Type 0 where
+  pub types : typeTable (count + 1) s w′ 520 ≡ typeTable count s w 520 ++ (signatureOf s x ∷ [])
+  pub inside : Inside (520 + 5 * count) 1800 w w′
 
 -- what the definition makes of one more use
-abbrev pub interning : Bytes → List ℕ → ℕ → ℕ → TypeUse → ℕ → Answer (List FuncType)
-interning s w base count t r = takeOrAdd r (signature (useOf s t)) (typeTable count s w base) (typeAt (signature (useOf s t)) (typeTable count s w base))
+abbrev pub interning : Bytes → List ℕ → ℕ → TypeUse → ℕ → Answer (List FuncType)
+interning s w count t r = takeOrAdd r (signature (useOf s t)) (typeTable count s w 520) (typeAt (signature (useOf s t)) (typeTable count s w 520))
 
--- what the answer means, by the work area after it
-abbrev pub interned : Bytes → ℕ → Interned → List ℕ → Answer (List FuncType)
-interned s base (I.Count n) w = ok (typeTable n s w base)
-interned s base (I.Refused n r) w = refused n r
+-- it took or added a type: that type's number is `n`, and there are `k` now
+pub record Taken (s : Bytes) (w : List ℕ) (count : ℕ) (t : TypeUse) (r n k : ℕ) (w′ : List ℕ) : Type 0 where
+  pub types : interning s w count t r ≡ ok (typeTable k s w′ 520)
+  pub number : typeAt (signature (useOf s t)) (typeTable k s w′ 520) ≡ some n
+  pub few : k ≤ 256
+  pub inside : Inside (520 + 5 * count) 1800 w w′
+
+-- it was refused, and the work area is as it was
+pub record Denied (s : Bytes) (w : List ℕ) (count : ℕ) (t : TypeUse) (r n q : ℕ) (w′ : List ℕ) : Type 0 where
+  pub says : interning s w count t r ≡ refused n q
+  pub area : w′ ≡ w
+
+unfoldable pub Interns : Bytes → List ℕ → ℕ → TypeUse → ℕ → Interned → List ℕ → Type 0
+Interns s w count t r (I.Number n k) w′ = Taken s w count t r n k w′
+Interns s w count t r (I.Refused n q) w′ = Denied s w count t r n q w′

@@ -1,0 +1,215 @@
+-- Plain mathematics of lists of value types.
+use Prim.Native.Nat.{ℕ, zero, suc, _+_, _-_, _≤_, _<_, min}
+use mathlib.Core.Path.{_≡_, refl, sym, _∙_, ap}
+use mathlib.Core.Bool.{Bool, true, false, _&&_}
+use mathlib.Core.List.{List, [], _∷_, map}
+use lib.ListN.{length}
+use lib.Dec.{eqb, leb, ltb}
+use borrow.Author.Tests.{eq-eqb, ne-eqb, lt-ltb, le-ltb}
+use mir.Syntax.{w32}
+use mir.Val.{Fits}
+use native.Mathlib.Omega.{arith}
+use Rattle.definition.specs.Basic.{same, sameBytes}
+use Rattle.definition.specs.Syntax as Syntax
+use Rattle.definition.specs.Syntax.{Bytes, Identifier, ValType}
+use Rattle.definition.specs.Reader.{Step, got, fault, Reader, onward}
+use Rattle.definition.specs.Token.{param, valType}
+use Rattle.definition.specs.Types.{isShort, isInline}
+use Rattle.token.specs.Views.{byteAt}
+use Rattle.token.specs.declared.byte.ByteAt.{ByteAt}
+use Rattle.token.specs.declared.byte.ByteAt.the-variants as B
+use Rattle.typeuse.specs.Views.{localAt, onStep, elements, useOf}
+use Rattle.typeuse.specs.declared.Local.{Local}
+use Rattle.typeuse.specs.declared.LocalAt.{LocalAt}
+use Rattle.typeuse.specs.declared.LocalAt.the-variants as OA
+use Rattle.typeuse.specs.declared.List as Code
+use Rattle.typeuse.specs.declared.TypeUse.{TypeUse}
+use Rattle.signatures.specs.Table.{typesOf, typed, typesNext}
+use Rattle.signatures.specs.declared.list.NextType.{NextType}
+use Rattle.signatures.specs.declared.list.NextType.the-variants as N
+
+-- ## The next type
+
+elements-cons : {A : Type 0} (p : Reader A) (s : Bytes) (at n : ℕ) → (n ≡ 0 → ⊥) → elements p s at n ≡ onStep (p s at) (λ x next. x ∷ elements p s next (n - 1)) []
+unfolding elements
+elements-cons p s at zero h = absurd (h refl)
+elements-cons p s at (suc n) h = let e : suc n - 1 ≡ n = omega arith in rw e
+
+module _ (s : Bytes) (at left : ℕ) (named : Bool) where
+  pub next-zero : left ≡ 0 → elements (typed named) s at left ≡ typesNext named left s N.End
+  unfolding elements
+  next-zero e = rw e
+
+  module _ (h : left ≡ 0 → ⊥) where
+    pub next-param : (r : LocalAt) (l : Local) (q : ℕ) → named ≡ true → param s at ≡ localAt s r → r ≡ OA.Got l q → elements (typed named) s at left ≡ typesNext named left s (N.Type (l .value) q)
+    next-param r l q d e f = elements-cons (typed named) s at left h ∙ rw (d, e, f)
+
+    pub next-no-param : (r : LocalAt) (n : ℕ) → named ≡ true → param s at ≡ localAt s r → r ≡ OA.Fault n → elements (typed named) s at left ≡ typesNext named left s N.End
+    next-no-param r n d e f = elements-cons (typed named) s at left h ∙ rw (d, e, f)
+
+    pub next-type : (r : ByteAt) (t q : ℕ) → named ≡ false → valType s at ≡ byteAt r → r ≡ B.Got t q → elements (typed named) s at left ≡ typesNext named left s (N.Type t q)
+    next-type r t q d e f = elements-cons (typed named) s at left h ∙ rw (d, e, f)
+
+    pub next-no-type : (r : ByteAt) (n : ℕ) → named ≡ false → valType s at ≡ byteAt r → r ≡ B.Fault n → elements (typed named) s at left ≡ typesNext named left s N.End
+    next-no-type r n d e f = elements-cons (typed named) s at left h ∙ rw (d, e, f)
+
+pub ruleset nexts = (next-zero, next-param, next-no-param, next-type, next-no-type)
+
+module _ (s : Bytes) (at left : ℕ) (named : Bool) (r : NextType) (told : elements (typed named) s at left ≡ typesNext named left s r) where
+  -- a type was read: one was left
+  pub next-some : (t q : ℕ) → r ≡ N.Type t q → 1 ≤ left
+  unfolding elements
+  next-some t q d = go left (told ∙ ap (typesNext named left s) d)
+    where
+      go : (n : ℕ) → elements (typed named) s at n ≡ t ∷ elements (typed named) s q (left - 1) → 1 ≤ n
+      go zero e = let z : _≡_ {A = ℕ} 0 1 = cc in absurd (omega arith)
+      go (suc n) e = omega arith
+
+  pub next-less : (t q : ℕ) → r ≡ N.Type t q → left - 1 < left
+  next-less t q d = let h = next-some t q d in omega arith
+
+  pub end-not : (t q : ℕ) → r ≡ N.Type t q → false ≡ sameBytes [] (elements (typed named) s at left)
+  unfolding sameBytes same
+  end-not t q d = sym (rw (told, d))
+
+  pub end-is : r ≡ N.End → true ≡ sameBytes [] (elements (typed named) s at left)
+  unfolding sameBytes same
+  end-is d = sym (rw (told, d))
+
+pub ruleset ends = (end-not, end-is)
+
+-- ## A list is its types one by one
+
+param-types : (s : Bytes) (n at : ℕ) → map (λ p. p .type) (elements param s at n) ≡ elements (typed true) s at n
+unfolding elements
+param-types s zero at = refl
+param-types s (suc n) at = go (λ next. param-types s n next) (param s at)
+  where
+    go : ((next : ℕ) → map (λ p. p .type) (elements param s next n) ≡ elements (typed true) s next n) → (st : Step (Syntax.Local Identifier))
+        → map (λ p. p .type) (onStep st (λ x next. x ∷ elements param s next n) []) ≡ onStep (onward (λ p next. got (p .type) next) st) (λ x next. x ∷ elements (typed true) s next n) []
+    go f (got x next) = ap (λ (l : List ValType). x .type ∷ l) (f next)
+    go f (fault k) = refl
+
+pub types-are : (named : Bool) (s : Bytes) (l : Code.List) → typesOf named s l ≡ elements (typed named) s (l .at) (l .count)
+unfolding typesOf
+types-are true s l = param-types s (l .count) (l .at)
+types-are false s l = refl
+
+-- ## Two lists
+
+other-short : (x : ℕ) (xs : List ℕ) → sameBytes (x ∷ xs) [] ≡ false
+unfolding sameBytes same
+other-short x xs = refl
+
+-- what is left of both decides
+pub record Comparing (s : Bytes) (named : Bool) (a n : ℕ) (other : Bool) (b m i left j right : ℕ) : Type 0 where
+  pub agree : sameBytes (elements (typed named) s i left) (elements (typed other) s j right) ≡ sameBytes (elements (typed named) s a n) (elements (typed other) s b m)
+
+-- at the start that is all
+pub compare-begin : (s : Bytes) (named : Bool) (a n : ℕ) (other : Bool) (b m : ℕ) → Comparing s named a n other b m a n b m
+compare-begin s named a n other b m = record { agree = refl }
+
+module _ (s : Bytes) (named : Bool) (a : Code.List) (other : Bool) (b : Code.List) (i left j right : ℕ)
+    (v : Comparing s named (a .at) (a .count) other (b .at) (b .count) i left j right)
+    (m : NextType) (p : elements (typed named) s i left ≡ typesNext named left s m) where
+  decides : sameBytes (elements (typed named) s i left) (elements (typed other) s j right) ≡ sameBytes (typesOf named s a) (typesOf other s b)
+  decides = v .agree ∙ sym (rw (types-are named s a, types-are other s b))
+
+  -- the first list has ended: the other decides
+  pub compare-end : (r : Bool) → m ≡ N.End → r ≡ sameBytes [] (elements (typed other) s j right) → r ≡ sameBytes (typesOf named s a) (typesOf other s b)
+  compare-end r d e = e ∙ sym (rw (p, d)) ∙ decides
+
+  module _ (n : NextType) (q : elements (typed other) s j right ≡ typesNext other right s n) (x k : ℕ) (d : m ≡ N.Type x k) where
+    -- the other has ended
+    pub compare-short : n ≡ N.End → false ≡ sameBytes (typesOf named s a) (typesOf other s b)
+    compare-short e = ended ∙ decides
+      where
+        ended : false ≡ sameBytes (elements (typed named) s i left) (elements (typed other) s j right)
+        ended = sym (rw (p, q, d, e) (other-short x (elements (typed named) s k (left - 1))))
+
+    module _ (y h : ℕ) (e : n ≡ N.Type y h) where
+      turn : sameBytes (elements (typed named) s i left) (elements (typed other) s j right)
+          ≡ (eqb x y && sameBytes (elements (typed named) s k (left - 1)) (elements (typed other) s h (right - 1)))
+      unfolding sameBytes same
+      turn = rw (p, q, d, e)
+
+      -- a type that differs
+      pub compare-differ : (x ≡ y → ⊥) → false ≡ sameBytes (typesOf named s a) (typesOf other s b)
+      compare-differ f = sym (sym decides ∙ turn ∙ rw (ne-eqb _ _ f))
+
+module _ (s : Bytes) (named : Bool) (a c : ℕ) (other : Bool) (b g : ℕ) (i left j right : ℕ) (v : Comparing s named a c other b g i left j right)
+    (m : NextType) (p : elements (typed named) s i left ≡ typesNext named left s m) (n : NextType) (q : elements (typed other) s j right ≡ typesNext other right s n) where
+  -- a type that agrees
+  pub compare-again : (x k y h : ℕ) → m ≡ N.Type x k → n ≡ N.Type y h → x ≡ y → Comparing s named a c other b g k (left - 1) h (right - 1)
+  unfolding sameBytes same
+  compare-again x k y h d e f = record { agree = sym (rw (p, q, d, e, eq-eqb _ _ f)) ∙ v .agree }
+
+pub ruleset compares = (compare-end, compare-short, compare-differ)
+
+-- ## The number of types
+
+pub record Counting (s : Bytes) (named : Bool) (a c at left n : ℕ) : Type 0 where
+  pub sum : n + left ≡ c
+  pub same : n + length (elements (typed named) s at left) ≡ length (elements (typed named) s a c)
+
+pub count-begin : (s : Bytes) (named : Bool) (a c : ℕ) → Counting s named a c a c 0
+count-begin s named a c = record { sum = omega arith; same = omega arith }
+
+module _ (s : Bytes) (named : Bool) (a c at left n : ℕ) (v : Counting s named a c at left n)
+    (r : NextType) (told : elements (typed named) s at left ≡ typesNext named left s r) where
+  pub count-again : (t q : ℕ) → r ≡ N.Type t q → Counting s named a c q (left - 1) (n + 1)
+  count-again t q d =
+      let h = next-some s at left named r told t q d in
+      let e : length (elements (typed named) s at left) ≡ suc (length (elements (typed named) s q (left - 1))) = ap length (told ∙ ap (typesNext named left s) d) in
+      record { sum = omega (arith, v .sum); same = omega (arith, v .same) }
+
+  pub count-fits : (t q : ℕ) → r ≡ N.Type t q → Fits w32 c → Fits w32 (n + 1)
+  count-fits t q d f = let h = next-some s at left named r told t q d in let g = f .fits in record { fits = omega (arith, v .sum) }
+
+module _ (s : Bytes) (named : Bool) (l : Code.List) (at left n : ℕ) (v : Counting s named (l .at) (l .count) at left n)
+    (r : NextType) (told : elements (typed named) s at left ≡ typesNext named left s r) where
+  pub count-done : r ≡ N.End → n ≡ length (typesOf named s l)
+  count-done d =
+      let e : length (elements (typed named) s at left) ≡ 0 = ap length (told ∙ ap (typesNext named left s) d) in
+      let f : length (typesOf named s l) ≡ length (elements (typed named) s (l .at) (l .count)) = ap length (types-are named s l) in
+      omega (arith, v .same)
+
+-- ## What the counts tell of a type use
+
+params-length : (s : Bytes) (n at : ℕ) → length (map (λ p. p .type) (elements param s at n)) ≡ length (elements param s at n)
+unfolding elements
+params-length s zero at = refl
+params-length s (suc n) at = go (λ next. params-length s n next) (param s at)
+  where
+    go : ((next : ℕ) → length (map (λ p. p .type) (elements param s next n)) ≡ length (elements param s next n)) → (st : Step (Syntax.Local Identifier))
+        → length (map (λ p. p .type) (onStep st (λ x next. x ∷ elements param s next n) [])) ≡ length (onStep st (λ x next. x ∷ elements param s next n) [])
+    go f (got x next) = ap suc (f next)
+    go f (fault k) = refl
+
+module _ (s : Bytes) (t : TypeUse) (n : ℕ) (e : n ≡ length (typesOf true s (t .params))) where
+  params-number : n ≡ length (elements param s (t .params .at) (t .params .count))
+  unfolding typesOf
+  params-number = e ∙ params-length s (t .params .count) (t .params .at)
+
+  pub short-no : (n ≡ 0 → ⊥) → false ≡ isShort (useOf s t)
+  unfolding isShort
+  short-no h = let p = params-number in sym (rw (← p, ne-eqb _ _ h))
+
+  pub inline-params : 0 < n → true ≡ isInline (useOf s t)
+  unfolding isInline
+  inline-params h = let p = params-number in sym (lt-ltb 0 (length (elements param s (t .params .at) (t .params .count)) + length (elements valType s (t .results .at) (t .results .count))) (omega arith))
+
+  module _ (m : ℕ) (f : m ≡ length (typesOf false s (t .results))) where
+    results-number : m ≡ length (elements valType s (t .results .at) (t .results .count))
+    unfolding typesOf
+    results-number = f
+
+    pub short-results : n ≡ 0 → leb m 1 ≡ isShort (useOf s t)
+    unfolding isShort
+    short-results h = let p = params-number in let q = results-number in sym (rw (← p, ← q, eq-eqb _ _ h))
+
+    pub inline-results : n ≤ 0 → ltb 0 m ≡ isInline (useOf s t)
+    unfolding isInline
+    inline-results h = let p = params-number in let q = results-number in let z : length (elements param s (t .params .at) (t .params .count)) + m ≡ m = omega arith in sym (rw (← q, z))
+
+pub ruleset shorts = (short-no, short-results, inline-params, inline-results)

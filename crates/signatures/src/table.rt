@@ -1,0 +1,117 @@
+// The table of types: 256 at most, from word 520 on; word 5896 says how many.
+use crate::entry::Signature;
+use crate::entry::of_use;
+use crate::entry::put_type;
+use crate::entry::same_type;
+use crate::entry::type_at;
+use typeuse::TypeUse;
+ghost use mathlib.Core.Path.{_≡_};
+ghost use Prim.Native.Nat.{_+_, _*_, _≤_, _<_, min};
+ghost use lib.ListN.{length, getD};
+ghost use Rattle.definition.specs.Basic as Basic;
+ghost use Rattle.definition.specs.Types as Types;
+ghost use Rattle.definition.specs.Names as Names;
+ghost use Rattle.typeuse.specs.Views.{useOf};
+ghost use Rattle.signatures.specs.Table.{signatureOf, entryIn, typeTable, typesIn, numberOf, agreeing, Adds, Interns};
+
+pub enum TypeFound {
+    Number(u32),
+    Nothing,
+}
+
+// The first of count types that is equal to a signature.
+pub fn find_type(s: &[u8], work: &[u32], count: u32, x: Signature) -> TypeFound
+    requires { ⌜ 520 + 5 * count ≤ length (now work) ⌝ }
+    ensures { λ r. ⌜ Types.typeAt (signatureOf (now (s .entry)) x) (typeTable count (now (s .entry)) (now (work .entry)) 520) ≡ numberOf r ⌝ }
+{
+    let mut k: u32 = 0;
+    let mut at = 520;
+    while k < count {
+        let y = type_at(work, at);
+        if same_type(s, x, y) {
+            return TypeFound::Number(k);
+        }
+        k += 1;
+        at += 5;
+    }
+    TypeFound::Nothing
+}
+
+// The number of a use's type and how many types there are now, or a refusal's number and record.
+pub enum Interned {
+    Number(u32, u32),
+    Refused(u8, u32),
+}
+
+// A signature is added at the end.
+fn add_type(s: &[u8], work: &mut [u32], count: u32, x: Signature)
+    requires { ⌜ (length (now s) ≤ 65536) × (count < 256) × (1800 ≤ length (now work)) ⌝ }
+    ensures { λ _. ⌜ Adds (now (s .entry)) (now (work .entry)) count x (now (work .exit)) ⌝ }
+{
+    let at = 520 + 5 * (count as usize);
+    put_type(s, work, at, x);
+}
+
+// A use takes the first equal signature, or adds one at the end.
+pub fn intern_use(s: &[u8], work: &mut [u32], count: u32, t: TypeUse, rec: u32) -> Interned
+    requires { ⌜ (length (now s) ≤ 65536) × (1800 ≤ length (now work)) × (count ≤ 256) ⌝ }
+    ensures { λ r. ⌜ Interns (now (s .entry)) (now (work .entry)) count t rec r (now (work .exit)) ⌝ }
+{
+    let x = of_use(t);
+    match find_type(s, work, count, x) {
+        TypeFound::Number(n) => Interned::Number(n, count),
+        TypeFound::Nothing => {
+            if 256 <= count {
+                return Interned::Refused(12, rec);
+            }
+            add_type(s, work, count, x);
+            Interned::Number(count, count + 1)
+        }
+    }
+}
+
+// How many types there are: 256 at most, whatever the word says.
+fn total(work: &[u32]) -> u32
+    requires { ⌜ 16384 ≤ length (now work) ⌝ }
+    ensures { λ r. ⌜ r ≡ min (getD (now (work .entry)) 5896 0) 256 ⌝ }
+{
+    let n = work[5896];
+    if n < 256 {
+        return n;
+    }
+    256
+}
+
+// How many parameters a type has; none where there is no such type.
+pub fn param_count(s: &[u8], work: &[u32], n: u32) -> u32
+    requires { ⌜ 16384 ≤ length (now work) ⌝ }
+    ensures { λ r. ⌜ r ≡ Names.paramCount (Basic.at (typesIn (now (s .entry)) (now (work .entry))) n) ⌝ }
+{
+    if total(work) <= n {
+        return 0;
+    }
+    let x = type_at(work, 520 + 5 * (n as usize));
+    crate::list::count_types(s, x.named, x.params)
+}
+
+pub enum Agreement {
+    Same,
+    Differs,
+    NoType,
+}
+
+// Is a type the one that a use says?
+pub fn agrees(s: &[u8], work: &[u32], n: u32, t: TypeUse) -> Agreement
+    requires { ⌜ 16384 ≤ length (now work) ⌝ }
+    ensures { λ r. ⌜ r ≡ agreeing (Types.signature (useOf (now (s .entry)) t)) (Basic.at (typesIn (now (s .entry)) (now (work .entry))) n) ⌝ }
+{
+    if total(work) <= n {
+        return Agreement::NoType;
+    }
+    let x = of_use(t);
+    let y = type_at(work, 520 + 5 * (n as usize));
+    if same_type(s, x, y) {
+        return Agreement::Same;
+    }
+    Agreement::Differs
+}
