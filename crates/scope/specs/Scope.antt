@@ -1,0 +1,41 @@
+-- What names mean, by the work area: the definition's scope, the locals of a function, and the open blocks.
+use Prim.Native.Nat.{ℕ, _+_, _≤_}
+use mathlib.Core.Path.{_≡_}
+use mathlib.Core.List.{List, [], _∷_, _++_}
+use mathlib.Core.Option.{Option, none, some}
+use lib.ListN.{length, getD, replicate}
+use Rattle.definition.specs.Basic.{Answer, ok, refused, sameBytes}
+use Rattle.definition.specs.Syntax.{Bytes, Identifier, FuncType, TypeUse}
+use Rattle.definition.specs.Types.{Uses, typeNumber}
+use Rattle.definition.specs.Names.{Namespace, Scope}
+use Rattle.space.specs.Area.{names, labels}
+use Rattle.signatures.specs.Table.{typesIn}
+use Rattle.names.specs.Register.{tableOf}
+use Rattle.scope.specs.declared.Locals.{Locals}
+
+-- ## The scope
+
+unfoldable pub scopeIn : Bytes → List ℕ → Scope Identifier
+scopeIn s w = record { eq = sameBytes; names = λ k. tableOf k s w; allTypes = typesIn s w }
+
+-- each use has its number in the word of its record
+unfoldable pub Recalled : List ℕ → List FuncType → Uses → Type 0
+Recalled w ts [] = Unit {0}
+Recalled w ts ((r, t) ∷ us) = (getD w (1800 + r) 0 ≡ typeNumber t ts) × Recalled w ts us
+
+-- ## Locals
+
+-- nameless places first, and then entries
+unfoldable pub localsIn : Bytes → List ℕ → Locals → Namespace Identifier
+localsIn s w l = replicate (l .nameless) none ++ names (l .count) s w 11536
+
+-- so few that a number of one goes into a word
+pub record FewLocals (l : Locals) : Type 0 where
+  pub nameless : l .nameless ≤ 65536
+  pub named : l .count ≤ 128
+
+-- ## Open blocks
+
+-- their labels, the innermost first
+unfoldable pub labelsIn : Bytes → List ℕ → ℕ → Namespace Identifier
+labelsIn s w k = labels k s w 11920
