@@ -1,10 +1,10 @@
 -- What reading leaves is what a walk begins with.
-use mathlib.Core.Path.{_≡_, refl, ap, sym, _∙_}
-use Prim.Native.Nat.{ℕ, zero, suc, _+_, _-_, _*_, _≤_, _<_}
+use mathlib.Core.Path.{_≡_, refl, ap, _∙_}
+use Prim.Native.Nat.{ℕ, suc, _+_, _-_, _≤_}
 use mathlib.Core.Bool.{Bool, true, false}
 use mathlib.Core.List.{List, [], _∷_, _++_, append-assoc}
 use lib.Dec.{ltb}
-use lib.ListN.{length, take, drop, set, length-take}
+use lib.ListN.{length, take, drop, set}
 use lib.Seq.{sets, length-sets, sets-eq, drop-set-lt, take-add, take-append-add, drop-at, take-all, length-take-le}
 use borrow.Author.Tests.{ltb-false}
 use native.Mathlib.Omega.{arith}
@@ -12,11 +12,11 @@ use Rattle.definition.specs.Basic.{if_then_else_, Answer, ok, refused}
 use Rattle.definition.specs.Syntax.{Bytes, Identifier, Rec}
 use Rattle.definition.specs.Read.{read}
 use Rattle.laws.specs.Steps.{total}
-use Rattle.stream.specs.Pass.{passed, endWords, countWords, areaOf, areaAfter, counted, reading, readingArea, Reads}
+use Rattle.stream.specs.Pass.{passed, endWords, countWords, areaAfter, counted, reading, readingArea, Reads}
 use Rattle.stream.specs.declared.pass.Count.{Count}
 use Rattle.stream.specs.declared.pass.Count.the-variants as C
 use Rattle.stream.proofs.Model.{passed-says}
-use Rattle.walk.specs.Walk.{begin, endsFrom, Begins, Ahead}
+use Rattle.walk.specs.Walk.{begin, endsFrom, Ahead}
 use Rattle.walk.specs.declared.Cursor.{Cursor}
 use Rattle.walk.proofs.Join.{ends-in, ends-few}
 

@@ -1,10 +1,8 @@
 -- Where the walk goes on by the work area is where the model goes on.
 use mathlib.Core.Path.{_≡_, refl, ap, sym, _∙_}
 use Prim.Native.Nat.{ℕ, zero, suc, _+_, _-_, _*_, _≤_, _<_}
-use mathlib.Core.Bool.{Bool, true, false, _||_}
 use mathlib.Core.List.{List, [], _∷_, _++_}
-use mathlib.Core.Option.{Option, none, some}
-use lib.Dec.{leb}
+use mathlib.Core.Option.{none, some}
 use lib.ListN.{length, take, drop, getD, length-take, length-drop}
 use lib.Seq.{getD-take, getD-drop}
 use borrow.Author.Tests.{lt-leb, le-leb}
@@ -12,11 +10,9 @@ use native.Mathlib.Omega.{arith}
 use native.Mathlib.Nat.{add-zero}
 use mir.Syntax.{w32}
 use mir.Val.{Fits}
-use Rattle.definition.specs.Basic.{if_then_else_}
-use Rattle.definition.specs.Syntax.{Bytes, Identifier, FieldRec}
-use Rattle.definition.specs.Reader.{Step, got, fault}
+use Rattle.definition.specs.Syntax.{Bytes}
 use Rattle.definition.specs.Records.{fieldRec}
-use Rattle.definition.specs.Spaces.{brings, sourceSpace, segments, externSpace, ownSpace}
+use Rattle.definition.specs.Spaces.{brings, sourceSpace, segments}
 use Rattle.definition.specs.Read.{fieldBody, sourceBody, ownBody, isStart}
 use Rattle.sources.specs.Views.{roomOf, sourceOf, noneSeen}
 use Rattle.sources.specs.declared.seen.Seen.{Seen}
@@ -29,10 +25,10 @@ use Rattle.fields.specs.declared.field.Field.the-variants as F
 use Rattle.fields.specs.declared.field.FieldAt.{FieldAt}
 use Rattle.fields.specs.declared.field.FieldAt.the-variants as FA
 use Rattle.stream.specs.Pass.{bodyOf}
-use Rattle.stream.specs.Counting.{oneMore, externBrings, ownBrings, sourceBrings, fieldSeen}
+use Rattle.stream.specs.Counting.{oneMore, sourceBrings, fieldSeen}
 use Rattle.stream.specs.Answers.{fieldDepth}
 use Rattle.stream.proofs.Counts.{extern-brings, own-brings}
-use Rattle.walk.specs.Walk.{begin, onVisit, afterField, bodies, counting, seenWith, cursorAfter, Visited, visitStep, visitAt, visitIn, visitOf, endOf, endsFrom, Begins, Ahead, endIn, stopIn, cursorIn}
+use Rattle.walk.specs.Walk.{begin, onVisit, afterField, counting, seenWith, cursorAfter, visitAt, visitIn, endOf, endsFrom, Ahead, endIn, stopIn, cursorIn}
 use Rattle.walk.specs.declared.Cursor.{Cursor}
 use Rattle.walk.specs.declared.Stop.{Stop}
 

@@ -1,5 +1,5 @@
 -- What a field that was read tells: what it brings had room, and a function has at most 64 parameters and 64 locals.
-use mathlib.Core.Path.{_≡_, refl, ap, sym, _∙_, subst}
+use mathlib.Core.Path.{_≡_, refl, ap, _∙_, subst}
 use Prim.Native.Nat.{ℕ, zero, suc, _≤_}
 use mathlib.Core.Bool.{Bool, true, false}
 use mathlib.Core.List.{List, [], _∷_}
@@ -10,8 +10,8 @@ use borrow.Author.Tests.{leb-true}
 use native.Mathlib.Omega.{arith}
 use Rattle.definition.specs.Basic.{if_then_else_}
 use Rattle.definition.specs.Syntax.{Bytes, Identifier, Space, funcs, tables, mems, globals, types, elems, datas, TypeUse, Local, ImportName, ExternType}
-use Rattle.definition.specs.Syntax.{Own, ownFunc, ownTable, ownMem, ownGlobal, Source, own, imported, tableOf, memOf, FieldRec, typeR, importR, itemR, exportR, startR, elemR, dataR}
-use Rattle.definition.specs.Reader.{Step, got, fault, Reader, onward, require, give, byte, many, choose, _>>=_, _>>_}
+use Rattle.definition.specs.Syntax.{ownFunc, ownTable, ownMem, ownGlobal, Source, own, imported, tableOf, memOf, FieldRec, typeR, importR, itemR, exportR, startR, elemR, dataR}
+use Rattle.definition.specs.Reader.{got, Reader, require, give, byte, many, choose, _>>=_, _>>_}
 use Rattle.definition.specs.Token.{u32, upTo, counted, identifier, string, bytes, valType, flag64, limits, tableType, globalType, present, optional, param, typeUse}
 use Rattle.definition.specs.Instructions.{constant}
 use Rattle.definition.specs.Records.{Room, Extern, Forms, importName, funcExtern, tableExtern, memExtern, globalExtern, importOf, importRec, itemRec, importForm, ownFuncForm, ownTableForm, inlineTableForm, ownMemForm, inlineMemForm, ownGlobalForm}

@@ -1,35 +1,35 @@
 -- On an accepted stream the fields of the walk are the definition's, and the ends of bodies are those that reading leaves.
 use mathlib.Core.Path.{_≡_, refl, ap, sym, _∙_}
-use Prim.Native.Nat.{ℕ, zero, suc, _+_, _-_, _*_, _≤_, _<_, min}
+use Prim.Native.Nat.{ℕ, zero, suc, _+_, _-_, _*_, _≤_, _<_}
 use mathlib.Core.Bool.{Bool, true, false}
-use mathlib.Core.List.{List, [], _∷_, _++_, map, append-nil, append-assoc}
+use mathlib.Core.List.{List, [], _∷_, _++_, append-nil, append-assoc}
 use mathlib.Core.Option.{Option, none, some}
 use lib.Dec.{eqb, leb, ltb}
-use lib.ListN.{length, getD, length-append}
+use lib.ListN.{length, length-append}
 use borrow.Author.Tests.{lt-leb, le-leb, ltb-true}
 use native.Mathlib.Omega.{arith}
 use native.Mathlib.Decide.{decLe}
 use Rattle.definition.specs.Basic.{if_then_else_, Answer, ok, refused}
 use Rattle.definition.specs.Syntax as Syntax
-use Rattle.definition.specs.Syntax.{Bytes, Identifier, Space, funcs, code, Source, own, imported, tableOf, memOf, ownFunc, ownTable, ownMem, ownGlobal}
+use Rattle.definition.specs.Syntax.{Bytes, Identifier, Space, funcs, Source, own, imported, tableOf, memOf, ownFunc, ownTable, ownMem, ownGlobal}
 use Rattle.definition.specs.Syntax.{FieldRec, typeR, importR, itemR, exportR, startR, elemR, dataR, Rec, field, instr, bodyEnd}
 use Rattle.definition.specs.Reader.{Step, got, fault, onward, require, give, byte, _>>=_, _>>_}
 use Rattle.definition.specs.Instructions.{formOf, formed, bodyRec}
-use Rattle.definition.specs.Records.{Room, fieldRec}
+use Rattle.definition.specs.Records.{fieldRec}
 use Rattle.definition.specs.Spaces.{sourceSpace, externSpace, ownSpace, segments, brings, count}
 use Rattle.definition.specs.Read as Read
-use Rattle.definition.specs.Read.{room, seenAfter, bodyAfter, itemsAfter, startedAfter, fieldBody, sourceBody, ownBody, openAfter, instrBody, recordIn, oneRecord, beginsIn, atEnd, nothingSeen, records, read}
+use Rattle.definition.specs.Read.{room, seenAfter, bodyAfter, itemsAfter, startedAfter, fieldBody, sourceBody, ownBody, openAfter, instrBody, recordIn, oneRecord, atEnd, nothingSeen, records, read}
 use Rattle.definition.specs.Deinline.{fieldsOf, bodyOf, deinlineFrom, deinline}
 use Rattle.laws.proofs.Backwards.{came, passed}
 use Rattle.laws.proofs.Reading.{records-end, records-full, accepted-next, Next}
-use Rattle.sources.specs.Views.{countOf, roomOf, noneSeen}
+use Rattle.sources.specs.Views.{countOf, roomOf}
 use Rattle.sources.specs.declared.seen.Seen.{Seen}
 use Rattle.stream.specs.Pass as Pass
 use Rattle.stream.specs.Pass.{Passed, pass}
 use Rattle.stream.specs.Counting.{oneMore}
 use Rattle.stream.proofs.Model.{pass-end, pass-got}
-use Rattle.stream.proofs.Counts.{Holds, Counts, holds-more, counts-none, counts-instr, counts-end, room-same}
-use Rattle.walk.specs.Walk.{onBody, bodyFrom, afterBody, bodyIn, afterField, bodies, counting, seenWith, begin, cursorAfter, Visited, visitStep, visitAt, onVisit, fieldsHere, fieldsFrom, fieldsAhead, fieldsIn, endOf, endsFrom}
+use Rattle.stream.proofs.Counts.{Holds, Counts, holds-more, counts-none, room-same}
+use Rattle.walk.specs.Walk.{bodyFrom, afterBody, bodyIn, afterField, bodies, counting, seenWith, begin, cursorAfter, Visited, visitAt, fieldsHere, fieldsFrom, fieldsAhead, fieldsIn, endOf, endsFrom}
 use Rattle.walk.specs.declared.Cursor.{Cursor}
 use Rattle.walk.specs.declared.Stop.{Stop}
 use Rattle.walk.proofs.Gives.{Roomy, RoomyField, roomy}

@@ -2,7 +2,7 @@
 use mathlib.Core.Path.{_≡_, refl, ap, sym, _∙_}
 use Prim.Native.Nat.{ℕ, zero, suc, _+_, _-_, _*_, _≤_, _<_}
 use mathlib.Core.Bool.{Bool, true, false}
-use mathlib.Core.List.{List, [], _∷_, _++_}
+use mathlib.Core.List.{List, [], _++_}
 use mathlib.Core.Option.{Option, none, some}
 use lib.Dec.{leb}
 use lib.ListN.{length, take, drop}
@@ -27,7 +27,7 @@ use Rattle.fields.specs.Views.{fieldOf}
 use Rattle.fields.specs.declared.field.Field.{Field}
 use Rattle.fields.specs.declared.field.Field.the-variants as F
 use Rattle.space.specs.Kept.{Kept}
-use Rattle.walk.specs.Walk.{onVisit, bodies, cursorAfter, Visited, visitStep, visitAt, visitIn, visitOf, metOf, fieldsHere, fieldsFrom, fieldsAhead, endOf, endsFrom, Begins, Ahead}
+use Rattle.walk.specs.Walk.{onVisit, bodies, cursorAfter, Visited, visitStep, visitAt, visitIn, visitOf, metOf, fieldsHere, fieldsFrom, fieldsAhead, endOf, endsFrom, Ahead}
 use Rattle.walk.specs.declared.Cursor.{Cursor}
 use Rattle.walk.specs.declared.Met.{Met}
 use Rattle.walk.specs.declared.What.{What}
