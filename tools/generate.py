@@ -481,7 +481,11 @@ def many_types(chance):
         else:
             body.append(b'\2\0' + use(signature, b'\x7F\x7F') + END)
     own = use(signature_number(chance.randrange(300)))
-    return b''.join(out) + b'\3\0\0\0' + own + b'\0' + b''.join(body) + b'\xFF'
+    out.append(b'\3\0\0\0' + own + b'\0' + b''.join(body) + b'\xFF')
+    # first or last, something for 11, 13 or 14 to say
+    out.insert(chance.choice((0, len(out))),
+               chance.choice((b'', b'', b'\2\1m\1n\2\0\0\0', b'\x0A\1d\0\0' * 2, b'\x08\2\1q')))
+    return b''.join(out)
 
 
 def wide_signature(chance):
@@ -560,6 +564,34 @@ def sizes(chance):
         b'\x09\0\0' + groups(min(size, 1024)) + b'\1\0' * min(size, 1024)))
 
 
+def wide_numbers(chance):
+    """The last groups of a number: within its width, past it, or open."""
+    short = b'\xFF\xFF\xFF\xFF' + bytes([chance.choice((0, 0x0E, 0x0F, 0x10, 0x1F, 0x7F, 0x80, 0x8F))])
+    long = b'\x80' * 9 + bytes([chance.choice((0, 1, 2, 3, 0x7F, 0x80, 0x81))])
+    tail = chance.choice((b'', b'\0', b'\xFF'))
+    return chance.choice((
+        in_function(b'\x41' + short), in_function(b'\x42' + long), in_function(b'\x10\1' + short),
+        in_function(b'\x28\0' + short + b'\0'), b'\5\0\0\0\1\0' + short, b'\5\0\0\0\4' + long, b'\1' + short,
+        b'\x07' + short, b'\1\0' + short, b'\x0A\0\0' + short)) + tail
+
+
+def two_in_one(chance):
+    """Two faults in one record, or in one function."""
+    missing, there = b'\2\1q', b'\2\1a'
+    table, constant, function = (chance.choice((missing, there, b'\1\0')) for _ in range(3))
+    wrong_use = chance.choice((use(b'\x7F', b'', missing), use(b'\x7F', b'', b'\1\x09'), use(b'\x7E', b'', b'\1\0'),
+                               use(b'\x7F', b'', b'\1\0'), use(b'', b'', missing), use(b'', b'', b'\1\x09')))
+    twice = b'\2\1v\x7F\1v\x7F'
+    items = type_record(b'a', b'\x7F') + b'\4\1a\0\0\x70\0\0' + b'\5\1a\0\0\0\0' + b'\6\1a\0\0\x7F\0\0\0'
+    return items + chance.choice((
+        in_function(b'\x11' + table + wrong_use),
+        b'\x09\1e\1' + table + b'\4' + constant + b'\1' + function,
+        b'\x0A\1d\1' + table + b'\4' + constant + b'\0',
+        b'\3\1f\0\0' + wrong_use + chance.choice((twice, b'\0')) + chance.choice((b'', b'\x20' + missing)) + b'\xFF',
+        in_function(b'\2\1l' + wrong_use + b'\x0B' + chance.choice((b'\0', b'\1l', b'\1k'))),
+        in_function(b'\2\1l' + use() + b'\x0E\2\2\1l' + function + table + END)))
+
+
 def starts(chance):
     """One start or two, with faults that come before or after."""
     start = chance.choice((b'\x08\1\0', b'\x08\2\1a'))
@@ -613,8 +645,9 @@ def all_opcodes(chance):
     return b''.join(maker.out) + END * 2 + b'\xFF'
 
 
-EDGES = (many_items, many_types, many_types, wide_signature, wide_signature, deep_blocks, long_lists, many_records, long_stream,
-         long_module, long_texts, long_texts, sizes, starts, all_constants, block_types, all_opcodes)
+EDGES = (many_items, many_types, wide_signature, deep_blocks, long_lists, many_records, long_stream, long_module, sizes,
+         all_constants, block_types, all_opcodes) * 2 + (long_texts, wide_numbers, two_in_one, starts, many_types,
+                                                         wide_signature) * 4
 
 
 def edges(chance):
@@ -636,7 +669,8 @@ def damaged(chance):
 
 
 def damage(chance, stream, at):
-    way = chance.randrange(8)
+    way = chance.randrange(10)
+    letters = [place for place, byte in enumerate(stream) if byte in b'abcdx']
     if way == 0:
         stream[at] = chance.randrange(256)
     elif way == 1:
@@ -653,12 +687,16 @@ def damage(chance, stream, at):
     elif way == 6:
         stream[at] |= 0x80
         stream[at + 1:at + 1] = b'\x80' * chance.choice((0, 1, 3, 8, 9)) + bytes([chance.choice((0, 0, 1, 0x10, 0x80))])
+    elif way == 7 and letters:
+        stream[chance.choice(letters)] = chance.choice(b'abcdx')
+    elif way == 8 and letters:
+        stream[chance.choice(letters)] = chance.choice(b' ,;"()[]{}\x1F\x7F\x80')
     else:
-        # another letter, or another value type, wherever there is one
-        places = [place for place, byte in enumerate(stream) if byte in b'abcdx' or byte in VALUE_TYPES]
+        # another value type, or an empty name
+        places = [place for place, byte in enumerate(stream[:-1]) if byte in VALUE_TYPES or byte == 2]
         if places:
             at = chance.choice(places)
-            stream[at] = chance.choice(b'abcdx' if stream[at] in b'abcdx' else VALUE_TYPES)
+            stream[at:at + 2] = [2, 0] if stream[at] == 2 else [chance.choice(VALUE_TYPES), stream[at + 1]]
 
 
 def moved(chance, stream):
