@@ -3,8 +3,8 @@ import time
 
 import reading_model
 
-PIECE = 1 << 19         # bytes of candidates for one question
-PATIENCE = 90           # seconds for one stream
+PIECE = 1 << 16         # bytes of candidates for one question
+PATIENCE = 30           # seconds for one stream
 
 
 class Starts(reading_model.Reader):
