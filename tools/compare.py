@@ -10,7 +10,7 @@ Makes N streams (generate.py), in pieces, and asks three judges of each:
   model     tools/model.py
 A line is printed for each sort of streams. Where two judges disagree, the
 stream is made smaller and shown in hex with the answers, one for each pair of
-answers. Most pieces are lent 16,384 words and 65,536 bytes; some fewer words
+sorts of answers. Most pieces are lent 16,384 words and 65,536 bytes; some fewer words
 (10) or bytes (18), some more. Exit status 1 on any disagreement.
 """
 import argparse
@@ -92,9 +92,15 @@ def pieces(seed, count):
             yield (sort, first, min(PIECE, wanted - first)) + LENDINGS[number % len(LENDINGS)]
 
 
-def show(judges, stream, work, room):
-    """The smallest stream found, and the answers."""
-    wrong = lambda some: [one for one, answers in zip(some, judges.ask(some, work, room)) if differ(answers)]
+def pair_of(answers):
+    """The sorts of the judges' answers, by which disagreements are told apart."""
+    return tuple(map(sort_of, answers.values()))
+
+
+def show(judges, pair, stream, work, room):
+    """The smallest stream found with this pair of answers, and the answers."""
+    wrong = lambda some: [one for one, answers in zip(some, judges.ask(some, work, room))
+                          if differ(answers) and pair_of(answers) == pair]
     stream = shrink.smaller(stream, wrong)
     print('  lent %d words and %d bytes: %s' % (work, room, stream.hex(' ').upper() or '-'))
     for judge, line in judges.ask([stream], work, room)[0].items():
@@ -128,14 +134,14 @@ def main():
             tallies[sort][sort_of(answers['model'])] += 1
             if differ(answers):
                 bad[sort] += 1
-                pair = tuple(map(sort_of, answers.values()))
+                pair = pair_of(answers)
                 if pair not in found[sort] or len(stream) < len(found[sort][pair][0]):
                     found[sort][pair] = stream, work, room
     for sort, tally in tallies.items():
         counts = ', '.join('%s: %d' % one for one in sorted(tally.items(), key=lambda one: (len(one[0]), one)))
         print('%s: %d streams, %d disagree (%s)' % (sort, sum(tally.values()), bad[sort], counts), flush=True)
-        for stream, work, room in sorted(found[sort].values(), key=lambda one: len(one[0]))[:options.findings]:
-            show(judges, stream, work, room)
+        for pair, case in sorted(found[sort].items(), key=lambda one: len(one[1][0]))[:options.findings]:
+            show(judges, pair, *case)
     print('%d streams, seed %d, %d disagree, %d s' % (sum(map(lambda tally: sum(tally.values()), tallies.values())),
                                                       options.seed, sum(bad.values()), time.monotonic() - start))
     sys.exit(1 if bad else 0)
