@@ -4,14 +4,13 @@
 # one that holds core.rs; the default is beside the repository.
 # usage: build.sh [FOLDER]
 set -eu
-given=${1:-}
-if [ -n "$given" ]; then
-    crate=$(cd "$given" && pwd)
-    cd "$(dirname "$0")"
-else
-    cd "$(dirname "$0")"
-    crate=$(cd ../../shared/docs/src/src && pwd)
+folder=${1:-$(dirname "$0")/../../shared/docs/src/src}
+if [ ! -f "$folder/core.rs" ]; then
+    echo "build.sh: $folder has no core.rs; give the folder of the crate's published files" >&2
+    exit 2
 fi
+crate=$(cd "$folder" && pwd)
+cd "$(dirname "$0")"
 here=$(pwd)
 
 rm -rf build/wast

@@ -143,6 +143,8 @@ for ceiling in CEILINGS:
     for other in (int(value) - 1, int(value) + 1):
         READING.append(('%s %d' % (name.lower().replace('_', ' '), other), '\n' + ceiling, '\n%s = %d' % (name, other)))
 
+SLIPS = [('model.py',) + slip for slip in MODEL] + [('reading_model.py',) + slip for slip in READING]
+
 
 def edited(file, old, new):
     """A module's text with one edit, which must fit at one place."""
@@ -203,9 +205,8 @@ def main():
     parser.add_argument('--shrink', action='store_true')
     options = parser.parse_args()
     known = list(cases(options.seed, options.streams))
-    slips = [('model.py',) + slip for slip in MODEL] + [('reading_model.py',) + slip for slip in READING]
     unseen = 0
-    for file, what, old, new in slips:
+    for file, what, old, new in SLIPS:
         slipped = with_slip(file, old, new)
         for number, (stream, work, room, right) in enumerate(known, 1):
             if answer(slipped, stream, work, room) != right:
@@ -220,7 +221,7 @@ def main():
                                   if answer(slipped, one, work, room) != model.assemble(one, work, room)]
             shown = ': ' + (shrink.smaller(stream, wrong).hex(' ').upper()[:300] or '-')
         print('%6d  %s%s' % (number, what, shown), flush=True)
-    print('%d slips, %d not seen in %d streams, seed %d' % (len(slips), unseen, len(known), options.seed))
+    print('%d slips, %d not seen in %d streams, seed %d' % (len(SLIPS), unseen, len(known), options.seed))
     sys.exit(1 if unseen else 0)
 
 

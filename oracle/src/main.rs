@@ -12,8 +12,11 @@
 //!                      reading of document 01: no question for the crate
 //!   panicked           the crate's code, or a stand-in, panicked
 //! --room is the length of the output, 65,536 if not given.
+//!
+//!   oracle --time ROUNDS < STREAMS      how long the crate takes (time.rs)
 mod answer;
 mod stream;
+mod time;
 mod tree;
 
 use answer::{Answer, answer};
@@ -25,10 +28,11 @@ struct Options {
     names: bool,
     why: bool,
     room: usize,
+    time: Option<usize>,
 }
 
 fn options() -> Option<Options> {
-    let mut options = Options { batch: false, names: false, why: false, room: 65_536 };
+    let mut options = Options { batch: false, names: false, why: false, room: 65_536, time: None };
     let mut arguments = std::env::args().skip(1);
     while let Some(argument) = arguments.next() {
         match argument.as_str() {
@@ -36,6 +40,7 @@ fn options() -> Option<Options> {
             "--names" => options.names = true,
             "--why" => options.why = true,
             "--room" => options.room = arguments.next()?.parse().ok()?,
+            "--time" => options.time = Some(arguments.next()?.parse().ok()?),
             _ => return None,
         }
     }
@@ -66,19 +71,23 @@ fn split(mut set: &[u8]) -> Option<Vec<&[u8]>> {
 
 fn main() -> std::io::Result<()> {
     let Some(options) = options() else {
-        eprintln!("usage: oracle [--batch] [--names] [--room N] [--why]");
+        eprintln!("usage: oracle [--batch] [--names] [--room N] [--why] [--time ROUNDS]");
         std::process::exit(2);
     };
     let mut set = Vec::new();
     std::io::stdin().read_to_end(&mut set)?;
     let mut out = std::io::BufWriter::new(std::io::stdout());
-    if !options.batch {
+    if !options.batch && options.time.is_none() {
         return writeln!(out, "{}", line(&set, &options));
     }
     let Some(streams) = split(&set) else {
         eprintln!("oracle: the batch is broken");
         std::process::exit(2);
     };
+    if let Some(rounds) = options.time {
+        time::time(&streams, rounds);
+        return Ok(());
+    }
     for stream in streams {
         writeln!(out, "{}", line(stream, &options))?;
     }
