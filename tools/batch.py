@@ -3,6 +3,7 @@ its length in 4 bytes, low first."""
 
 
 def pack(streams):
+    """A set of streams."""
     return b''.join(len(stream).to_bytes(4, 'little') + stream for stream in streams)
 
 

@@ -59,6 +59,8 @@ def run(command, streams):
 
 
 class Judges:
+    """Those who are asked; the model always is."""
+
     def __init__(self, oracle, driver):
         self.oracle = oracle
         self.driver = driver                    # None without the library
@@ -80,10 +82,11 @@ def differ(answers):
 
 
 def sort_of(line):
+    """An answer's first part: `ok`, or the refusal's number."""
     return 'ok' if line.startswith('ok') else line.split(' at ')[0]
 
 
-def pieces(seed, count):
+def pieces(count):
     """(sort, first number, size, words, bytes) of each piece. Each sort has
     its share of the streams, and has some of all lendings."""
     for sort, share in SHARES:
@@ -128,7 +131,9 @@ def main():
     tallies = {sort: Counter() for sort, _ in SHARES}
     found = {sort: {} for sort, _ in SHARES}    # pair of answers -> (stream, work, room), the shortest
     bad = Counter()
-    for sort, first, size, work, room in pieces(options.seed, options.streams):
+    for sort, first, size, work, room in pieces(options.streams):
+        if not judges.driver:
+            work = max(work, model.WORK)        # the oracle knows no 10
         streams = [generate.stream(sort, options.seed, number) for number in range(first, first + size)]
         for stream, answers in zip(streams, judges.ask(streams, work, room)):
             tallies[sort][sort_of(answers['model'])] += 1

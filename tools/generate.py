@@ -67,6 +67,7 @@ class Maker:
         self.types = []                 # as interning will number them
 
     def fault(self, number):
+        """Whether this place gets this fault."""
         return number in self.faults and self.random() < self.faults[number]
 
     # ---- parts ----
@@ -82,9 +83,11 @@ class Maker:
         return short[:-1] + bytes([short[-1] | 0x80]) + b'\x80' * (size - len(short) - 1) + b'\0'
 
     def identifier(self, name):
+        """A name, or none."""
         return self.number(len(name or b'')) + (name or b'')
 
     def string(self):
+        """With characters that would need an escape in a text."""
         size = self.pick((0, 1, 1, 2, 3, 5)) if self.random() < 0.99 else self.pick((127, 128, 255))
         return self.number(size) + bytes(self.chance.choices(b'abc "\\~xyz{}', k=size))
 
@@ -114,9 +117,11 @@ class Maker:
         return b'\1' + self.number(self.pick(NUMBERS))
 
     def indices(self, names, count):
+        """A count and as many indices."""
         return self.number(count) + b''.join([self.index(names) for _ in range(count)])
 
     def value_type(self):
+        """Mostly integers, so that signatures meet again."""
         return self.pick(VALUE_TYPES) if self.random() < 0.4 else self.pick((I32, I64))
 
     def signature(self):
@@ -182,12 +187,14 @@ class Maker:
         return b''.join(parts) + self.number(len(signature[1])) + signature[1]
 
     def limits(self):
+        """All four forms, with long and short numbers."""
         flags = self.pick((0, 1, 4, 5))
         edges, width = (EDGES64, 64) if flags & 4 else (EDGES32, 32)
         low, high = (self.pick(edges) if self.random() < 0.5 else self.chance.randrange(20) for _ in range(2))
         return bytes([flags]) + self.number(low, width) + (self.number(high, width) if flags & 1 else b'')
 
     def operand(self, kind):
+        """A constant without its first byte."""
         if kind < 2:
             width = 64 if kind else 32
             value = self.pick(EDGES64 if kind else EDGES32) if self.random() < 0.8 else self.chance.getrandbits(width)
@@ -199,10 +206,12 @@ class Maker:
         return self.index(self.names[GLOBAL if kind == 4 else FUNC])
 
     def constant(self):
+        """A constant with its first byte."""
         kind = self.pick((0, 0, 0, 1, 2, 3, 4, 4, 5, 6))
         return bytes([kind]) + self.operand(kind)
 
     def description(self, kind):
+        """What an import describes, by its kind."""
         if kind == FUNC:
             return self.use()
         if kind == TABLE:
@@ -212,6 +221,7 @@ class Maker:
         return bytes([self.value_type(), self.chance.randrange(2)])
 
     def data(self):
+        """A length and bytes."""
         size = self.pick((0, 1, 3, 8)) if self.random() < 0.97 else self.pick((127, 128, 300))
         return self.number(size) + self.chance.randbytes(size)
 
@@ -242,6 +252,7 @@ class Maker:
         return planned
 
     def stream(self):
+        """All fields; names are planned first, so that uses may come before."""
         planned = self.plan()
         self.declared = [name for what, _, name in planned if what == 'type']
         for _ in self.declared:
@@ -257,17 +268,21 @@ class Maker:
         return b''.join(self.out)
 
     def exports(self):
+        """None, some, or as many as may be."""
         count = self.pick((0, 0, 0, 1, 1, 2, 8))
         return self.number(count) + b''.join([self.string() for _ in range(count)])
 
     def start(self, _space, _name):
+        """Record 08."""
         self.out.append(b'\x08' + self.index(self.names[FUNC]))
 
     def export(self, _space, _name):
+        """Record 07."""
         kind = self.chance.randrange(4)
         self.out.append(b'\x07' + self.string() + bytes([kind]) + self.index(self.names[kind]))
 
     def imported(self, kind, name):
+        """Record 02, or an item in form 1."""
         if self.random() < 0.5:
             head = b'\x02' + self.string() + self.string() + bytes([kind]) + self.identifier(name)
         else:
@@ -275,9 +290,11 @@ class Maker:
         self.out.append(head + self.description(kind))
 
     def head(self, kind, name, form):
+        """Identifier, exports and form of an item."""
         return bytes([3 + kind]) + self.identifier(name) + self.exports() + bytes([form])
 
     def table(self, kind, name):
+        """Own or inline."""
         if self.random() < 0.5:
             self.out.append(self.head(kind, name, 0) + self.description(kind))
         else:
@@ -286,28 +303,34 @@ class Maker:
                             + self.indices(self.names[FUNC], count))
 
     def memory(self, kind, name):
+        """Own or inline."""
         if self.random() < 0.5:
             self.out.append(self.head(kind, name, 0) + self.description(kind))
         else:
             self.out.append(self.head(kind, name, 2) + self.pick((b'\0', b'\4')) + self.data())
 
     def global_item(self, kind, name):
+        """An own global."""
         self.out.append(self.head(kind, name, 0) + self.description(kind) + self.constant())
 
     def segment(self, first, space, name):
+        """The head of a segment, passive or active."""
         place = b'\0'
         if self.random() < 0.7:
             place = b'\1' + self.index(self.names[space], True) + self.constant()
         return bytes([first]) + self.identifier(name) + place
 
     def elem(self, _space, name):
+        """Record 09."""
         count = self.pick((0, 1, 1, 3))
         self.out.append(self.segment(0x09, TABLE, name) + self.indices(self.names[FUNC], count))
 
     def data_segment(self, _space, name):
+        """Record 0A."""
         self.out.append(self.segment(0x0A, MEMORY, name) + self.data())
 
     def func(self, kind, name):
+        """An own function with its body."""
         names = []
         head = self.head(kind, name, 0) + self.use(names)
         count = self.pick((0, 0, 1, 2, 4)) if self.random() < 0.99 else self.chance.randint(0, 64)
@@ -325,6 +348,7 @@ class Maker:
     # ---- instructions ----
 
     def body(self, local_names, size):
+        """Some instructions, all blocks closed, and FF."""
         labels = []
         for _ in range(size):
             self.out.append(self.instruction(local_names, labels))
@@ -344,6 +368,7 @@ class Maker:
         return bytes([opcode]) + self.identifier(said)
 
     def instruction(self, local_names, labels):
+        """One instruction; `labels` are those of the open blocks."""
         way = self.random()
         names = self.names
         if way < 0.14:
@@ -387,10 +412,12 @@ WRITERS = {'import': Maker.imported, 'func': Maker.func, 'table': Maker.table, '
 
 
 def rich(chance):
+    """A stream without a fault."""
     return Maker(chance).stream()
 
 
 def faulty(chance):
+    """Two to four sorts of faults compete in one stream."""
     sorts = chance.sample((11, 13, 'local', 14, 15, 16, 17), chance.choice((2, 3, 4)))
     return Maker(chance, {number: chance.choice((0.05, 0.2, 0.5)) for number in sorts}).stream()
 
@@ -403,18 +430,22 @@ BLOCK, END = bytes.fromhex('02 00 00 00 00'), bytes.fromhex('0B 00')
 
 
 def near(chance, ceiling):
+    """A ceiling, one less or one more."""
     return ceiling + chance.choice((-1, 0, 0, 1))
 
 
 def sized(text):
+    """A name, a string or a list of value types."""
     return groups(len(text)) + text
 
 
 def named(number):
+    """A name for each number."""
     return b'n%d' % number
 
 
 def in_function(code):
+    """Instructions as the body of a function without type or locals."""
     return FUNCTION + code + b'\xFF'
 
 
@@ -428,10 +459,12 @@ def signature_number(number):
 
 
 def type_record(name, parameters, results=b''):
+    """A declared type."""
     return b'\1' + sized(name) + sized(parameters) + sized(results)
 
 
 def use(parameters=b'', results=b'', index=b'\0'):
+    """A type use with nameless parameters."""
     return index + groups(len(parameters)) + b''.join(b'\0' + bytes([one]) for one in parameters) + sized(results)
 
 
@@ -523,6 +556,7 @@ def long_lists(chance):
 
 
 def many_records(chance):
+    """About 4,096 records, in a body or as fields."""
     count = near(chance, 4096)
     export = bytes.fromhex('07 00 00 01 00')
     fields = chance.choice((0, 1, 100))
@@ -651,6 +685,7 @@ EDGES = (many_items, many_types, wide_signature, deep_blocks, long_lists, many_r
 
 
 def edges(chance):
+    """One of the streams at an end."""
     return chance.choice(EDGES)(chance)
 
 
@@ -669,6 +704,7 @@ def damaged(chance):
 
 
 def damage(chance, stream, at):
+    """One change at this byte, or at another of its sort."""
     way = chance.randrange(10)
     letters = [place for place, byte in enumerate(stream) if byte in b'abcdx']
     if way == 0:
@@ -716,6 +752,7 @@ MAKERS = {'rich': rich, 'faulty': faulty, 'edges': edges, 'damaged': damaged}
 
 
 def stream(sort, seed, number):
+    """The stream with this number."""
     return MAKERS[sort](random.Random('%s %d %d' % (sort, seed, number)))
 
 

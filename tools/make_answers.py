@@ -91,6 +91,7 @@ def shown(stream, answer):
 
 
 def section_numbers(binary):
+    """A module's sections, by their numbers."""
     at = 8
     while at < len(binary):
         yield binary[at]

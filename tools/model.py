@@ -1,8 +1,9 @@
 #!/usr/bin/env python3
 """A plain model of the whole of document 01: what a call says of a stream.
 
-Written from document 01 and the standard's chapter 5 alone, without a look at
-the definition, the code or the crate. The reading rules (2 to 9) are those of
+It says what document 01 and the standard's chapter 5 say, in their order, and
+shares nothing with the definition, the proved code or the crate; but whoever
+wrote it had read the crate's passes. The reading rules (2 to 9) are those of
 reading_model.py. What document 01 leaves to oracle runs is as the oracle
 answered (docs/DECISIONS.md, 13 and 14).
 
@@ -64,10 +65,12 @@ class Parser:
         self.fields = []
 
     def byte(self):
+        """The next byte."""
         self.at += 1
         return self.stream[self.at - 1]
 
     def number(self):
+        """A number of any width, padded or not."""
         value = shift = 0
         while True:
             group = self.byte()
@@ -77,39 +80,50 @@ class Parser:
             shift += 7
 
     def raw(self, length):
+        """Bytes as they are."""
         self.at += length
         return self.stream[self.at - length:self.at]
 
     def text(self):
+        """A length and bytes: a string, a name, data."""
         return self.raw(self.number())
 
     def identifier(self):
+        """A name, or None."""
         return self.text() or None
 
     def index(self):
+        """None, a number or a name."""
         form = self.byte()
         return None if form == 0 else self.number() if form == 1 else self.identifier()
 
     def many(self, one):
+        """A count and as many of something."""
         return [one() for _ in range(self.number())]
 
     def indices(self):
+        """A list of indices."""
         return self.many(self.index)
 
     def value_types(self):
+        """A list of value types, as bytes."""
         return self.raw(self.number())
 
     def variable(self):
+        """A parameter or a local."""
         return self.identifier(), self.byte()
 
     def use(self):
+        """A type use."""
         return Use(self.index(), self.many(self.variable), self.value_types())
 
     def limits(self):
+        """The maximum is None if there is none."""
         flags = self.byte()
         return Limits(flags, self.number(), self.number() if flags & 1 else None)
 
     def constant(self):
+        """A constant with its first byte."""
         return self.operand(self.byte())
 
     def operand(self, kind):
@@ -121,9 +135,11 @@ class Parser:
         return kind, self.byte() if kind == 5 else self.index()
 
     def place(self):
+        """None for a passive segment, else index and constant."""
         return (self.index(), self.constant()) if self.byte() == 1 else None
 
     def description(self, kind):
+        """What is imported, by its kind."""
         if kind == FUNC:
             return self.use()
         if kind == TABLE:
@@ -133,18 +149,21 @@ class Parser:
         return self.byte(), self.byte()
 
     def put(self, field, record=None):
+        """One more field, and one more item if it is one."""
         self.fields.append((self.record if record is None else record, field))
         space = field.kind if type(field) is Import else SPACE_OF.get(type(field))
         if space is not None:
             self.items[space] += 1
 
     def whole(self):
+        """All fields."""
         while self.at < len(self.stream):
             self.field(self.byte())
             self.record += 1
         return self.fields
 
     def field(self, first):
+        """The field that begins with this byte."""
         if first == 0x01:
             self.put(Type(self.identifier(), (self.value_types(), self.value_types())))
         elif first == 0x02:
@@ -184,6 +203,7 @@ class Parser:
             self.put(Global(identifier, self.byte(), self.byte(), self.constant()))
 
     def inline(self, kind, identifier, number):
+        """Form 2: the segment that fills the item, then the item."""
         is64 = self.byte()
         place = number, (1 if is64 else 0, 0)
         if kind == TABLE:
@@ -207,6 +227,7 @@ class Parser:
             body.append((self.record, opcode, self.operands(opcode)))
 
     def operands(self, opcode):
+        """What follows an opcode; None if nothing does, or if it is an absent index."""
         if opcode in (0x02, 0x03, 0x04):
             return self.identifier(), self.use()
         if opcode in (0x05, 0x0B):
@@ -244,19 +265,23 @@ def signed(value, bits):
 
 
 def vector(parts):
+    """The standard's list: its length, then its elements."""
     return groups(len(parts)) + b''.join(parts)
 
 
 def sized(content):
+    """Bytes after their length: a name, a section, a body, value types."""
     return groups(len(content)) + content
 
 
 def limits(given):
+    """The flags are those of the stream."""
     high = b'' if given.high is None else groups(given.high)
     return bytes([given.flags]) + groups(given.low) + high
 
 
 def locals_in_runs(variables):
+    """Equal neighbours in one run."""
     runs = []
     for _, value_type in variables:
         if runs and runs[-1][1] == value_type:
@@ -275,10 +300,13 @@ def is_short(use):
 
 
 def signature(use):
+    """A use's parameter and result types."""
     return bytes(value_type for _, value_type in use.parameters), use.results
 
 
 class Assembler:
+    """The passes over the fields of one stream."""
+
     def __init__(self, fields):
         self.fields = fields
         self.types = []                         # signatures, by number
@@ -287,6 +315,7 @@ class Assembler:
         self.sections = {number: [] for number in range(1, 12)}
 
     def run(self):
+        """The passes in document 01's order."""
         self.import_order()
         self.intern()
         self.register()
@@ -295,6 +324,7 @@ class Assembler:
         return self.module()
 
     def import_order(self):
+        """11: imports come before own items."""
         own = False
         for record, field in self.fields:
             if isinstance(field, OWN_ITEMS):
@@ -319,16 +349,19 @@ class Assembler:
                         self.see(at, operands[1])
 
     def add_type(self, one):
+        """The first equal signature wins."""
         self.first_of.setdefault(one, len(self.types))
         self.types.append(one)
 
     def see(self, record, use):
+        """A use without index adds its type if there is none like it."""
         if use.index is None and signature(use) not in self.first_of:
             if len(self.types) == TYPES:
                 raise Refused(12, record)
             self.add_type(signature(use))
 
     def register(self):
+        """13: names of items, over the whole stream."""
         counts = [0] * 7
         for record, field in self.fields:
             space = field.kind if type(field) is Import else SPACE_OF.get(type(field))
@@ -351,6 +384,7 @@ class Assembler:
         return self.names[space][index]
 
     def type_number(self, record, use):
+        """Index (14), then 15, then 16."""
         if use.index is None:
             return self.first_of[signature(use)]
         number = self.number(record, TYPE, use.index)
@@ -362,6 +396,7 @@ class Assembler:
         return number
 
     def constant(self, record, given):
+        """A constant expression, with its end."""
         kind, value = given
         if kind < 2:
             code = signed(value, 64 if kind else 32)
@@ -374,6 +409,7 @@ class Assembler:
         return bytes([(0x41, 0x42, 0x43, 0x44, 0x23, 0xD0, 0xD2)[kind]]) + code + b'\x0B'
 
     def functions(self, record, indices):
+        """The functions of a segment."""
         return vector([groups(self.number(record, FUNC, index)) for index in indices])
 
     def resolve(self, record, field):
@@ -408,6 +444,7 @@ class Assembler:
             sections[11].append(self.data(record, field))
 
     def imported(self, record, field):
+        """An import section's entry."""
         if field.kind == FUNC:
             description = groups(self.type_number(record, field.description))
         elif field.kind == TABLE:
@@ -458,6 +495,7 @@ class Assembler:
         return names
 
     def module(self):
+        """Sections 1 to 11 in order, empty ones left out."""
         out = [b'\0asm\1\0\0\0']
         signatures = [b'\x60' + sized(parameters) + sized(results) for parameters, results in self.types]
         self.sections[1] = signatures
@@ -477,6 +515,7 @@ class Body:
         self.labels = []
 
     def code(self, body):
+        """All instructions, without the end that closes the body."""
         return b''.join(bytes([opcode]) + self.operand(record, opcode, operands)
                         for record, opcode, operands in body)
 
@@ -490,6 +529,7 @@ class Body:
         raise Refused(14, record)
 
     def local(self, record, index):
+        """A local's number."""
         if isinstance(index, int):
             return groups(index)
         if index not in self.names:
@@ -497,12 +537,14 @@ class Body:
         return groups(self.names[index])
 
     def block_type(self, record, use):
+        """Short, or a type number."""
         if is_short(use):
             return use.results or b'\x40'
         # A number, so never negative, in the signed form of 33 bits.
         return signed(self.assembler.type_number(record, use), 33)
 
     def operand(self, record, opcode, given):
+        """The bytes after an opcode, or a refusal at its record."""
         number = self.assembler.number
         if given is None and opcode not in (0x05, 0x0B, 0x3F, 0x40):
             return b''
@@ -548,6 +590,7 @@ class Body:
 
 
 def assemble(stream, work=WORK, room=ROOM):
+    """What a call says, with this much work area (words) and output (bytes)."""
     if len(stream) > reading_model.STREAM:
         return 'refused', 1, 0
     if work < WORK:

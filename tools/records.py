@@ -13,6 +13,7 @@ KINDS = ('func', 'table', 'memory', 'global')
 
 
 def _family(kind, names):
+    """The instructions of one type."""
     return [kind + '.' + name for name in names.split()]
 
 
@@ -45,17 +46,20 @@ INDEXED = {'br': 0x0C, 'br_if': 0x0D, 'call': 0x10, 'local.get': 0x20, 'local.se
 # ---- parts ----
 
 def text(name):
+    """A name or string after its length; None is empty."""
     name = (name or '').encode()
     return groups(len(name)) + name
 
 
 def index(what):
+    """Absent, a number or a name."""
     if what is None:
         return b'\0'
     return b'\1' + groups(what) if isinstance(what, int) else b'\2' + text(what)
 
 
 def types(some):
+    """A list of value types."""
     return groups(len(some)) + bytes(some)
 
 
@@ -66,10 +70,12 @@ def variables(some):
 
 
 def use(type=None, params=(), results=()):
+    """A type use."""
     return index(type) + variables(params) + types(results)
 
 
 def limits(low, high=None, is64=False):
+    """Limits of a table or memory."""
     flags = (4 if is64 else 0) | (0 if high is None else 1)
     return bytes([flags]) + groups(low) + (b'' if high is None else groups(high))
 
@@ -81,6 +87,7 @@ def const(kind, value):
 
 
 def operand(number, value):
+    """A constant without its first byte."""
     if number < 2:
         return groups(value % 2**(64 if number else 32))
     if number < 4:
@@ -89,16 +96,19 @@ def operand(number, value):
 
 
 def exported(names):
+    """An item's exports."""
     return groups(len(names)) + b''.join(map(text, names))
 
 
 def head(first, name, exports, form, strings=()):
+    """The head of records 03 to 06."""
     return bytes([first]) + text(name) + exported(exports) + bytes([form]) + b''.join(map(text, strings))
 
 
 # ---- fields; `imported` gives the two strings of an item's import form ----
 
 def type(name=None, params=(), results=()):
+    """Record 01."""
     return b'\1' + text(name) + types(params) + types(results)
 
 
@@ -108,6 +118,7 @@ def import_(module, field, kind, name, description):
 
 
 def func(name=None, using=None, locals=(), body=b'', exports=(), imported=None):
+    """Record 03 and its body."""
     using = using or use()
     if imported:
         return head(3, name, exports, 1, imported) + using
@@ -115,31 +126,38 @@ def func(name=None, using=None, locals=(), body=b'', exports=(), imported=None):
 
 
 def table(name, element, size, exports=(), imported=None):
+    """Record 04, own or imported."""
     return head(4, name, exports, 1 if imported else 0, imported or ()) + bytes([element]) + size
 
 
 def inline_table(name, functions, exports=(), is64=False):
+    """Record 04 with its functions."""
     return head(4, name, exports, 2) + (b'\4' if is64 else b'\0') + groups(len(functions)) + b''.join(map(index, functions))
 
 
 def memory(name, size, exports=(), imported=None):
+    """Record 05, own or imported."""
     return head(5, name, exports, 1 if imported else 0, imported or ()) + size
 
 
 def inline_memory(name, content, exports=(), is64=False):
+    """Record 05 with its data."""
     return head(5, name, exports, 2) + (b'\4' if is64 else b'\0') + groups(len(content)) + content
 
 
 def global_(name, value_type, mutable, init=None, exports=(), imported=None):
+    """Record 06."""
     start = head(6, name, exports, 1 if imported else 0, imported or ())
     return start + bytes([value_type, mutable]) + (b'' if imported else init)
 
 
 def export(name, kind, what):
+    """Record 07."""
     return b'\7' + text(name) + bytes([KINDS.index(kind)]) + index(what)
 
 
 def start(what):
+    """Record 08."""
     return b'\x08' + index(what)
 
 
@@ -150,6 +168,7 @@ def elem(name, functions, at=None, table=None):
 
 
 def data(name, content, at=None, memory=None):
+    """Record 0A, passive or active."""
     place = b'\0' if at is None else b'\1' + index(memory) + at
     return b'\x0A' + text(name) + place + groups(len(content)) + content
 
@@ -157,22 +176,27 @@ def data(name, content, at=None, memory=None):
 # ---- instructions ----
 
 def block(label=None, using=None):
+    """Opcode 02."""
     return b'\2' + text(label) + (using or use())
 
 
 def loop(label=None, using=None):
+    """Opcode 03."""
     return b'\3' + text(label) + (using or use())
 
 
 def if_(label=None, using=None):
+    """Opcode 04."""
     return b'\4' + text(label) + (using or use())
 
 
 def else_(label=None):
+    """Opcode 05."""
     return b'\5' + text(label)
 
 
 def end(label=None):
+    """Opcode 0B."""
     return b'\x0B' + text(label)
 
 
@@ -182,6 +206,7 @@ def br_table(*labels):
 
 
 def call_indirect(using, table=None):
+    """Opcode 11."""
     return b'\x11' + index(table) + using
 
 
@@ -192,14 +217,17 @@ def access(name, offset=0, align=None, memory=None):
 
 
 def memory_size(memory=None):
+    """Opcode 3F."""
     return b'\x3F' + index(memory)
 
 
 def memory_grow(memory=None):
+    """Opcode 40."""
     return b'\x40' + index(memory)
 
 
 def ref_null(heap):
+    """Opcode D0."""
     return b'\xD0' + bytes([heap])
 
 
@@ -215,4 +243,5 @@ def line(words):
 
 
 def code(*parts):
+    """Instructions, as lines or as bytes of the helpers above."""
     return b''.join(part if isinstance(part, bytes) else line(part) for part in parts)

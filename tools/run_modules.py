@@ -6,7 +6,8 @@ usage: run_modules.py [--oracle PROGRAM] [--program PROGRAM] [--verbose]
 Each module is assembled by the oracle and by model.py, and by the assembler's
 own program where it is given: all bytes must be the same. wasm-validate must
 accept them, with and without the name section; a broken copy must be refused.
-Then the calls are made: in node, or in wabt's wasm-interp where node lacks the
+wabt's own writer must give the same bytes again from its text of the module,
+but where the module says otherwise. Then the calls are made: in node, or in wabt's wasm-interp where node lacks the
 feature. Exit status 1 if anything is wrong.
 """
 import argparse
@@ -30,6 +31,7 @@ NOWHERE = ('table64',)
 
 
 def oracle_lines(oracle, streams, *options):
+    """The oracle's answers."""
     return subprocess.run([oracle, '--batch', *options], input=batch.pack(streams), stdout=subprocess.PIPE,
                           check=True).stdout.decode().splitlines()
 
@@ -61,6 +63,22 @@ def interpreted(module, binary):
         if not found or (int(found.group(1)) - int(result)) % 2**32:
             wrong.append('%s: %s' % (line, found.group(0) if found else printed))
     return wrong
+
+
+def rewritten(module, binary):
+    """Whether wabt writes the same bytes from its own text of the module."""
+    flags = [WABT_FLAGS[feature] for feature in module.features]
+    with tempfile.TemporaryDirectory() as folder:
+        there, text, again = (os.path.join(folder, name) for name in ('a.wasm', 'a.wat', 'b.wasm'))
+        with open(there, 'wb') as file:
+            file.write(binary)
+        subprocess.run(['wasm2wat', *flags, there, '-o', text], check=True)
+        subprocess.run(['wat2wasm', *flags, text, '-o', again], check=True)
+        with open(again, 'rb') as file:
+            same = file.read() == binary
+    if same == (module.otherwise is None):
+        return []
+    return ['wabt writes other bytes' if not same else 'wabt writes the same bytes, though: ' + module.otherwise]
 
 
 def validated(module, binary, named):
@@ -102,6 +120,8 @@ def main():
         if any(feature in NOWHERE for feature in one.features):
             continue
         wrong[one.name] += validated(one, binary, binary_named)
+        if not wrong[one.name]:
+            wrong[one.name] += rewritten(one, binary)
         calls += len(one.calls)
         if any(feature in NOT_IN_NODE for feature in one.features):
             wrong[one.name] += interpreted(one, binary)

@@ -20,6 +20,7 @@ class Starts(reading_model.Reader):
 
 
 def record_starts(stream):
+    """Where the records begin, and where the stream ends."""
     reader = Starts(stream)
     try:
         reader.whole_stream()

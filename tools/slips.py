@@ -155,6 +155,7 @@ def edited(file, old, new):
 
 
 def load(name, text):
+    """A module from its text."""
     module = types.ModuleType(name)
     exec(compile(text, name, 'exec'), module.__dict__)
     return module
@@ -175,6 +176,7 @@ def with_slip(file, old, new):
 
 
 def answer(module, stream, work, room):
+    """What the model says, or that it stumbled."""
     try:
         return module.assemble(stream, work, room)
     except Exception as error:          # a slip may also make it stumble

@@ -31,6 +31,7 @@ struct Options {
     time: Option<usize>,
 }
 
+/// None where the arguments make no sense.
 fn options() -> Option<Options> {
     let mut options = Options { batch: false, names: false, why: false, room: 65_536, time: None };
     let mut arguments = std::env::args().skip(1);
@@ -47,6 +48,7 @@ fn options() -> Option<Options> {
     Some(options)
 }
 
+/// A stream's line; a panic must not end the batch.
 fn line(bytes: &[u8], options: &Options) -> String {
     match catch_unwind(|| answer(bytes, options.room, options.names)) {
         Ok(Answer::Refused(number, record, message)) if options.why => {

@@ -154,17 +154,20 @@ pub fn read(bytes: &[u8]) -> Result<Stream<'_>, (u32, usize)> {
 impl<'a> Reader<'a> {
     // ---- bytes and numbers ----
 
+    /// The next byte; 2 at the end of the stream.
     fn byte(&mut self) -> Read<u8> {
         let byte = *self.bytes.get(self.at).ok_or(2u32)?;
         self.at += 1;
         Ok(byte)
     }
 
+    /// A byte that must be one of these; else 4.
     fn byte_of(&mut self, allowed: &[u8]) -> Read<u8> {
         let byte = self.byte()?;
         if allowed.contains(&byte) { Ok(byte) } else { Err(4) }
     }
 
+    /// A byte that must be in this range; else 4.
     fn byte_in(&mut self, allowed: RangeInclusive<u8>) -> Read<u8> {
         let byte = self.byte()?;
         if allowed.contains(&byte) { Ok(byte) } else { Err(4) }
@@ -190,19 +193,23 @@ impl<'a> Reader<'a> {
         }
     }
 
+    /// Counts, lengths and most numbers.
     fn u32(&mut self) -> Read<u32> {
         Ok(self.number(32)? as u32)
     }
 
+    /// A count or length; past its ceiling it is refused at its last byte.
     fn up_to(&mut self, ceiling: u32, refusal: u32) -> Read<u32> {
         let count = self.u32()?;
         if count > ceiling { Err(refusal) } else { Ok(count) }
     }
 
+    /// A count up to its ceiling, and as many of something.
     fn many<T>(&mut self, ceiling: u32, mut one: impl FnMut(&mut Self) -> Read<T>) -> Read<Vec<T>> {
         (0..self.up_to(ceiling, 7)?).map(|_| one(self)).collect()
     }
 
+    /// Bytes of any value, as a part of the stream.
     fn raw(&mut self, length: usize) -> Read<&'a [u8]> {
         let part = self.bytes[self.at..].get(..length).ok_or(2u32)?;
         self.at += length;
@@ -228,21 +235,25 @@ impl<'a> Reader<'a> {
         Ok(std::str::from_utf8(&self.bytes[start..self.at]).unwrap())
     }
 
+    /// None if its length is 0.
     fn identifier(&mut self) -> Read<Identifier<'a>> {
         let length = self.up_to(IDENTIFIER, 5)?;
         let text = self.text(length, is_idchar, 5)?;
         Ok(Some(text).filter(|text| !text.is_empty()))
     }
 
+    /// The name of an import or export.
     fn string(&mut self) -> Read<&'a str> {
         let length = self.up_to(STRING, 6)?;
         self.text(length, |byte| (0x20..=0x7E).contains(&byte), 6)
     }
 
+    /// An import's module and name.
     fn two(&mut self) -> Read<Two<'a>> {
         Ok((self.string()?, self.string()?))
     }
 
+    /// An index that may be absent.
     fn optional_index(&mut self) -> Read<Index<'a>> {
         match self.byte_in(0..=2)? {
             0 => Ok(Index::Absent),
@@ -250,11 +261,13 @@ impl<'a> Reader<'a> {
         }
     }
 
+    /// An index that must be present: 0 is no form of it.
     fn index(&mut self) -> Read<Index<'a>> {
         let form = self.byte_in(1..=2)?;
         self.index_of(form)
     }
 
+    /// What follows the form byte of a present index.
     fn index_of(&mut self, form: u8) -> Read<Index<'a>> {
         if form == 1 {
             return Ok(Index::Number(self.u32()?));
@@ -262,24 +275,29 @@ impl<'a> Reader<'a> {
         Ok(Index::Name(self.identifier()?.ok_or(5u32)?))
     }
 
+    /// The functions of a segment or the labels of br_table.
     fn indices(&mut self) -> Read<Vec<Index<'a>>> {
         self.many(INDICES, Self::index)
     }
 
     // ---- types, limits, constants ----
 
+    /// One of the six value types.
     fn value_type(&mut self) -> Read<u8> {
         self.byte_of(&[0x7F, 0x7E, 0x7D, 0x7C, 0x70, 0x6F])
     }
 
+    /// The two value types that a table may have.
     fn reference_type(&mut self) -> Read<u8> {
         self.byte_of(&[0x70, 0x6F])
     }
 
+    /// A parameter or a local.
     fn variable(&mut self) -> Read<Variable<'a>> {
         Ok((self.identifier()?, self.value_type()?))
     }
 
+    /// An optional index, parameters and results.
     fn type_use(&mut self) -> Read<TypeUse<'a>> {
         Ok(TypeUse {
             index: self.optional_index()?,
@@ -288,6 +306,7 @@ impl<'a> Reader<'a> {
         })
     }
 
+    /// Minimum and maximum, of 32 or 64 bits by the flags.
     fn limits(&mut self) -> Read<Limits> {
         let flags = self.byte_of(&[0, 1, 4, 5])?;
         let is64 = flags & 4 != 0;
@@ -297,10 +316,12 @@ impl<'a> Reader<'a> {
         Ok(Limits { is64, minimum, maximum })
     }
 
+    /// A global's second byte.
     fn mutable(&mut self) -> Read<bool> {
         Ok(self.byte_in(0..=1)? == 1)
     }
 
+    /// A constant with its first byte.
     fn constant(&mut self) -> Read<Constant<'a>> {
         Ok(match self.byte_in(0..=6)? {
             4 => Constant::GlobalGet(self.index()?),
@@ -310,6 +331,7 @@ impl<'a> Reader<'a> {
         })
     }
 
+    /// A constant without its first byte, as 41 to 44 have it.
     fn plain_constant(&mut self, kind: u8) -> Read<Constant<'a>> {
         Ok(match kind {
             0 => Constant::I32(self.u32()?),
@@ -338,6 +360,7 @@ impl<'a> Reader<'a> {
         if *count > ITEMS { Err(7) } else { Ok(()) }
     }
 
+    /// All fields; `record` ends at the count of records.
     fn fields(&mut self) -> Read<Vec<(usize, Field<'a>)>> {
         let mut fields = Vec::new();
         while self.at < self.bytes.len() {
@@ -348,6 +371,7 @@ impl<'a> Reader<'a> {
         Ok(fields)
     }
 
+    /// One field, with the body of a function.
     fn field(&mut self) -> Read<Field<'a>> {
         Ok(match self.begin(|byte| (0x01..=0x0A).contains(&byte))? {
             0x01 => {
@@ -410,6 +434,7 @@ impl<'a> Reader<'a> {
         })
     }
 
+    /// What is imported, by its kind.
     fn description(&mut self, kind: u8) -> Read<Description<'a>> {
         Ok(match kind {
             0 => Description::Function(self.type_use()?),
@@ -429,6 +454,7 @@ impl<'a> Reader<'a> {
         Ok((Head { identifier, exports, import }, form))
     }
 
+    /// Passive, or where an active segment goes.
     fn target(&mut self) -> Read<Target<'a>> {
         Ok(match self.byte_in(0..=1)? {
             0 => None,
@@ -449,6 +475,7 @@ impl<'a> Reader<'a> {
         }
     }
 
+    /// An instruction whose opcode has been read.
     fn instruction(&mut self, opcode: u8) -> Read<Instruction<'a>> {
         Ok(match opcode {
             0x02..=0x04 => {
@@ -482,6 +509,7 @@ impl<'a> Reader<'a> {
     }
 }
 
+/// Document 01's opcodes.
 fn is_opcode(byte: u8) -> bool {
     matches!(byte, 0x00..=0x05 | 0x0B..=0x11 | 0x1A | 0x1B | 0x20..=0x24 | 0x28..=0xC4 | 0xD0..=0xD2)
 }

@@ -9,6 +9,7 @@ use std::time::{Duration, Instant};
 struct Best(&'static str, Duration);
 
 impl Best {
+    /// Times one round.
     fn round(&mut self, work: impl FnOnce()) {
         let start = Instant::now();
         work();
@@ -16,6 +17,7 @@ impl Best {
     }
 }
 
+/// Times each part over all accepted streams.
 pub fn time(streams: &[&[u8]], rounds: usize) {
     let accepted = |bytes: &&&[u8]| matches!(answer(bytes, 65_536, false), Answer::Module(_));
     let streams: Vec<&[u8]> = streams.iter().filter(accepted).copied().collect();

@@ -6,14 +6,17 @@ use crate::stream::{self, Constant, Description, Field, Head, Identifier, Index,
 use wast::core::*;
 use wast::token::{F32, F64, Id, Span};
 
+/// The span that stands for a record.
 fn at(record: usize) -> Span {
     Span::from_offset(record)
 }
 
+/// An identifier as the crate has it.
 fn id<'a>(record: usize, identifier: Identifier<'a>) -> Option<Id<'a>> {
     identifier.map(|name| Id::new(name, at(record)))
 }
 
+/// An index as the crate has it where it may be left out.
 fn optional<'a>(record: usize, index: Index<'a>) -> Option<wast::token::Index<'a>> {
     use wast::token::Index as I;
     match index {
@@ -23,18 +26,22 @@ fn optional<'a>(record: usize, index: Index<'a>) -> Option<wast::token::Index<'a
     }
 }
 
+/// An index that the reader has found present.
 fn present<'a>(record: usize, index: Index<'a>) -> wast::token::Index<'a> {
     optional(record, index).expect("a present index")
 }
 
+/// An index whose absence means 0, as the crate fills it in while parsing.
 fn or_zero<'a>(record: usize, index: Index<'a>) -> wast::token::Index<'a> {
     optional(record, index).unwrap_or(wast::token::Index::Num(0, at(record)))
 }
 
+/// A segment's functions, or a br_table's labels.
 fn indices<'a>(record: usize, list: &[Index<'a>]) -> Vec<wast::token::Index<'a>> {
     list.iter().map(|index| present(record, *index)).collect()
 }
 
+/// funcref or externref.
 fn reference_type(byte: u8) -> RefType<'static> {
     match byte {
         0x70 => RefType::func(),
@@ -43,6 +50,7 @@ fn reference_type(byte: u8) -> RefType<'static> {
     }
 }
 
+/// A value type from its byte.
 fn value_type(byte: u8) -> ValType<'static> {
     match byte {
         0x7F => ValType::I32,
@@ -53,18 +61,22 @@ fn value_type(byte: u8) -> ValType<'static> {
     }
 }
 
+/// Limits as the crate has them.
 fn limits(limits: stream::Limits) -> Limits {
     Limits { is64: limits.is64, min: limits.minimum, max: limits.maximum }
 }
 
+/// Shared tables are outside document 01.
 fn table_type(elem: u8, size: stream::Limits) -> TableType<'static> {
     TableType { limits: limits(size), elem: reference_type(elem), shared: false }
 }
 
+/// Shared memories and page sizes are outside document 01.
 fn memory_type(size: stream::Limits) -> MemoryType {
     MemoryType { limits: limits(size), shared: false, page_size_log2: None }
 }
 
+/// Shared globals are outside document 01.
 fn global_type(byte: u8, mutable: bool) -> GlobalType<'static> {
     GlobalType { ty: value_type(byte), mutable, shared: false }
 }
@@ -82,6 +94,7 @@ fn type_use<'a>(record: usize, given: &stream::TypeUse<'a>, own: bool) -> TypeUs
     TypeUse { index: optional(record, given.index), inline: is_inline.then_some(inline) }
 }
 
+/// A constant is one instruction of an expression.
 fn constant<'a>(record: usize, given: Constant<'a>) -> Instruction<'a> {
     match given {
         Constant::I32(bits) => Instruction::i32_const(bits as i32),
@@ -94,6 +107,7 @@ fn constant<'a>(record: usize, given: Constant<'a>) -> Instruction<'a> {
     }
 }
 
+/// One instruction; its record is the span of all in it.
 fn instruction<'a>(record: usize, given: &stream::Instruction<'a>) -> Instruction<'a> {
     use Instruction as I;
     use stream::Instruction as S;
@@ -147,14 +161,17 @@ fn instruction<'a>(record: usize, given: &stream::Instruction<'a>) -> Instructio
     }
 }
 
+/// The import form of an item.
 fn inline_import<'a>(two: Option<Two<'a>>) -> Option<InlineImport<'a>> {
     two.map(|(module, field)| InlineImport { module, field })
 }
 
+/// The exports that an item brings, in their order.
 fn inline_export<'a>(head: &Head<'a>) -> InlineExport<'a> {
     InlineExport { names: head.exports.clone() }
 }
 
+/// A table of any form.
 fn table<'a>(record: usize, head: &Head<'a>, kind: TableKind<'a>) -> ModuleField<'a> {
     ModuleField::Table(Table {
         span: at(record),
@@ -165,6 +182,7 @@ fn table<'a>(record: usize, head: &Head<'a>, kind: TableKind<'a>) -> ModuleField
     })
 }
 
+/// A memory of any form.
 fn memory<'a>(record: usize, head: &Head<'a>, kind: MemoryKind<'a>) -> ModuleField<'a> {
     ModuleField::Memory(Memory {
         span: at(record),
@@ -175,10 +193,12 @@ fn memory<'a>(record: usize, head: &Head<'a>, kind: MemoryKind<'a>) -> ModuleFie
     })
 }
 
+/// An expression of one constant.
 fn offset<'a>(record: usize, given: Constant<'a>) -> Expression<'a> {
     Expression::one(constant(record, given))
 }
 
+/// An absent table stays absent: the crate tells it from table 0.
 fn elem_kind<'a>(record: usize, target: &Target<'a>) -> ElemKind<'a> {
     match target {
         None => ElemKind::Passive,
@@ -188,6 +208,7 @@ fn elem_kind<'a>(record: usize, target: &Target<'a>) -> ElemKind<'a> {
     }
 }
 
+/// An absent memory is memory 0, as in the crate's parser.
 fn data_kind<'a>(record: usize, target: &Target<'a>) -> DataKind<'a> {
     match target {
         None => DataKind::Passive,
@@ -197,6 +218,7 @@ fn data_kind<'a>(record: usize, target: &Target<'a>) -> DataKind<'a> {
     }
 }
 
+/// One field.
 fn field<'a>(record: usize, given: &Field<'a>) -> ModuleField<'a> {
     let span = at(record);
     match given {

@@ -102,7 +102,8 @@ MODULES = [
             both = 9
             loop_parameter 0 = 12
             if_pair 1 = 1 0.5
-            if_pair 0 = 2 2.5'''),
+            if_pair 0 = 2 2.5''',
+        otherwise='a block with an index is short'),
     module(
         'a block of type 64, whose number takes two signed groups',
         *[type('t%d' % number, [i32] * (number % 8) + [i64] * (number // 8)) for number in range(64)],

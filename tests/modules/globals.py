@@ -59,7 +59,8 @@ MODULES = [
             byte = 42
             global own = 7
             global g = 7
-            global big = 123456789012n'''),
+            global big = 123456789012n''',
+        otherwise='a segment that names table 0 takes form 0'),
     module(
         'items imported by form 1',
         table('t', funcref, limits(10), exports=['t'], imported=(ENV, 'table')),

@@ -38,7 +38,8 @@ MODULES = [
             by_name 0 = trap
             by_name 4 = trap
             by_name 6 = trap
-            no_type 1 = trap'''),
+            no_type 1 = trap''',
+        otherwise='a segment that names table 0 takes form 0'),
     module(
         'two tables, an inline one among them; segments with and without a table',
         type('answer', [], [i32]),
@@ -56,7 +57,8 @@ MODULES = [
             in_second 0 = 12
             in_second 1 = 11
             in_1 2 = 10
-            in_second 3 = trap'''),
+            in_second 3 = trap''',
+        otherwise='a segment that names table 0 takes form 0'),
     module(
         'a passive segment, a table of externref, references',
         type('answer', [], [i32]),

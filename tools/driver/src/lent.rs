@@ -21,10 +21,12 @@ pub enum Said {
     Refused { number: u32, record: u32 },
 }
 
+/// The pattern of the lent words; never 0, so that an unwritten word is noticed.
 fn word(at: usize, salt: u32) -> u32 {
     (at as u32).wrapping_mul(0x9E37_79B9) ^ salt | 1
 }
 
+/// The pattern of the lent bytes.
 fn byte(at: usize, salt: u32) -> u8 {
     (word(at, salt) >> 16) as u8
 }

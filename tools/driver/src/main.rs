@@ -54,6 +54,7 @@ mod library {
     }
 }
 
+/// A stream's line.
 fn line(stream: &[u8], work: usize, room: usize) -> String {
     let (said, wrong) = examine(library::barrizuppa_assemble, stream, work, room);
     let mut line = match said {
@@ -69,6 +70,7 @@ fn line(stream: &[u8], work: usize, room: usize) -> String {
     line
 }
 
+/// The words and bytes to lend; None where the arguments make no sense.
 fn options() -> Option<(usize, usize)> {
     let (mut work, mut room) = (16_384, 65_536);
     let mut arguments = std::env::args().skip(1);
