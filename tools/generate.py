@@ -37,7 +37,8 @@ NAMES = [b'a', b'b', b'c', b'd', b'aa', b'ab', b'ba', b'aab', b'x', b'l', b'f', 
 NUMBERS = (0, 0, 0, 1, 1, 2, 3, 5, 63, 64, 127, 128, 255, 256, 8191, 8192, 16383, 16384, 2**20, 2**21 - 1, 2**21,
            2**27, 2**28 - 1, 2**28, 2**31 - 1, 2**31, 2**32 - 1)
 
-WITHOUT_OPERAND = [opcode for opcode in OPCODES if opcode in (0x00, 0x01, 0x0F, 0x1A, 0x1B, 0xD1) or 0x45 <= opcode <= 0xC4]
+WITHOUT_OPERAND = [opcode for opcode in OPCODES
+                   if opcode in (0x00, 0x01, 0x0F, 0x1A, 0x1B, 0xD1) or 0x45 <= opcode <= 0xC4]
 
 
 def edge_numbers(width):
@@ -423,10 +424,10 @@ def faulty(chance):
 
 
 # ---------------------------------------------------------------------------
-# Edges. Each gives a stream from a source of chance; `near` is -1, 0 or 1.
+# Edges. Each gives a stream from a source of chance.
 
 FUNCTION = bytes.fromhex('03 00 00 00 00 00 00 00')
-BLOCK, END = bytes.fromhex('02 00 00 00 00'), bytes.fromhex('0B 00')
+END = bytes.fromhex('0B 00')
 
 
 def near(chance, ceiling):
@@ -486,7 +487,8 @@ def many_items(chance):
             out.append(chance.choice((b'\x0A' + name + b'\0\0', b'\x05\0\0\2\0\0')))
         elif number < imports:
             first = bytes([3 + space])
-            out.append(chance.choice((b'\2' + two + bytes([space]) + name, first + name + b'\0\1' + two)) + short[space])
+            head = chance.choice((b'\2' + two + bytes([space]) + name, first + name + b'\0\1' + two))
+            out.append(head + short[space])
         elif space == FUNC:
             out.append(b'\3' + name + b'\0\0' + short[FUNC] + b'\0\xFF')
         elif space == GLOBAL:
@@ -636,7 +638,8 @@ def starts(chance):
 
 def all_constants(chance):
     """Every end of the signed forms, in a body and as globals."""
-    code = b''.join(b'\x41' + groups(value) for value in EDGES32) + b''.join(b'\x42' + groups(value) for value in EDGES64)
+    code = b''.join(b'\x41' + groups(value) for value in EDGES32)
+    code += b''.join(b'\x42' + groups(value) for value in EDGES64)
     value = chance.choice(EDGES64)
     return b'\6\0\0\0\x7E\0\1' + groups(value) + in_function(code)
 
@@ -670,7 +673,8 @@ def all_opcodes(chance):
         elif 2 <= opcode <= 4:
             code = b'\0' + use()
         elif 0x28 <= opcode <= 0x3E:
-            code = bytes([chance.randint(0, 32), chance.randrange(128)]) + chance.choice((b'\0', b'\1\0', b'\1\1', b'\1\x80\1'))
+            code = bytes([chance.randint(0, 32), chance.randrange(128)])
+            code += chance.choice((b'\0', b'\1\0', b'\1\1', b'\1\x80\1'))
         elif opcode in WITHOUT_OPERAND:
             code = b''
         else:

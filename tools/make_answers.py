@@ -158,7 +158,8 @@ def main():
         file.writelines(line.replace('ours', 'refused') + '\n' for line in lines)
     tally = Counter(compare.sort_of(line) for line in lines)
     opcodes = sum(1 for one in seen if one[0] == 'opcode')
-    print('%d streams, %d bytes, %d opcodes of %d' % (len(kept), sum(map(len, kept)), opcodes, len(reading_model.OPCODES)))
+    print('%d streams, %d bytes, %d opcodes of %d'
+          % (len(kept), sum(map(len, kept)), opcodes, len(reading_model.OPCODES)))
     print(', '.join('%s: %d' % one for one in sorted(tally.items(), key=lambda one: (len(one[0]), one))))
     print('%d slips, of which it cannot show: %s' % (len(slips.SLIPS), ', '.join(unseen)))
     numbers = {one[1] for one in seen if one[0] == 'refused'}

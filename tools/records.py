@@ -132,7 +132,8 @@ def table(name, element, size, exports=(), imported=None):
 
 def inline_table(name, functions, exports=(), is64=False):
     """Record 04 with its functions."""
-    return head(4, name, exports, 2) + (b'\4' if is64 else b'\0') + groups(len(functions)) + b''.join(map(index, functions))
+    functions = groups(len(functions)) + b''.join(map(index, functions))
+    return head(4, name, exports, 2) + (b'\4' if is64 else b'\0') + functions
 
 
 def memory(name, size, exports=(), imported=None):

@@ -25,14 +25,18 @@ ROOMS = (65536, 65536, 65536, 60, 200)
 MODEL = [
     ('locals from 0 with an index only', 'parameters = [None] * len(self.types[number][0])', 'parameters = []'),
     ('locals from 0 with an inline type', 'enumerate(parameters + [', 'enumerate([None] * 0 + ['),
-    ('results counted as places', '[None] * len(self.types[number][0])', "[None] * len(b''.join(self.types[number]))"),
+    ('results counted as places', '[None] * len(self.types[number][0])',
+     "[None] * len(b''.join(self.types[number]))"),
     ('the outermost block of a name', 'in enumerate(reversed(self.labels)):',
      'in reversed(list(enumerate(reversed(self.labels)))):'),
-    ('only named blocks counted', 'enumerate(reversed(self.labels))', 'enumerate(filter(None, reversed(self.labels)))'),
+    ('only named blocks counted', 'enumerate(reversed(self.labels))',
+     'enumerate(filter(None, reversed(self.labels)))'),
     ('labels found by their first letter', 'if label == index:', 'if label and label[:1] == index[:1]:'),
     ('labels found by their length', 'if label == index:', 'if label and len(label) == len(index):'),
-    ('else closes its block', 'if opcode == 0x0B:\n                self.labels.pop()', 'if True:\n                self.labels.pop()'),
-    ('any label on an unnamed block', 'given is not None and given != label', 'None not in (given, label) and given != label'),
+    ('else closes its block', 'if opcode == 0x0B:\n                self.labels.pop()',
+     'if True:\n                self.labels.pop()'),
+    ('any label on an unnamed block', 'given is not None and given != label',
+     'None not in (given, label) and given != label'),
     ('no label taken for another', 'given is not None and given != label', 'given != label'),
     ('labels on ends unchecked', 'raise Refused(17, record)', 'pass'),
     ('a block of one result adds a type', 'and not is_short(operands[1]):', ':'),
@@ -42,30 +46,40 @@ MODEL = [
     ('a block type number unsigned', 'signed(self.assembler.type_number(record, use), 33)',
      'groups(self.assembler.type_number(record, use))'),
     ('a block type number in 32 bits', 'type_number(record, use), 33)', 'type_number(record, use), 32)'),
-    ('the last equal signature', 'self.first_of.setdefault(one, len(self.types))', 'self.first_of[one] = len(self.types)'),
-    ('declared types where they stand', '''        for _, field in self.fields:
-            if type(field) is Type:
-                self.add_type(field.signature)
-        for record, field in self.fields:
-            if type(field) is Import''', '''        for record, field in self.fields:
-            if type(field) is Type:
-                self.add_type(field.signature)
-            elif type(field) is Import'''),
-    ('a body before its function', '''                self.see(record, field.use)
-                for at, opcode, operands in field.body:''', '''                field = field._replace(body=field.body + [(record, 0x11, (None, field.use))])
-                for at, opcode, operands in field.body:'''),
-    ('call_indirect adds no type', 'if opcode == 0x11:\n                        self.see', 'if False:\n                        self.see'),
-    ('results do not tell types apart', 'value_type in use.parameters), use.results', "value_type in use.parameters), use.results[:1]"),
+    ('the last equal signature', 'self.first_of.setdefault(one, len(self.types))',
+     'self.first_of[one] = len(self.types)'),
+    ('declared types where they stand',
+     '        for _, field in self.fields:\n'
+     '            if type(field) is Type:\n'
+     '                self.add_type(field.signature)\n'
+     '        for record, field in self.fields:\n'
+     '            if type(field) is Import',
+     '        for record, field in self.fields:\n'
+     '            if type(field) is Type:\n'
+     '                self.add_type(field.signature)\n'
+     '            elif type(field) is Import'),
+    ('a body before its function',
+     '                self.see(record, field.use)\n                for at, opcode, operands in field.body:',
+     '                field = field._replace(body=field.body + [(record, 0x11, (None, field.use))])\n'
+     '                for at, opcode, operands in field.body:'),
+    ('call_indirect adds no type', 'if opcode == 0x11:\n                        self.see',
+     'if False:\n                        self.see'),
+    ('results do not tell types apart', 'value_type in use.parameters), use.results',
+     'value_type in use.parameters), use.results[:1]'),
     ('a 256th type refused', 'len(self.types) == TYPES', 'len(self.types) == TYPES - 1'),
     ('a 257th type added', 'len(self.types) == TYPES', 'len(self.types) == TYPES + 1'),
     ('15 among the declared types', 'number >= len(self.types):\n                raise',
      'number >= sum(type(field) is Type for _, field in self.fields):\n                raise'),
-    ('15 one late', 'number >= len(self.types):\n                raise Refused(15', 'number > len(self.types):\n                raise Refused(15'),
+    ('15 one late', 'number >= len(self.types):\n                raise Refused(15',
+     'number > len(self.types):\n                raise Refused(15'),
     ('16 over parameters and results in one row', 'self.types[number] != signature(use)',
      "b''.join(self.types[number]) != b''.join(signature(use))"),
-    ('16 over parameters alone', 'self.types[number] != signature(use)', 'self.types[number][0] != signature(use)[0]'),
+    ('16 over parameters alone', 'self.types[number] != signature(use)',
+     'self.types[number][0] != signature(use)[0]'),
     ('16 unchecked', 'raise Refused(16, record)', 'pass'),
-    ('an index out of range refused without an inline type', 'if use.parameters or use.results:\n            if number', 'if True:\n            if number'),
+    ('an index out of range refused without an inline type',
+     'if use.parameters or use.results:\n            if number',
+     'if True:\n            if number'),
     ('12 before 11', 'self.import_order()\n        self.intern()', 'self.intern()\n        self.import_order()'),
     ('13 before 12', 'self.intern()\n        self.register()', 'self.register()\n        self.intern()'),
     ('13 before 11', 'self.import_order()\n        self.intern()\n        self.register()',
@@ -74,26 +88,39 @@ MODEL = [
     ('an import after a global', 'OWN_ITEMS = (Func, Table, Memory, Global)', 'OWN_ITEMS = (Func, Table, Memory)'),
     ('an import after a segment refused', 'OWN_ITEMS = (Func, Table, Memory, Global)',
      'OWN_ITEMS = (Func, Table, Memory, Global, Elem)'),
-    ('segments without names', 'if field.identifier is not None:\n', 'if field.identifier is not None and space < ELEM:\n'),
-    ('the later of two names', "raise Refused(13, record)\n                self.names", "pass\n                self.names"),
-    ('one space for tables and memories', "self.names[space][field.identifier] = counts[space]",
-     "self.names[space][field.identifier] = counts[space]\n                self.names[MEMORY].setdefault(field.identifier, 0)"),
-    ('a missing name is 0', 'raise Refused(14, record)\n        return self.names', 'return 0\n        return self.names'),
-    ('a missing local is 0', 'raise Refused(14, record)\n        return groups(self', "return b'\\0'\n        return groups(self"),
-    ('locals may be named twice', 'raise Refused(13, record)\n                names[name]', 'pass\n                names[name]'),
-    ('locals before the type use', 'number = self.type_number(record, field.use)\n            names',
-     'self.local_names(record, field, 0)\n            number = self.type_number(record, field.use)\n            names'),
-    ('the type before the table', '''            table = number(record, TABLE, given[0], 0)
-            return''', '''            self.assembler.type_number(record, given[1])
-            table = number(record, TABLE, given[0], 0)
-            return'''),
+    ('segments without names', 'if field.identifier is not None:\n',
+     'if field.identifier is not None and space < ELEM:\n'),
+    ('the later of two names', 'raise Refused(13, record)\n                self.names',
+     'pass\n                self.names'),
+    ('one space for tables and memories',
+     'self.names[space][field.identifier] = counts[space]',
+     'self.names[space][field.identifier] = counts[space]\n'
+     '                self.names[MEMORY].setdefault(field.identifier, 0)'),
+    ('a missing name is 0', 'raise Refused(14, record)\n        return self.names',
+     'return 0\n        return self.names'),
+    ('a missing local is 0', 'raise Refused(14, record)\n        return groups(self',
+     "return b'\\0'\n        return groups(self"),
+    ('locals may be named twice', 'raise Refused(13, record)\n                names[name]',
+     'pass\n                names[name]'),
+    ('locals before the type use',
+     'number = self.type_number(record, field.use)\n            names',
+     'self.local_names(record, field, 0)\n'
+     '            number = self.type_number(record, field.use)\n'
+     '            names'),
+    ('the type before the table',
+     '            table = number(record, TABLE, given[0], 0)\n            return',
+     '            self.assembler.type_number(record, given[1])\n'
+     '            table = number(record, TABLE, given[0], 0)\n'
+     '            return'),
     ('type and table of call_indirect the other way round',
      'return groups(self.assembler.type_number(record, given[1])) + groups(table)',
      'return groups(table) + groups(self.assembler.type_number(record, given[1]))'),
-    ('ref.func among globals', "opcode == 0x10 or opcode == 0xD2:\n            return groups(number(record, FUNC",
-     "opcode == 0x10 or opcode == 0xD2:\n            return groups(number(record, GLOBAL if opcode == 0xD2 else FUNC"),
+    ('ref.func among globals',
+     'opcode == 0x10 or opcode == 0xD2:\n            return groups(number(record, FUNC',
+     'opcode == 0x10 or opcode == 0xD2:\n            return groups(number(record, GLOBAL if opcode == 0xD2 else FUNC'),
     ('exports backwards', 'for name in self.many(self.text)', 'for name in reversed(self.many(self.text))'),
-    ('an export of the item before', 'self.put(Export(name, kind, number))', 'self.put(Export(name, kind, max(number - 1, 0)))'),
+    ('an export of the item before', 'self.put(Export(name, kind, number))',
+     'self.put(Export(name, kind, max(number - 1, 0)))'),
     ('naming table 0 takes form 0', 'if table is None:\n            return', 'if not table:\n            return'),
     ('naming memory 0 takes form 2', "form = b'\\x00' if memory == 0", "form = b'\\x00' if field.place[0] is None"),
     ('an inline segment at an i32 offset always', '(1 if is64 else 0, 0)', '(0, 0)'),
@@ -125,13 +152,19 @@ MODEL = [
 
 # The same in reading_model.py: each ceiling one too high and one too low, and
 READING = [
-    ('padded numbers refused', 'if group < 0x80:\n                return value',
-     'if group == 0 and shift:\n                raise Refused(3)\n            if group < 0x80:\n                return value'),
+    ('padded numbers refused',
+     'if group < 0x80:\n                return value',
+     'if group == 0 and shift:\n'
+     '                raise Refused(3)\n'
+     '            if group < 0x80:\n'
+     '                return value'),
     ('a u32 of 33 bits', 'group >= 1 << bits_left', 'group >= 1 << bits_left + 1'),
     ('an empty name in an index', 'raise Refused(5)\n            self.text', 'pass\n            self.text'),
-    ('FF with a block open', 'if self.open_blocks > 0:\n                    raise Refused(8)', 'if False:\n                    raise Refused(8)'),
+    ('FF with a block open', 'if self.open_blocks > 0:\n                    raise Refused(8)',
+     'if False:\n                    raise Refused(8)'),
     ('a second start', 'raise Refused(9)', 'pass'),
-    ('the end of a body at the record before', 'self.record += 1\n        if has_body', 'if not has_body:\n            self.record += 1\n        if has_body'),
+    ('the end of a body at the record before', 'self.record += 1\n        if has_body',
+     'if not has_body:\n            self.record += 1\n        if has_body'),
     ('a comma in an identifier', '"!#$%&', '"!,#$%&'),
     ('7F in a string', 'range(0x20, 0x7F)', 'range(0x20, 0x80)'),
 ]
