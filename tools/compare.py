@@ -10,8 +10,8 @@ Makes N streams (generate.py), in pieces, and asks three judges of each:
   model     tools/model.py
 A line is printed for each sort of streams. Where two judges disagree, the
 stream is made smaller and shown in hex with the answers, one for each pair of
-sorts of answers. Most pieces are lent 16,384 words and 65,536 bytes; some fewer words
-(10) or bytes (18), some more. Exit status 1 on any disagreement.
+sorts of answers. Most pieces are lent 16,384 words and 65,536 bytes; some fewer
+words (10) or bytes (18), some more. Exit status 1 on any disagreement.
 """
 import argparse
 import os
