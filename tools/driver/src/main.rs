@@ -1,0 +1,107 @@
+//! Asks the assembler of many streams, for tools/compare.py.
+//!
+//!   driver [--work WORDS] [--room BYTES] < STREAMS
+//!
+//! Each stream comes after its length in 4 bytes, low first. One line for each:
+//! `ok HEX` or `refused N at R`, and behind it ` but ...` whatever is wrong with
+//! what the call left: the output beyond the module or after a refusal, the work
+//! area, the answer's four words. 16,384 words and 65,536 bytes are lent if
+//! nothing else is said.
+mod lent;
+
+use lent::{examine, Said};
+use std::fmt::Write as _;
+use std::io::{Read, Write};
+
+#[cfg(feature = "library")]
+mod library {
+    extern "C" {
+        pub fn barrizuppa_assemble(
+            stream: *const u8,
+            stream_len: usize,
+            work: *mut u32,
+            work_len: usize,
+            out: *mut u8,
+            out_len: usize,
+            answer: *mut [u32; 4],
+        ) -> u32;
+    }
+}
+
+#[cfg(not(feature = "library"))]
+mod library {
+    /// STUB: the empty module for the empty stream, 4 at 0 for any other.
+    pub unsafe extern "C" fn barrizuppa_assemble(
+        _stream: *const u8,
+        stream_len: usize,
+        work: *mut u32,
+        work_len: usize,
+        out: *mut u8,
+        out_len: usize,
+        answer: *mut [u32; 4],
+    ) -> u32 {
+        const MODULE: &[u8] = b"\0asm\x01\0\0\0";
+        work.write_bytes(0, work_len);
+        *answer = match (stream_len, out_len) {
+            (0, 8..) => [0, 0, 8, 0],
+            (0, _) => [18, 0, 0, 0],
+            _ => [4, 0, 0, 0],
+        };
+        if (*answer)[0] == 0 {
+            out.copy_from(MODULE.as_ptr(), MODULE.len());
+        }
+        (*answer)[0]
+    }
+}
+
+/// A stream's line.
+fn line(stream: &[u8], work: usize, room: usize) -> String {
+    let (said, wrong) = examine(library::barrizuppa_assemble, stream, work, room);
+    let mut line = match said {
+        Said::Module { bytes, .. } => bytes.iter().fold("ok ".to_string(), |mut line, byte| {
+            write!(line, "{byte:02X}").unwrap();
+            line
+        }),
+        Said::Refused { number, record } => format!("refused {number} at {record}"),
+    };
+    for what in wrong {
+        write!(line, " but {what}").unwrap();
+    }
+    line
+}
+
+/// The words and bytes to lend; None where the arguments make no sense.
+fn options() -> Option<(usize, usize)> {
+    let (mut work, mut room) = (16_384, 65_536);
+    let mut arguments = std::env::args().skip(1);
+    while let Some(argument) = arguments.next() {
+        let value = arguments.next()?.parse().ok()?;
+        match argument.as_str() {
+            "--work" => work = value,
+            "--room" => room = value,
+            _ => return None,
+        }
+    }
+    Some((work, room))
+}
+
+fn main() -> std::io::Result<()> {
+    let Some((work, room)) = options() else {
+        eprintln!("usage: driver [--work WORDS] [--room BYTES]");
+        std::process::exit(2);
+    };
+    let mut set = Vec::new();
+    std::io::stdin().read_to_end(&mut set)?;
+    let mut out = std::io::BufWriter::new(std::io::stdout());
+    let mut rest = &set[..];
+    while !rest.is_empty() {
+        let length = rest.get(..4).map(|four| u32::from_le_bytes(four.try_into().unwrap()) as usize);
+        let Some(stream) = length.and_then(|length| rest.get(4..4 + length)) else {
+            eprintln!("driver: the batch is broken");
+            std::process::exit(2);
+        };
+        writeln!(out, "{}", line(stream, work, room))?;
+        rest = &rest[4 + stream.len()..];
+    }
+    Ok(())
+}

@@ -1,0 +1,780 @@
+#!/usr/bin/env python3
+"""Seeded streams for the whole assembler, from chance alone: no answer is
+foreseen here.
+
+usage: generate.py [--sort SORT] [--seed S] [--first N] [--count N] [--hex]
+
+Sorts:
+  rich      valid modules: every record form and opcode, names, numbers and
+            absences, uses before and after what they name
+  faulty    the same with two or three sorts of faults (11 to 17) in one stream
+  edges     a ceiling, an end of a number's form or the output's end, one below,
+            at and one above it
+  damaged   a stream of the other sorts with bytes changed, cut, moved or padded
+
+A stream is known by its sort, seed and number alone. Writes the batch form of
+batch.py, or with --hex a line for each stream.
+"""
+import argparse
+import random
+import sys
+
+import batch
+import shrink
+from reading_model import IDCHARS, OPCODES, groups
+
+SORTS = ('rich', 'faulty', 'edges', 'damaged')
+
+I32, I64, F32, F64, FUNCREF, EXTERNREF = 0x7F, 0x7E, 0x7D, 0x7C, 0x70, 0x6F
+VALUE_TYPES = (I32, I64, F32, F64, FUNCREF, EXTERNREF)
+FUNC, TABLE, MEMORY, GLOBAL, TYPE, ELEM, DATA = range(7)
+
+# Short ones that are easily taken for one another, one that starts another,
+# the name of the crate's own symbols, and a longest one.
+NAMES = [b'a', b'b', b'c', b'd', b'aa', b'ab', b'ba', b'aab', b'x', b'l', b'f', b'0', b'1', b'gensym', b'gensyn',
+         b'x' * 63, b'x' * 64, b'x' * 63 + b'y', bytes(IDCHARS[-24:]), b'$', b'A']
+
+NUMBERS = (0, 0, 0, 1, 1, 2, 3, 5, 63, 64, 127, 128, 255, 256, 8191, 8192, 16383, 16384, 2**20, 2**21 - 1, 2**21,
+           2**27, 2**28 - 1, 2**28, 2**31 - 1, 2**31, 2**32 - 1)
+
+WITHOUT_OPERAND = [opcode for opcode in OPCODES
+                   if opcode in (0x00, 0x01, 0x0F, 0x1A, 0x1B, 0xD1) or 0x45 <= opcode <= 0xC4]
+
+
+def edge_numbers(width):
+    """Where the signed and unsigned forms of a width get longer."""
+    ends = [0, 1, 2**width - 1, 2**width - 2, 2**(width - 1), 2**(width - 1) - 1, 2**(width - 1) + 1]
+    for bits in range(6, width, 7):
+        for power in (2**bits, 2**(bits + 1)):
+            ends += [value % 2**width for value in (power - 1, power, -power, -power - 1)]
+    return tuple(value for value in ends if value < 2**width)
+
+
+EDGES32, EDGES64 = edge_numbers(32), edge_numbers(64)
+
+
+class Maker:
+    """One stream. `faults` gives, for a refusal, how often a place that can
+    have it gets it; 13 is for items, 'local' for a function's names."""
+
+    def __init__(self, chance, faults=None):
+        self.chance = chance
+        self.random = chance.random
+        self.pick = chance.choice
+        self.faults = faults or {}
+        self.out = []
+        self.names = [[] for _ in range(7)]
+        self.declared = []              # the names of the declared types
+        self.types = []                 # as interning will number them
+
+    def fault(self, number):
+        """Whether this place gets this fault."""
+        return number in self.faults and self.random() < self.faults[number]
+
+    # ---- parts ----
+
+    def number(self, value, width=32):
+        """Shortest, seldom padded."""
+        short = groups(value)
+        if self.random() < 0.97:
+            return short
+        size = self.chance.randint(len(short), (width + 6) // 7)
+        if size == len(short):
+            return short
+        return short[:-1] + bytes([short[-1] | 0x80]) + b'\x80' * (size - len(short) - 1) + b'\0'
+
+    def identifier(self, name):
+        """A name, or none."""
+        return self.number(len(name or b'')) + (name or b'')
+
+    def string(self):
+        """With characters that would need an escape in a text."""
+        size = self.pick((0, 1, 1, 2, 3, 5)) if self.random() < 0.99 else self.pick((127, 128, 255))
+        return self.number(size) + bytes(self.chance.choices(b'abc "\\~xyz{}', k=size))
+
+    def fresh(self, taken, refusal=13):
+        """None, a name that is not taken, or with that fault one that is."""
+        if taken and self.fault(refusal):
+            return self.pick(taken)
+        if self.random() < 0.35:
+            return None
+        for _ in range(3):
+            name = self.pick(NAMES)
+            if name not in taken:
+                return name
+        return None
+
+    def index(self, names, optional=False, likely=0.75):
+        """By a name that is there, by a number, or absent. With fault 14 by a
+        name that is not there, though it may be in another space."""
+        if self.fault(14):
+            name = self.pick(NAMES)
+            if name not in names:
+                return b'\2' + self.identifier(name)
+        if optional and self.random() < 0.4:
+            return b'\0'
+        if names and self.random() < likely:
+            return b'\2' + self.identifier(self.pick(names))
+        return b'\1' + self.number(self.pick(NUMBERS))
+
+    def indices(self, names, count):
+        """A count and as many indices."""
+        return self.number(count) + b''.join([self.index(names) for _ in range(count)])
+
+    def value_type(self):
+        """Mostly integers, so that signatures meet again."""
+        return self.pick(VALUE_TYPES) if self.random() < 0.4 else self.pick((I32, I64))
+
+    def signature(self):
+        """Often one of the few that this stream uses again and again."""
+        if self.types and self.random() < 0.5:
+            return self.pick(self.types)
+        parameters, results = self.pick((0, 0, 1, 1, 2, 3)), self.pick((0, 0, 1, 1, 2))
+        if self.random() < 0.01:
+            parameters, results = self.chance.randint(0, 64), self.chance.randint(0, 16)
+        return (bytes([self.value_type() for _ in range(parameters)]),
+                bytes([self.value_type() for _ in range(results)]))
+
+    def differing(self, signature):
+        """Another signature, close to this one."""
+        parameters, results = signature
+        way = self.chance.randrange(6)
+        if way == 0 and parameters:
+            return parameters[:-1], results
+        if way == 1 and results:
+            return parameters, results[:-1]
+        if way == 2 and parameters and len(results) < 16:
+            return parameters[:-1], parameters[-1:] + results
+        if way == 3 and results and len(parameters) < 64:
+            return parameters + results[:1], results[1:]
+        if way == 4 and parameters:
+            return bytes([I64 if parameters[0] == I32 else I32]) + parameters[1:], results
+        return (parameters + bytes([I32]))[:64], results
+
+    def use(self, taken=None, block=False):
+        """A type use; `taken` collects the names of a function's parameters."""
+        way = self.random()
+        index, signature = b'\0', (b'', b'')
+        if way < 0.2:
+            index = self.index(self.names[TYPE])
+        elif way < 0.3 and self.types:
+            index = b'\1' + self.number(self.chance.randrange(len(self.types)))
+        elif way < 0.6 or not self.types:
+            signature = self.signature()
+        elif way < 0.85:
+            number = self.chance.randrange(len(self.types))
+            signature = self.types[number]
+            name = self.declared[number] if number < len(self.declared) else None
+            if name and self.random() < 0.6:
+                index = b'\2' + self.identifier(name)
+            else:
+                index = b'\1' + self.number(number)
+            if self.fault(15):
+                index = b'\1' + self.number(len(self.types) + self.pick((0, 1, 2, 3, 6, 2**32 - 300)))
+            elif self.fault(16):
+                signature = self.differing(signature)
+        if index == b'\0' and not (block and not signature[0] and len(signature[1]) < 2):
+            if signature not in self.types:
+                self.types.append(signature)
+        parts = [index, self.number(len(signature[0]))]
+        for value_type in signature[0]:
+            if taken is None:
+                name = self.pick(NAMES) if self.random() < 0.3 else None
+            else:
+                name = self.fresh(taken, 'local')
+                if name and name not in taken:
+                    taken.append(name)
+            parts.append(self.identifier(name) + bytes([value_type]))
+        return b''.join(parts) + self.number(len(signature[1])) + signature[1]
+
+    def limits(self):
+        """All four forms, with long and short numbers."""
+        flags = self.pick((0, 1, 4, 5))
+        edges, width = (EDGES64, 64) if flags & 4 else (EDGES32, 32)
+        low, high = (self.pick(edges) if self.random() < 0.5 else self.chance.randrange(20) for _ in range(2))
+        return bytes([flags]) + self.number(low, width) + (self.number(high, width) if flags & 1 else b'')
+
+    def operand(self, kind):
+        """A constant without its first byte."""
+        if kind < 2:
+            width = 64 if kind else 32
+            value = self.pick(EDGES64 if kind else EDGES32) if self.random() < 0.8 else self.chance.getrandbits(width)
+            return self.number(value, width)
+        if kind < 4:
+            return self.chance.randbytes(4 if kind == 2 else 8)
+        if kind == 5:
+            return bytes([self.pick((FUNCREF, EXTERNREF))])
+        return self.index(self.names[GLOBAL if kind == 4 else FUNC])
+
+    def constant(self):
+        """A constant with its first byte."""
+        kind = self.pick((0, 0, 0, 1, 2, 3, 4, 4, 5, 6))
+        return bytes([kind]) + self.operand(kind)
+
+    def description(self, kind):
+        """What an import describes, by its kind."""
+        if kind == FUNC:
+            return self.use()
+        if kind == TABLE:
+            return bytes([self.pick((FUNCREF, EXTERNREF))]) + self.limits()
+        if kind == MEMORY:
+            return self.limits()
+        return bytes([self.value_type(), self.chance.randrange(2)])
+
+    def data(self):
+        """A length and bytes."""
+        size = self.pick((0, 1, 3, 8)) if self.random() < 0.97 else self.pick((127, 128, 300))
+        return self.number(size) + self.chance.randbytes(size)
+
+    # ---- fields ----
+
+    def plan(self):
+        """What fields there are, in order: (what, space or None, name)."""
+        own = ['type', 'func', 'table', 'memory', 'global', 'export', 'elem', 'data']
+        head = ['import'] * self.pick((0, 0, 1, 2, 5)) + ['type'] * self.pick((0, 1, 2, 4))
+        head += self.chance.choices(['export', 'elem', 'data'], k=self.pick((0, 0, 0, 1, 2)))
+        self.chance.shuffle(head)
+        fields = head + self.chance.choices(own, (3, 8, 2, 2, 3, 2, 2, 2), k=self.pick((0, 1, 2, 4, 7)))
+        if self.random() < 0.3:
+            fields.insert(self.chance.randint(0, len(fields)), 'start')
+        if self.fault(11):
+            fields.insert(self.chance.randint(0, len(fields)), 'import')
+        spaces = {'func': FUNC, 'table': TABLE, 'memory': MEMORY, 'global': GLOBAL, 'type': TYPE, 'elem': ELEM,
+                  'data': DATA}
+        planned = []
+        for what in fields:
+            space = self.chance.randrange(4) if what == 'import' else spaces.get(what)
+            name = None
+            if space is not None:
+                name = self.fresh(self.names[space])
+                if name:
+                    self.names[space].append(name)
+            planned.append((what, space, name))
+        return planned
+
+    def stream(self):
+        """All fields; names are planned first, so that uses may come before."""
+        planned = self.plan()
+        self.declared = [name for what, _, name in planned if what == 'type']
+        for _ in self.declared:
+            self.types.append(self.signature())
+        signatures = iter(self.types[:])
+        for what, space, name in planned:
+            if what == 'type':
+                parameters, results = next(signatures)
+                self.out.append(b'\1' + self.identifier(name) + self.number(len(parameters)) + parameters
+                                + self.number(len(results)) + results)
+            else:
+                WRITERS[what](self, space, name)
+        return b''.join(self.out)
+
+    def exports(self):
+        """None, some, or as many as may be."""
+        count = self.pick((0, 0, 0, 1, 1, 2, 8))
+        return self.number(count) + b''.join([self.string() for _ in range(count)])
+
+    def start(self, _space, _name):
+        """Record 08."""
+        self.out.append(b'\x08' + self.index(self.names[FUNC]))
+
+    def export(self, _space, _name):
+        """Record 07."""
+        kind = self.chance.randrange(4)
+        self.out.append(b'\x07' + self.string() + bytes([kind]) + self.index(self.names[kind]))
+
+    def imported(self, kind, name):
+        """Record 02, or an item in form 1."""
+        if self.random() < 0.5:
+            head = b'\x02' + self.string() + self.string() + bytes([kind]) + self.identifier(name)
+        else:
+            head = bytes([3 + kind]) + self.identifier(name) + self.exports() + b'\1' + self.string() + self.string()
+        self.out.append(head + self.description(kind))
+
+    def head(self, kind, name, form):
+        """Identifier, exports and form of an item."""
+        return bytes([3 + kind]) + self.identifier(name) + self.exports() + bytes([form])
+
+    def table(self, kind, name):
+        """Own or inline."""
+        if self.random() < 0.5:
+            self.out.append(self.head(kind, name, 0) + self.description(kind))
+        else:
+            count = self.pick((0, 1, 1, 3))
+            self.out.append(self.head(kind, name, 2) + self.pick((b'\0', b'\4'))
+                            + self.indices(self.names[FUNC], count))
+
+    def memory(self, kind, name):
+        """Own or inline."""
+        if self.random() < 0.5:
+            self.out.append(self.head(kind, name, 0) + self.description(kind))
+        else:
+            self.out.append(self.head(kind, name, 2) + self.pick((b'\0', b'\4')) + self.data())
+
+    def global_item(self, kind, name):
+        """An own global."""
+        self.out.append(self.head(kind, name, 0) + self.description(kind) + self.constant())
+
+    def segment(self, first, space, name):
+        """The head of a segment, passive or active."""
+        place = b'\0'
+        if self.random() < 0.7:
+            place = b'\1' + self.index(self.names[space], True) + self.constant()
+        return bytes([first]) + self.identifier(name) + place
+
+    def elem(self, _space, name):
+        """Record 09."""
+        count = self.pick((0, 1, 1, 3))
+        self.out.append(self.segment(0x09, TABLE, name) + self.indices(self.names[FUNC], count))
+
+    def data_segment(self, _space, name):
+        """Record 0A."""
+        self.out.append(self.segment(0x0A, MEMORY, name) + self.data())
+
+    def func(self, kind, name):
+        """An own function with its body."""
+        names = []
+        head = self.head(kind, name, 0) + self.use(names)
+        count = self.pick((0, 0, 1, 2, 4)) if self.random() < 0.99 else self.chance.randint(0, 64)
+        parts = [head, self.number(count)]
+        last = I32
+        for _ in range(count):
+            last = last if self.random() < 0.4 else self.value_type()
+            local = self.fresh(names, 'local')
+            if local and local not in names:
+                names.append(local)
+            parts.append(self.identifier(local) + bytes([last]))
+        self.out.append(b''.join(parts))
+        self.body(names, self.pick((0, 1, 2, 4, 8, 16)))
+
+    # ---- instructions ----
+
+    def body(self, local_names, size):
+        """Some instructions, all blocks closed, and FF."""
+        labels = []
+        for _ in range(size):
+            self.out.append(self.instruction(local_names, labels))
+        while labels:
+            self.out.append(self.end(0x0B, labels))
+        self.out.append(b'\xFF')
+
+    def end(self, opcode, labels):
+        """An else or end, with the block's label or none; with fault 17 with
+        another's, or one where there is none."""
+        label = labels[-1]
+        if opcode == 0x0B:
+            labels.pop()
+        said = label if self.random() < 0.4 else None
+        if self.fault(17):
+            said = self.pick(NAMES[:6] + [other for other in labels if other])
+        return bytes([opcode]) + self.identifier(said)
+
+    def instruction(self, local_names, labels):
+        """One instruction; `labels` are those of the open blocks."""
+        way = self.random()
+        names = self.names
+        if way < 0.14:
+            label = self.pick(NAMES[:5]) if self.random() < 0.6 else None
+            use = self.use(block=True)
+            labels.append(label)
+            return bytes([self.pick((2, 3, 4))]) + self.identifier(label) + use
+        if way < 0.26 and labels:
+            return self.end(self.pick((5, 0x0B, 0x0B)), labels)
+        if way < 0.38:
+            return bytes([self.pick((0x20, 0x21, 0x22))]) + self.index(local_names)
+        if way < 0.46:
+            shown = [label for label in labels if label]
+            if self.random() < 0.6:
+                return bytes([self.pick((0x0C, 0x0D))]) + self.index(shown)
+            count = self.pick((0, 1, 2, 4))
+            return b'\x0E' + self.indices(shown, count) + self.index(shown)
+        if way < 0.52:
+            return self.pick((b'\x10', b'\xD2')) + self.index(names[FUNC])
+        if way < 0.60:
+            return b'\x11' + self.index(names[TABLE], True) + self.use()
+        if way < 0.65:
+            return self.pick((b'\x23', b'\x24')) + self.index(names[GLOBAL])
+        if way < 0.75:
+            alignment = self.pick((0, 0, 0, 1, 2, 3, 4, 31, 32))
+            return (bytes([self.chance.randint(0x28, 0x3E), alignment]) + self.number(self.pick(NUMBERS))
+                    + self.index(names[MEMORY], True))
+        if way < 0.79:
+            return self.pick((b'\x3F', b'\x40')) + self.index(names[MEMORY], True)
+        if way < 0.88:
+            kind = self.chance.randrange(4)
+            return bytes([0x41 + kind]) + self.operand(kind)
+        if way < 0.90:
+            return b'\xD0' + self.operand(5)
+        return bytes([self.pick(WITHOUT_OPERAND)])
+
+
+WRITERS = {'import': Maker.imported, 'func': Maker.func, 'table': Maker.table, 'memory': Maker.memory,
+           'global': Maker.global_item, 'export': Maker.export, 'start': Maker.start, 'elem': Maker.elem,
+           'data': Maker.data_segment}
+
+
+def rich(chance):
+    """A stream without a fault."""
+    return Maker(chance).stream()
+
+
+def faulty(chance):
+    """Two to four sorts of faults compete in one stream."""
+    sorts = chance.sample((11, 13, 'local', 14, 15, 16, 17), chance.choice((2, 3, 4)))
+    return Maker(chance, {number: chance.choice((0.05, 0.2, 0.5)) for number in sorts}).stream()
+
+
+# ---------------------------------------------------------------------------
+# Edges. Each gives a stream from a source of chance.
+
+FUNCTION = bytes.fromhex('03 00 00 00 00 00 00 00')
+END = bytes.fromhex('0B 00')
+
+
+def near(chance, ceiling):
+    """A ceiling, one less or one more."""
+    return ceiling + chance.choice((-1, 0, 0, 1))
+
+
+def sized(text):
+    """A name, a string or a list of value types."""
+    return groups(len(text)) + text
+
+
+def named(number):
+    """A name for each number."""
+    return b'n%d' % number
+
+
+def in_function(code):
+    """Instructions as the body of a function without type or locals."""
+    return FUNCTION + code + b'\xFF'
+
+
+def signature_number(number):
+    """A signature of its own for each number: its digits in six types."""
+    digits = b''
+    while number:
+        digits += bytes([VALUE_TYPES[number % 6]])
+        number //= 6
+    return digits
+
+
+def type_record(name, parameters, results=b''):
+    """A declared type."""
+    return b'\1' + sized(name) + sized(parameters) + sized(results)
+
+
+def use(parameters=b'', results=b'', index=b'\0'):
+    """A type use with nameless parameters."""
+    return index + groups(len(parameters)) + b''.join(b'\0' + bytes([one]) for one in parameters) + sized(results)
+
+
+def many_items(chance):
+    """About 256 items of one space in all forms, the last used by name."""
+    space = chance.randrange(7)
+    count = near(chance, 256)
+    imports = chance.choice((0, 1, 100, count))
+    two = b'\1m\1n'
+    short = {FUNC: b'\0\0\0', TABLE: b'\x70\0\0', MEMORY: b'\0\0', GLOBAL: b'\x7F\0'}
+    out = []
+    for number in range(count):
+        name = sized(named(number))
+        if space == TYPE:
+            out.append(type_record(named(number), b''))
+        elif space == ELEM:
+            out.append(chance.choice((b'\x09' + name + b'\0\0', b'\x04\0\0\2\0\0')))
+        elif space == DATA:
+            out.append(chance.choice((b'\x0A' + name + b'\0\0', b'\x05\0\0\2\0\0')))
+        elif number < imports:
+            first = bytes([3 + space])
+            head = chance.choice((b'\2' + two + bytes([space]) + name, first + name + b'\0\1' + two))
+            out.append(head + short[space])
+        elif space == FUNC:
+            out.append(b'\3' + name + b'\0\0' + short[FUNC] + b'\0\xFF')
+        elif space == GLOBAL:
+            out.append(b'\6' + name + b'\0\0' + short[GLOBAL] + b'\0\0')
+        else:
+            out.append(bytes([3 + space]) + name + b'\0\0' + short[space])
+    if space < TYPE:
+        out.append(b'\x07\1e' + bytes([space]) + b'\2' + sized(named(chance.choice((0, 127, 128, count - 1, count)))))
+    return b''.join(out)
+
+
+def many_types(chance):
+    """Declared types and uses that bring them to about 256."""
+    declared = chance.choice((0, 200, 250, 255, 256))
+    total = near(chance, 256)
+    out = [type_record(b'', signature_number(number)) for number in range(declared)]
+    body = []
+    for number in range(declared, total):
+        way = chance.randrange(3)
+        signature = signature_number(number)
+        if way == 0:
+            out.append(b'\2\1m\1n\0\0' + use(signature))
+        elif way == 1:
+            body.append(b'\x11\0' + use(signature))
+        else:
+            body.append(b'\2\0' + use(signature, b'\x7F\x7F') + END)
+    own = use(signature_number(chance.randrange(300)))
+    out.append(b'\3\0\0\0' + own + b'\0' + b''.join(body) + b'\xFF')
+    # first or last, something for 11, 13 or 14 to say
+    out.insert(chance.choice((0, len(out))),
+               chance.choice((b'', b'', b'\2\1m\1n\2\0\0\0', b'\x0A\1d\0\0' * 2, b'\x08\2\1q')))
+    return b''.join(out)
+
+
+def wide_signature(chance):
+    """A signature or a list of locals at its ceiling."""
+    parameters = bytes(chance.choices(VALUE_TYPES, k=near(chance, 64)))
+    results = bytes(chance.choices(VALUE_TYPES, k=near(chance, 16)))
+    count = near(chance, 64)
+    variables = groups(count) + b''.join(sized(named(number)) + b'\x7F' for number in range(count))
+    return chance.choice((
+        type_record(b't', parameters, results),
+        b'\3\0\0\0' + use(parameters, results) + variables + b'\x20\2' + sized(b'n63') + b'\xFF',
+        type_record(b't', parameters) + b'\3\0\0\0\2\1t\0\0' + variables + b'\x22\2' + sized(b'n62') + b'\xFF',
+        in_function(b'\x11\0' + use(parameters, results)),
+        in_function(b'\4\0' + use(parameters[:5], results) + END),
+        b'\2\0\0\0\0' + use(parameters, results)))
+
+
+def deep_blocks(chance):
+    """About 128 open blocks, some with a name, and branches to them."""
+    count = near(chance, 128)
+    labels = [chance.choice((b'', b'a', b'b', named(number))) for number in range(count)]
+    code = b''.join(b'\2' + sized(label) + use() for label in labels)
+    code += b'\x0C\2' + sized(labels[0] or b'a') + b'\x0D\2' + sized(labels[-1] or b'b') + b'\x0C\2\1a'
+    ends = b''.join(b'\x0B' + sized(label if chance.random() < 0.5 else b'') for label in reversed(labels))
+    return in_function(code + ends + chance.choice((b'', b'', END)))
+
+
+def long_lists(chance):
+    """An element, inline table or br_table count at its ceiling."""
+    count = near(chance, 1024)
+    indices = b''.join(b'\1' + groups(chance.randrange(300)) for _ in range(count))
+    return chance.choice((b'\x09\0\0' + groups(count) + indices,
+                          b'\x04\0\0\2\4' + groups(count) + indices,
+                          in_function(b'\x0E' + groups(count) + indices + b'\1\0')))
+
+
+def many_records(chance):
+    """About 4,096 records, in a body or as fields."""
+    count = near(chance, 4096)
+    export = bytes.fromhex('07 00 00 01 00')
+    fields = chance.choice((0, 1, 100))
+    return chance.choice((export * fields + in_function(b'\x01' * (count - fields - 2)), export * count))
+
+
+def long_stream(chance):
+    """About 65,536 bytes, the last record cut or whole."""
+    size = near(chance, 65536)
+    data = b'\x0A\0\0' + groups(size - 6) + chance.randbytes(8) * 8192
+    return data[:size]
+
+
+def long_module(chance):
+    """A module of about 65,536 bytes, which is what the program lends: 17 and
+    the data of a passive segment."""
+    size = near(chance, 65536) - 17
+    return b'\x0A\0\0' + groups(size) + (chance.randbytes(16) * 4096)[:size]
+
+
+def long_texts(chance):
+    """An identifier, a string, exports or an alignment at its ceiling."""
+    name = b'i' * near(chance, 64)
+    text = b's' * near(chance, 255)
+    return chance.choice((
+        type_record(name, b''), b'\x08\2' + sized(name), b'\x07' + sized(text) + b'\0\1\0',
+        b'\2' + sized(text) + sized(text) + b'\0\0' + use(),
+        b'\5\0' + groups(near(chance, 8)) + b'\1e' * near(chance, 8) + b'\0\0\0',
+        in_function(bytes([0x28, near(chance, 32), 0, 0]))))
+
+
+def sizes(chance):
+    """Sizes of bodies, sections and data where their number gets longer."""
+    size = chance.choice((127, 128, 16383, 16384)) + chance.randint(-16, 3)
+    return chance.choice((
+        in_function(b'\x43\0\0\0\0' * (size // 5) + b'\x01' * (size % 5)),
+        b'\x0A\0\0' + groups(size) + b'd' * size,
+        b'\5\0\0\2\0' + groups(size) + b'd' * size,
+        b'\x09\0\0' + groups(min(size, 1024)) + b'\1\0' * min(size, 1024)))
+
+
+def wide_numbers(chance):
+    """The last groups of a number: within its width, past it, or open."""
+    short = b'\xFF\xFF\xFF\xFF' + bytes([chance.choice((0, 0x0E, 0x0F, 0x10, 0x1F, 0x7F, 0x80, 0x8F))])
+    long = b'\x80' * 9 + bytes([chance.choice((0, 1, 2, 3, 0x7F, 0x80, 0x81))])
+    tail = chance.choice((b'', b'\0', b'\xFF'))
+    return chance.choice((
+        in_function(b'\x41' + short), in_function(b'\x42' + long), in_function(b'\x10\1' + short),
+        in_function(b'\x28\0' + short + b'\0'), b'\5\0\0\0\1\0' + short, b'\5\0\0\0\4' + long, b'\1' + short,
+        b'\x07' + short, b'\1\0' + short, b'\x0A\0\0' + short)) + tail
+
+
+def two_in_one(chance):
+    """Two faults in one record, or in one function."""
+    missing, there = b'\2\1q', b'\2\1a'
+    table, constant, function = (chance.choice((missing, there, b'\1\0')) for _ in range(3))
+    wrong_use = chance.choice((use(b'\x7F', b'', missing), use(b'\x7F', b'', b'\1\x09'), use(b'\x7E', b'', b'\1\0'),
+                               use(b'\x7F', b'', b'\1\0'), use(b'', b'', missing), use(b'', b'', b'\1\x09')))
+    twice = b'\2\1v\x7F\1v\x7F'
+    items = type_record(b'a', b'\x7F') + b'\4\1a\0\0\x70\0\0' + b'\5\1a\0\0\0\0' + b'\6\1a\0\0\x7F\0\0\0'
+    return items + chance.choice((
+        in_function(b'\x11' + table + wrong_use),
+        b'\x09\1e\1' + table + b'\4' + constant + b'\1' + function,
+        b'\x0A\1d\1' + table + b'\4' + constant + b'\0',
+        b'\3\1f\0\0' + wrong_use + chance.choice((twice, b'\0')) + chance.choice((b'', b'\x20' + missing)) + b'\xFF',
+        in_function(b'\2\1l' + wrong_use + b'\x0B' + chance.choice((b'\0', b'\1l', b'\1k'))),
+        in_function(b'\2\1l' + use() + b'\x0E\2\2\1l' + function + table + END)))
+
+
+def starts(chance):
+    """One start or two, with faults that come before or after."""
+    start = chance.choice((b'\x08\1\0', b'\x08\2\1a'))
+    fields = [start, chance.choice((start, b'\x08', b'')), in_function(chance.choice((b'', END, b'\x05'))), b'\1\0\0\0']
+    chance.shuffle(fields)
+    return b''.join(fields)
+
+
+def all_constants(chance):
+    """Every end of the signed forms, in a body and as globals."""
+    code = b''.join(b'\x41' + groups(value) for value in EDGES32)
+    code += b''.join(b'\x42' + groups(value) for value in EDGES64)
+    value = chance.choice(EDGES64)
+    return b'\6\0\0\0\x7E\0\1' + groups(value) + in_function(code)
+
+
+def block_types(chance):
+    """Blocks of types around 64, where the signed form gets longer."""
+    count = chance.choice((63, 64, 65, 66, 129))
+    out = [type_record(named(number), signature_number(number), b'\x7F\x7E') for number in range(count)]
+    code = b''
+    for number in (0, 62, 63, 64, 65, 127, 128, 129, 8191, 8192, 2**32 - 1):
+        way = chance.randrange(3)
+        if way == 0 or number >= count:
+            code += bytes([chance.choice((2, 3, 4)), 0]) + use(index=b'\1' + groups(number)) + END
+        elif way == 1:
+            code += b'\3\0' + use(index=b'\2' + sized(named(number))) + END
+        else:
+            code += b'\4\0' + use(signature_number(number), b'\x7F\x7E') + END
+    return b''.join(out) + in_function(code)
+
+
+def all_opcodes(chance):
+    """A function with each opcode."""
+    maker = Maker(chance)
+    maker.func(FUNC, None)
+    maker.out.pop()
+    operands = {0x05: b'\0', 0x0B: b'\0', 0x0E: b'\1\1\0\1\0', 0x11: b'\0' + use(), 0xD0: b'\x70',
+                0x43: b'abcd', 0x44: b'abcdefgh', 0x41: b'\1', 0x42: b'\1', 0x3F: b'\0', 0x40: b'\1\1'}
+    for opcode in OPCODES:
+        if opcode in operands:
+            code = operands[opcode]
+        elif 2 <= opcode <= 4:
+            code = b'\0' + use()
+        elif 0x28 <= opcode <= 0x3E:
+            code = bytes([chance.randint(0, 32), chance.randrange(128)])
+            code += chance.choice((b'\0', b'\1\0', b'\1\1', b'\1\x80\1'))
+        elif opcode in WITHOUT_OPERAND:
+            code = b''
+        else:
+            code = b'\1' + groups(chance.choice(NUMBERS))
+        maker.out.append(bytes([opcode]) + code)
+    return b''.join(maker.out) + END * 2 + b'\xFF'
+
+
+EDGES = (many_items, many_types, wide_signature, deep_blocks, long_lists, many_records, long_stream, long_module, sizes,
+         all_constants, block_types, all_opcodes) * 2 + (long_texts, wide_numbers, two_in_one, starts, many_types,
+                                                         wide_signature) * 4
+
+
+def edges(chance):
+    """One of the streams at an end."""
+    return chance.choice(EDGES)(chance)
+
+
+# ---------------------------------------------------------------------------
+
+def damaged(chance):
+    """Bytes changed, mostly refused while reading; or whole records moved."""
+    stream = bytearray(chance.choice((rich, rich, faulty, edges if chance.random() < 0.05 else rich))(chance))
+    if chance.random() < 0.4:
+        return moved(chance, bytes(stream))
+    for _ in range(chance.choice((1, 1, 2, 4))):
+        if not stream:
+            stream += bytes([chance.randrange(256)])
+        damage(chance, stream, chance.randrange(len(stream)))
+    return bytes(stream)
+
+
+def damage(chance, stream, at):
+    """One change at this byte, or at another of its sort."""
+    way = chance.randrange(10)
+    letters = [place for place, byte in enumerate(stream) if byte in b'abcdx']
+    if way == 0:
+        stream[at] = chance.randrange(256)
+    elif way == 1:
+        stream[at] = stream[at] + chance.choice((-1, 1, 128)) & 0xFF
+    elif way == 2:
+        del stream[at:at + chance.choice((1, 1, 2, 5, 20))]
+    elif way == 3:
+        stream[at:at] = chance.randbytes(chance.choice((1, 1, 2, 5)))
+    elif way == 4:
+        del stream[at:]
+    elif way == 5:
+        other = chance.randrange(len(stream))
+        stream[at:at] = stream[other:other + chance.choice((1, 3, 10, 40))]
+    elif way == 6:
+        stream[at] |= 0x80
+        stream[at + 1:at + 1] = b'\x80' * chance.choice((0, 1, 3, 8, 9)) + bytes([chance.choice((0, 0, 1, 0x10, 0x80))])
+    elif way == 7 and letters:
+        stream[chance.choice(letters)] = chance.choice(b'abcdx')
+    elif way == 8 and letters:
+        stream[chance.choice(letters)] = chance.choice(b' ,;"()[]{}\x1F\x7F\x80')
+    else:
+        # another value type, or an empty name
+        places = [place for place, byte in enumerate(stream[:-1]) if byte in VALUE_TYPES or byte == 2]
+        if places:
+            at = chance.choice(places)
+            stream[at:at + 2] = [2, 0] if stream[at] == 2 else [chance.choice(VALUE_TYPES), stream[at + 1]]
+
+
+def moved(chance, stream):
+    """Records dropped, doubled or put elsewhere."""
+    starts = shrink.record_starts(stream)
+    records = [stream[start:end] for start, end in zip(starts, starts[1:])]
+    for _ in range(chance.choice((1, 1, 2, 4))):
+        if records:
+            at = chance.randrange(len(records))
+            record = records[at] if chance.random() < 0.4 else records.pop(at)
+            if chance.random() < 0.8:
+                records.insert(chance.randint(0, len(records)), record)
+    return b''.join(records)
+
+
+MAKERS = {'rich': rich, 'faulty': faulty, 'edges': edges, 'damaged': damaged}
+
+
+def stream(sort, seed, number):
+    """The stream with this number."""
+    return MAKERS[sort](random.Random('%s %d %d' % (sort, seed, number)))
+
+
+def main():
+    parser = argparse.ArgumentParser(description=__doc__, formatter_class=argparse.RawDescriptionHelpFormatter)
+    parser.add_argument('--sort', choices=SORTS, default='rich')
+    parser.add_argument('--seed', type=int, default=1)
+    parser.add_argument('--first', type=int, default=0)
+    parser.add_argument('--count', type=int, default=1)
+    parser.add_argument('--hex', action='store_true')
+    options = parser.parse_args()
+    for number in range(options.first, options.first + options.count):
+        made = stream(options.sort, options.seed, number)
+        if options.hex:
+            print(made.hex().upper() or '-')
+        else:
+            sys.stdout.buffer.write(batch.pack([made]))
+
+
+if __name__ == '__main__':
+    main()

@@ -1,0 +1,264 @@
+#!/usr/bin/env python3
+"""Whether the streams of generate.py would show a slip.
+
+usage: slips.py [--streams N] [--seed S] [--shrink]
+
+Each slip is one edit of the model's text (model.py or reading_model.py), such
+as an assembler might have it. For each, the streams are gone through until one
+has another answer. A slip that no stream shows is a hole in the generator:
+exit status 1. With --shrink the smallest stream that shows it is printed.
+"""
+import argparse
+import os
+import sys
+import types
+
+import generate
+import model
+import shrink
+
+HERE = os.path.dirname(os.path.abspath(__file__))
+SHARES = (('rich', 0.25), ('faulty', 0.4), ('damaged', 0.2), ('edges', 0.15))
+ROOMS = (65536, 65536, 65536, 60, 200)
+
+# (what, old text, new text), once in model.py
+MODEL = [
+    ('locals from 0 with an index only', 'parameters = [None] * len(self.types[number][0])', 'parameters = []'),
+    ('locals from 0 with an inline type', 'enumerate(parameters + [', 'enumerate([None] * 0 + ['),
+    ('results counted as places', '[None] * len(self.types[number][0])',
+     "[None] * len(b''.join(self.types[number]))"),
+    ('the outermost block of a name', 'in enumerate(reversed(self.labels)):',
+     'in reversed(list(enumerate(reversed(self.labels)))):'),
+    ('only named blocks counted', 'enumerate(reversed(self.labels))',
+     'enumerate(filter(None, reversed(self.labels)))'),
+    ('labels found by their first letter', 'if label == index:', 'if label and label[:1] == index[:1]:'),
+    ('labels found by their length', 'if label == index:', 'if label and len(label) == len(index):'),
+    ('else closes its block', 'if opcode == 0x0B:\n                self.labels.pop()',
+     'if True:\n                self.labels.pop()'),
+    ('any label on an unnamed block', 'given is not None and given != label',
+     'None not in (given, label) and given != label'),
+    ('no label taken for another', 'given is not None and given != label', 'given != label'),
+    ('labels on ends unchecked', 'raise Refused(17, record)', 'pass'),
+    ('a block of one result adds a type', 'and not is_short(operands[1]):', ':'),
+    ('a block of no result adds a type', 'len(use.results) <= 1', 'len(use.results) == 1'),
+    ('a block of two results is short', 'len(use.results) <= 1', 'len(use.results) <= 2'),
+    ('an indexed block is short', 'return use.index is None and not', 'return not'),
+    ('a block type number unsigned', 'signed(self.assembler.type_number(record, use), 33)',
+     'groups(self.assembler.type_number(record, use))'),
+    ('a block type number in 32 bits', 'type_number(record, use), 33)', 'type_number(record, use), 32)'),
+    ('the last equal signature', 'self.first_of.setdefault(one, len(self.types))',
+     'self.first_of[one] = len(self.types)'),
+    ('declared types where they stand',
+     '        for _, field in self.fields:\n'
+     '            if type(field) is Type:\n'
+     '                self.add_type(field.signature)\n'
+     '        for record, field in self.fields:\n'
+     '            if type(field) is Import',
+     '        for record, field in self.fields:\n'
+     '            if type(field) is Type:\n'
+     '                self.add_type(field.signature)\n'
+     '            elif type(field) is Import'),
+    ('a body before its function',
+     '                self.see(record, field.use)\n                for at, opcode, operands in field.body:',
+     '                field = field._replace(body=field.body + [(record, 0x11, (None, field.use))])\n'
+     '                for at, opcode, operands in field.body:'),
+    ('call_indirect adds no type', 'if opcode == 0x11:\n                        self.see',
+     'if False:\n                        self.see'),
+    ('results do not tell types apart', 'value_type in use.parameters), use.results',
+     'value_type in use.parameters), use.results[:1]'),
+    ('a 256th type refused', 'len(self.types) == TYPES', 'len(self.types) == TYPES - 1'),
+    ('a 257th type added', 'len(self.types) == TYPES', 'len(self.types) == TYPES + 1'),
+    ('15 among the declared types', 'number >= len(self.types):\n                raise',
+     'number >= sum(type(field) is Type for _, field in self.fields):\n                raise'),
+    ('15 one late', 'number >= len(self.types):\n                raise Refused(15',
+     'number > len(self.types):\n                raise Refused(15'),
+    ('16 over parameters and results in one row', 'self.types[number] != signature(use)',
+     "b''.join(self.types[number]) != b''.join(signature(use))"),
+    ('16 over parameters alone', 'self.types[number] != signature(use)',
+     'self.types[number][0] != signature(use)[0]'),
+    ('16 unchecked', 'raise Refused(16, record)', 'pass'),
+    ('an index out of range refused without an inline type',
+     'if use.parameters or use.results:\n            if number',
+     'if True:\n            if number'),
+    ('12 before 11', 'self.import_order()\n        self.intern()', 'self.intern()\n        self.import_order()'),
+    ('13 before 12', 'self.intern()\n        self.register()', 'self.register()\n        self.intern()'),
+    ('13 before 11', 'self.import_order()\n        self.intern()\n        self.register()',
+     'self.register()\n        self.import_order()\n        self.intern()'),
+    ('an import after a memory', 'OWN_ITEMS = (Func, Table, Memory, Global)', 'OWN_ITEMS = (Func, Table, Global)'),
+    ('an import after a global', 'OWN_ITEMS = (Func, Table, Memory, Global)', 'OWN_ITEMS = (Func, Table, Memory)'),
+    ('an import after a segment refused', 'OWN_ITEMS = (Func, Table, Memory, Global)',
+     'OWN_ITEMS = (Func, Table, Memory, Global, Elem)'),
+    ('segments without names', 'if field.identifier is not None:\n',
+     'if field.identifier is not None and space < ELEM:\n'),
+    ('the later of two names', 'raise Refused(13, record)\n                self.names',
+     'pass\n                self.names'),
+    ('one space for tables and memories',
+     'self.names[space][field.identifier] = counts[space]',
+     'self.names[space][field.identifier] = counts[space]\n'
+     '                self.names[MEMORY].setdefault(field.identifier, 0)'),
+    ('a missing name is 0', 'raise Refused(14, record)\n        return self.names',
+     'return 0\n        return self.names'),
+    ('a missing local is 0', 'raise Refused(14, record)\n        return groups(self',
+     "return b'\\0'\n        return groups(self"),
+    ('locals may be named twice', 'raise Refused(13, record)\n                names[name]',
+     'pass\n                names[name]'),
+    ('locals before the type use',
+     'number = self.type_number(record, field.use)\n            names',
+     'self.local_names(record, field, 0)\n'
+     '            number = self.type_number(record, field.use)\n'
+     '            names'),
+    ('the type before the table',
+     '            table = number(record, TABLE, given[0], 0)\n            return',
+     '            self.assembler.type_number(record, given[1])\n'
+     '            table = number(record, TABLE, given[0], 0)\n'
+     '            return'),
+    ('type and table of call_indirect the other way round',
+     'return groups(self.assembler.type_number(record, given[1])) + groups(table)',
+     'return groups(table) + groups(self.assembler.type_number(record, given[1]))'),
+    ('ref.func among globals',
+     'opcode == 0x10 or opcode == 0xD2:\n            return groups(number(record, FUNC',
+     'opcode == 0x10 or opcode == 0xD2:\n            return groups(number(record, GLOBAL if opcode == 0xD2 else FUNC'),
+    ('exports backwards', 'for name in self.many(self.text)', 'for name in reversed(self.many(self.text))'),
+    ('an export of the item before', 'self.put(Export(name, kind, number))',
+     'self.put(Export(name, kind, max(number - 1, 0)))'),
+    ('naming table 0 takes form 0', 'if table is None:\n            return', 'if not table:\n            return'),
+    ('naming memory 0 takes form 2', "form = b'\\x00' if memory == 0", "form = b'\\x00' if field.place[0] is None"),
+    ('an inline segment at an i32 offset always', '(1 if is64 else 0, 0)', '(0, 0)'),
+    ('pages rounded down', '(len(data) + 65536 - 1) // 65536', 'len(data) // 65536'),
+    ('pages rounded up one more', '(len(data) + 65536 - 1) // 65536', '(len(data) + 65536) // 65536'),
+    ('an inline table as large as its first group', 'Limits(is64 | 1, len(functions), len(functions))',
+     'Limits(is64 | 1, len(functions), 127 & len(functions))'),
+    ('locals one by one', 'runs[-1][1] == value_type', 'False'),
+    ('64 in one signed group', 'not -64 <= value < 64', 'not -64 <= value <= 64'),
+    ('-65 in one signed group', 'not -64 <= value < 64', 'not -65 <= value < 64'),
+    ('63 in two signed groups', 'not -64 <= value < 64', 'not -64 <= value < 63'),
+    ('i32 constants unsigned', 'return signed(given, 32)', 'return groups(given)'),
+    ('i64 constants of 32 bits', 'return signed(given, 64)', 'return signed(given & 0xFFFFFFFF, 32)'),
+    ('an exponent', 'NATURAL = (2, 3, 2, 3, 0, 0, 1, 1', 'NATURAL = (2, 3, 2, 3, 0, 0, 1, 0'),
+    ('the last exponent', '0, 1, 0, 1, 2)', '0, 1, 0, 1, 3)'),
+    ('an alignment byte not lessened', 'else alignment - 1', 'else alignment'),
+    ('a memory index wherever one is given', 'if memory == 0:\n                return groups(exponent)',
+     'if index is None:\n                return groups(exponent)'),
+    ('40 not set', 'groups(exponent + 64)', 'groups(exponent)'),
+    ('offset before memory', 'groups(memory) + groups(offset)', 'groups(offset) + groups(memory)'),
+    ('memory.size without its memory', 'return groups(number(record, MEMORY, given, 0))', "return b'\\0'"),
+    ('br_table counts its default', 'groups(len(given) - 1)', 'groups(len(given))'),
+    ('the start section as a list', 'entries[0] if number == 8 else vector(entries)', 'vector(entries)'),
+    ('empty sections written', 'if entries:', 'if entries or number == 3:'),
+    ('the output one too long', 'len(module) > room', 'len(module) > room + 1'),
+    ('the output one too short', 'len(module) > room', 'len(module) >= room'),
+    ('a work area one too short', 'work < WORK:', 'work < WORK - 1:'),
+]
+
+# The same in reading_model.py: each ceiling one too high and one too low, and
+READING = [
+    ('padded numbers refused',
+     'if group < 0x80:\n                return value',
+     'if group == 0 and shift:\n'
+     '                raise Refused(3)\n'
+     '            if group < 0x80:\n'
+     '                return value'),
+    ('a u32 of 33 bits', 'group >= 1 << bits_left', 'group >= 1 << bits_left + 1'),
+    ('an empty name in an index', 'raise Refused(5)\n            self.text', 'pass\n            self.text'),
+    ('FF with a block open', 'if self.open_blocks > 0:\n                    raise Refused(8)',
+     'if False:\n                    raise Refused(8)'),
+    ('a second start', 'raise Refused(9)', 'pass'),
+    ('the end of a body at the record before', 'self.record += 1\n        if has_body',
+     'if not has_body:\n            self.record += 1\n        if has_body'),
+    ('a comma in an identifier', '"!#$%&', '"!,#$%&'),
+    ('7F in a string', 'range(0x20, 0x7F)', 'range(0x20, 0x80)'),
+]
+CEILINGS = ('STREAM = 65536', 'RECORDS = 4096', 'ITEMS = 256', 'PARAMETERS = 64', 'RESULTS = 16', 'LOCALS = 64',
+            'OPEN_BLOCKS = 128', 'FUNCTIONS = 1024', 'LABELS = 1024', 'EXPORTS = 8', 'IDENTIFIER = 64', 'STRING = 255',
+            'ALIGNMENT = 32')
+for ceiling in CEILINGS:
+    name, value = ceiling.split(' = ')
+    for other in (int(value) - 1, int(value) + 1):
+        READING.append(('%s %d' % (name.lower().replace('_', ' '), other), '\n' + ceiling, '\n%s = %d' % (name, other)))
+
+SLIPS = [('model.py',) + slip for slip in MODEL] + [('reading_model.py',) + slip for slip in READING]
+
+
+def edited(file, old, new):
+    """A module's text with one edit, which must fit at one place."""
+    with open(os.path.join(HERE, file)) as opened:
+        text = opened.read()
+    assert text.count(old) == 1, 'fits %d times in %s: %s' % (text.count(old), file, old)
+    return text.replace(old, new)
+
+
+def load(name, text):
+    """A module from its text."""
+    module = types.ModuleType(name)
+    exec(compile(text, name, 'exec'), module.__dict__)
+    return module
+
+
+def with_slip(file, old, new):
+    """The model with the slip."""
+    text = edited(file, old, new)
+    if file == 'model.py':
+        return load('model_with_slip', text)
+    right = sys.modules['reading_model']
+    try:
+        sys.modules['reading_model'] = load('reading_model', text)
+        with open(os.path.join(HERE, 'model.py')) as opened:
+            return load('model_with_slip', opened.read())
+    finally:
+        sys.modules['reading_model'] = right
+
+
+def answer(module, stream, work, room):
+    """What the model says, or that it stumbled."""
+    try:
+        return module.assemble(stream, work, room)
+    except Exception as error:          # a slip may also make it stumble
+        return 'stumbled', repr(error)
+
+
+def cases(seed, count):
+    """(stream, words, bytes, the right answer), sorts mixed; lent a little
+    less than is needed, or just enough, now and then."""
+    numbers = dict.fromkeys(generate.SORTS, 0)
+    chance = generate.random.Random(seed)
+    names, weights = zip(*SHARES)
+    for sort in chance.choices(names, weights, k=count):
+        stream = generate.stream(sort, seed, numbers[sort])
+        numbers[sort] += 1
+        work, room = chance.choice((16384,) * 30 + (16383,)), chance.choice(ROOMS)
+        right = model.assemble(stream, work, room)
+        if right[0] == 'ok' and chance.random() < 0.1:
+            room = len(right[1]) - chance.randrange(2)
+            right = model.assemble(stream, work, room)
+        yield stream, work, room, right
+
+
+def main():
+    parser = argparse.ArgumentParser(description=__doc__, formatter_class=argparse.RawDescriptionHelpFormatter)
+    parser.add_argument('--streams', type=int, default=20000, metavar='N')
+    parser.add_argument('--seed', type=int, default=1)
+    parser.add_argument('--shrink', action='store_true')
+    options = parser.parse_args()
+    known = list(cases(options.seed, options.streams))
+    unseen = 0
+    for file, what, old, new in SLIPS:
+        slipped = with_slip(file, old, new)
+        for number, (stream, work, room, right) in enumerate(known, 1):
+            if answer(slipped, stream, work, room) != right:
+                break
+        else:
+            unseen += 1
+            print('NOT SEEN in %d streams: %s' % (len(known), what), flush=True)
+            continue
+        shown = ''
+        if options.shrink:
+            wrong = lambda some: [one for one in some
+                                  if answer(slipped, one, work, room) != model.assemble(one, work, room)]
+            shown = ': ' + (shrink.smaller(stream, wrong).hex(' ').upper()[:300] or '-')
+        print('%6d  %s%s' % (number, what, shown), flush=True)
+    print('%d slips, %d not seen in %d streams, seed %d' % (len(SLIPS), unseen, len(known), options.seed))
+    sys.exit(1 if unseen else 0)
+
+
+if __name__ == '__main__':
+    main()
