@@ -1,0 +1,42 @@
+-- What a field is to the order of imports.
+use mathlib.Core.Bool.{Bool, true, false}
+use Rattle.definition.specs.Basic.{Answer, ok, refused}
+use Rattle.sources.specs.declared.source.Source.{Source}
+use Rattle.sources.specs.declared.source.Source.the-variants as S
+use Rattle.fields.specs.declared.field.Field.{Field}
+use Rattle.fields.specs.declared.field.Field.the-variants as F
+use Rattle.order.specs.declared.Standing.{Standing}
+use Rattle.order.specs.declared.Standing.the-variants as T
+use Rattle.order.specs.declared.Order as Code
+use Rattle.order.specs.declared.Order.the-variants as O
+
+abbrev pub sourceStanding : Source → Standing
+sourceStanding (S.Own o) = T.Own
+sourceStanding (S.Imported n x) = T.Import
+sourceStanding (S.TableOf w xs) = T.Own
+sourceStanding (S.MemOf w d) = T.Own
+
+abbrev pub standing : Field → Standing
+standing (F.Type i ps rs) = T.Neither
+standing (F.Import n i x) = T.Import
+standing (F.Item i es x) = sourceStanding x
+standing (F.Export n k x) = T.Neither
+standing (F.Start x) = T.Neither
+standing (F.Elem i m xs) = T.Neither
+standing (F.Data i m d) = T.Neither
+
+-- an import after an own item
+abbrev pub isLate : Bool → Standing → Bool
+isLate late T.Import = late
+isLate late T.Own = false
+isLate late T.Neither = false
+
+-- has an own item come?
+abbrev pub lateAfter : Bool → Standing → Bool
+lateAfter late T.Import = late
+lateAfter late T.Own = true
+lateAfter late T.Neither = late
+
+abbrev pub ordered : Code.Order → Answer (Unit {0})
+ordered O.Kept = ok tt
+ordered (O.Refused n r) = refused n r
