@@ -18,9 +18,9 @@ unfolding _>>=_
 bind-ok m v k x e h = rw e h
 
 -- a refusal stands
-pub bind-not : {A B : Type 0} (m : Answer A) (n r : ℕ) (k : A → Answer B) (x : Answer B) → m ≡ refused n r → refused n r ≡ x → (m >>= k) ≡ x
+pub bind-not : {A B : Type 0} (m : Answer A) (n r : ℕ) (k : A → Answer B) → m ≡ refused n r → (m >>= k) ≡ refused n r
 unfolding _>>=_
-bind-not m n r k x e h = rw e h
+bind-not m n r k e = rw e
 
 -- two steps are one
 pub bind-assoc : {A B C : Type 0} (m : Answer A) (f : A → Answer B) (g : B → Answer C) → (m >>= f >>= g) ≡ (m >>= λ x. f x >>= g)
@@ -31,9 +31,9 @@ bind-assoc (refused n r) f g = refl
 -- ## What an emitter says
 
 module _ {A : Type 0} (bytes : A → Bytes) (a : Answer A) (old : List ℕ) (at : ℕ) (new : List ℕ) where
-  pub wrote : (v : A) (o : ℕ) → a ≡ ok v → Put old at (bytes v) o new → Emits bytes a old at (E.To o) new
+  pub wrote : (v : A) (o : ℕ) → Put old at (bytes v) o new → a ≡ ok v → Emits bytes a old at (E.To o) new
   unfolding Emits
-  wrote v o e p = record { value = v; is = e; put = p }
+  wrote v o p e = record { value = v; is = e; put = p }
 
   pub halts : (n r : ℕ) → a ≡ refused n r → Emits bytes a old at (E.Refused n r) new
   unfolding Emits
@@ -97,6 +97,6 @@ emits-then f g k h a b old at q o mid (E.To p) new s w d z =
     record { value = h (v .value) (z .value); is = bind-ok a (v .value) _ _ (v .is) (bind-ok b (z .value) _ _ (z .is) refl); put = put-is (put-then (v .put) (z .put)) (s (v .value) (z .value)) }
 emits-then f g k h a b old at q o mid (E.Refused n r) new s w d z =
     let v : Wrote f a old at o mid = was-wrote f a old at mid q o w d in
-    bind-ok a (v .value) _ _ (v .is) (bind-not b n r _ _ z refl)
+    bind-ok a (v .value) _ _ (v .is) (bind-not b n r _ z)
 
 pub ruleset emitting = (wrote, halts, halts-same, bind-ok, bind-not)
