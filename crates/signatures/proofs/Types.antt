@@ -54,6 +54,12 @@ table-kept (suc n) s {w} {w′} base m h k =
     rw (kept-word k base (omega arith), kept-word k (base + 1) (omega arith), kept-word k (base + 1 + 1) (omega arith), kept-word k (base + 3) (omega arith),
     kept-word k (base + 3 + 1) (omega arith), table-kept n s {w = w} {w′ = w′} (base + 5) m (omega arith) k)
 
+-- nor do words after the number of types
+pub types-kept : (n : ℕ) (s : Bytes) {w w′ : List ℕ} → 5897 ≤ n → Kept n w w′ → typesIn s w′ ≡ typesIn s w
+unfolding typesIn
+types-kept n s {w} {w′} h k =
+    rw (kept-word k 5896 (omega arith)) (table-kept (min (getD w 5896 0) 256) s {w = w} {w′ = w′} 520 n (omega arith) k)
+
 -- the entry at a number
 table-at : (n : ℕ) (s w : List ℕ) (base k : ℕ) → k < n → at (typeTable n s w base) k ≡ some (signatureOf s (entryIn w (base + 5 * k)))
 unfolding typeTable at

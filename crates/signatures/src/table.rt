@@ -44,7 +44,7 @@ pub enum Interned {
 }
 
 // A signature is added at the end.
-fn add_type(s: &[u8], work: &mut [u32], count: u32, x: Signature)
+pub fn add_type(s: &[u8], work: &mut [u32], count: u32, x: Signature)
     requires { ⌜ (length (now s) ≤ 65536) × (count < 256) × (1800 ≤ length (now work)) ⌝ }
     ensures { λ _. ⌜ Adds (now (s .entry)) (now (work .entry)) count x (now (work .exit)) ⌝ }
 {
