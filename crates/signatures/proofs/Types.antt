@@ -4,7 +4,7 @@ use mathlib.Core.Path.{_≡_, refl, sym, _∙_, ap}
 use mathlib.Core.Bool.{Bool, true, false}
 use mathlib.Core.List.{List, [], _∷_, _++_}
 use mathlib.Core.Option.{Option, none, some}
-use lib.ListN.{length, getD, set}
+use lib.ListN.{length, getD}
 use borrow.Author.Tests.{lt-leb, le-leb, eq-eqb}
 use native.Mathlib.Omega.{arith}
 use Rattle.definition.specs.Basic.{if_then_else_, Answer, ok, refused, at, same, sameBytes, firstAt, later}
@@ -16,7 +16,7 @@ use Rattle.typeuse.specs.declared.TypeUse.{TypeUse}
 use Rattle.space.specs.Kept.{Kept}
 use Rattle.space.proofs.Kept.{kept-word}
 use Rattle.space.proofs.Walk.{Looking, look-begin, look-found, look-on, look-none}
-use Rattle.signatures.specs.Table.{typesOf, signatureOf, ofUse, listIn, entryIn, typeTable, typesIn, numberOf, agreeing, typeWords, Inside, Adds, Taken, Denied, Interns, interning}
+use Rattle.signatures.specs.Table.{typesOf, signatureOf, ofUse, entryIn, typeTable, typesIn, numberOf, agreeing, typeWords, Inside, Adds, Interns}
 use Rattle.signatures.specs.declared.entry.Signature.{Signature}
 use Rattle.signatures.specs.declared.table.TypeFound.{TypeFound}
 use Rattle.signatures.specs.declared.table.TypeFound.the-variants as T

@@ -12,7 +12,7 @@ ghost use Rattle.definition.specs.Basic as Basic;
 ghost use Rattle.definition.specs.Types as Types;
 ghost use Rattle.definition.specs.Names as Names;
 ghost use Rattle.typeuse.specs.Views.{useOf};
-ghost use Rattle.signatures.specs.Table.{signatureOf, entryIn, typeTable, typesIn, numberOf, agreeing, Adds, Interns};
+ghost use Rattle.signatures.specs.Table.{signatureOf, typeTable, typesIn, numberOf, agreeing, Adds, Interns};
 
 pub enum TypeFound {
     Number(u32),

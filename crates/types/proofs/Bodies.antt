@@ -1,8 +1,7 @@
 -- Laws of the walk over a body.
-use Prim.Native.Nat.{ℕ, zero, suc, _+_, _-_, _*_, _≤_, _<_}
+use Prim.Native.Nat.{ℕ, zero, suc, _+_, _-_, _≤_, _<_}
 use mathlib.Core.Path.{_≡_, refl, sym, _∙_, ap}
 use mathlib.Core.List.{List, [], _∷_, _++_, append-nil, append-assoc}
-use mathlib.Core.Option.{Option, none, some}
 use lib.ListN.{length}
 use mir.Syntax.{w32}
 use mir.Val.{Fits}
@@ -12,18 +11,15 @@ use Rattle.definition.specs.Syntax.{Bytes, Identifier, Rec, field, instr, bodyE
 use Rattle.definition.specs.Reader.{Step, got, fault}
 use Rattle.definition.specs.Instructions.{bodyRec}
 use Rattle.definition.specs.Read.{openAfter}
-use Rattle.definition.specs.Types as Types
 use Rattle.definition.specs.Types.{Uses, usedAt, instrUses, bodyUses}
 use Rattle.laws.proofs.Bodies.{opens-few, ends-one}
 use Rattle.typeuse.specs.Views.{useOf}
-use Rattle.typeuse.specs.declared.TypeUse.{TypeUse}
 use Rattle.instr.specs.Views.{instrIs, bodyAt}
 use Rattle.instr.specs.declared.Instr.{Instr}
 use Rattle.instr.specs.declared.Instr.the-variants as N
 use Rattle.instr.specs.declared.BodyAt.{BodyAt}
 use Rattle.instr.specs.declared.BodyAt.the-variants as B
 use Rattle.walk.specs.Walk.{onBody, bodyFrom, afterBody}
-use Rattle.walk.specs.declared.Stop.{Stop}
 use Rattle.types.specs.Uses.{nested, Nests, Handled, Handles}
 use Rattle.types.specs.declared.taken.Used.{Used}
 use Rattle.types.specs.declared.taken.Used.the-variants as U

@@ -1,16 +1,14 @@
 -- Laws of the walk over declared types.
-use Prim.Native.Nat.{ℕ, zero, suc, _+_, _-_, _*_, _≤_, _<_}
+use Prim.Native.Nat.{ℕ, _+_, _-_, _*_, _≤_, _<_}
 use mathlib.Core.Path.{_≡_, refl, sym, _∙_, ap}
-use mathlib.Core.Bool.{Bool, true, false, _||_}
 use mathlib.Core.List.{List, [], _∷_, _++_, map, append-nil, append-assoc}
-use mathlib.Core.Option.{Option, none, some}
-use lib.ListN.{length, getD, set, length-set, length-append}
+use mathlib.Core.Option.{Option}
+use lib.ListN.{length, getD, length-set, length-append}
 use lib.Seq.{getD-set-same, getD-set-other}
-use lib.Dec.{ltb}
 use borrow.Author.Tests.{ltb-true, lt-ltb}
 use native.Mathlib.Omega.{arith}
 use Rattle.definition.specs.Syntax as Syntax
-use Rattle.definition.specs.Syntax.{Bytes, Identifier, Space, funcs, tables, mems, globals, types, elems, datas, code, FuncType, ExternType, TypeUse, Instr, Own, Source, FieldRec, typeR}
+use Rattle.definition.specs.Syntax.{Bytes, Identifier, Space, tables, mems, types, elems, datas, code, FuncType, ExternType, Instr, Own, Source}
 use Rattle.definition.specs.Reader.{got}
 use Rattle.definition.specs.Token.{valType, string}
 use Rattle.definition.specs.Records.{fieldRec}
@@ -20,7 +18,7 @@ use Rattle.definition.specs.Types.{declaredBy, declared}
 use Rattle.typeuse.specs.Views.{listOf}
 use Rattle.typeuse.specs.declared.List as Code
 use Rattle.token.specs.Views.{idOf}
-use Rattle.sources.specs.Views.{countOf, roomOf, noneSeen, externIs, sourceOf}
+use Rattle.sources.specs.Views.{countOf, roomOf, externIs, sourceOf}
 use Rattle.sources.specs.declared.seen.Seen.{Seen}
 use Rattle.fields.specs.Views.{fieldOf}
 use Rattle.fields.specs.declared.field.Field.{Field}
@@ -28,9 +26,9 @@ use Rattle.fields.specs.declared.field.Field.the-variants as F
 use Rattle.stream.specs.Counting.{up, oneMore}
 use Rattle.space.specs.Kept.{Kept}
 use Rattle.space.proofs.Kept.{kept-same, kept-then, kept-less}
-use Rattle.signatures.specs.Table.{typesOf, signatureOf, typeTable, Inside, Adds}
+use Rattle.signatures.specs.Table.{typesOf, signatureOf, typeTable, Adds}
 use Rattle.signatures.proofs.Types.{table-length}
-use Rattle.walk.specs.Walk.{counting, seenWith, begin, cursorAfter, Visited, visitIn, visitOf, fieldsHere, fieldsAhead, fieldsIn, Ahead}
+use Rattle.walk.specs.Walk.{counting, seenWith, begin, cursorAfter, visitIn, visitOf, fieldsHere, fieldsAhead, fieldsIn, Ahead}
 use Rattle.walk.specs.declared.Cursor.{Cursor}
 use Rattle.walk.specs.declared.Met.{Met}
 use Rattle.walk.specs.declared.What.the-variants as W

@@ -1,8 +1,8 @@
 -- Laws of the uses of a field.
-use Prim.Native.Nat.{ℕ, zero, suc, _+_, _-_, _≤_, _<_}
+use Prim.Native.Nat.{ℕ, _+_, _-_, _≤_}
 use mathlib.Core.Path.{_≡_, refl, sym, _∙_, ap}
 use mathlib.Core.List.{List, [], _∷_, _++_, map, append-nil, append-assoc}
-use mathlib.Core.Option.{Option, none, some}
+use mathlib.Core.Option.{Option}
 use Rattle.definition.specs.Syntax as Syntax
 use Rattle.definition.specs.Syntax.{Bytes, Identifier, Space}
 use Rattle.definition.specs.Read.{ownBody, sourceBody, fieldBody}
@@ -11,7 +11,6 @@ use Rattle.definition.specs.Deinline.{Numbered, sourceFields, fieldsOf}
 use Rattle.definition.specs.Types as Types
 use Rattle.definition.specs.Types.{Uses, usedAt, bodyUses, externUses, ownUses, fieldUses, uses}
 use Rattle.typeuse.specs.Views.{useOf}
-use Rattle.typeuse.specs.declared.List as Code
 use Rattle.typeuse.specs.declared.TypeUse.{TypeUse}
 use Rattle.sources.specs.Views.{externIs, ownOf, sourceOf}
 use Rattle.sources.specs.declared.import.Extern.{Extern}
@@ -23,7 +22,7 @@ use Rattle.sources.specs.declared.source.Source.the-variants as S
 use Rattle.fields.specs.Views.{fieldOf}
 use Rattle.fields.specs.declared.field.Field.{Field}
 use Rattle.fields.specs.declared.field.Field.the-variants as F
-use Rattle.walk.specs.Walk.{bodyFrom, bodyIn, afterBody, afterField}
+use Rattle.walk.specs.Walk.{bodyFrom, bodyIn, afterBody}
 use Rattle.types.specs.Uses.{usesOwn, usesSource, usesField, endAfter, Handles}
 use Rattle.types.specs.declared.taken.Used.{Used}
 use Rattle.types.specs.declared.taken.Used.the-variants as U

@@ -1,15 +1,13 @@
 -- Laws of handled uses: none, one after the other, and what they tell when the types are all there.
-use Prim.Native.Nat.{ℕ, zero, suc, _+_, _-_, _*_, _≤_, _<_}
-use mathlib.Core.Path.{_≡_, refl, sym, _∙_, ap}
+use Prim.Native.Nat.{ℕ, _+_, _-_, _≤_, _<_}
+use mathlib.Core.Path.{_≡_, refl, sym, _∙_}
 use mathlib.Core.List.{List, [], _∷_, _++_, append-nil}
-use mathlib.Core.Option.{Option, none, some}
-use lib.ListN.{length, getD}
+use lib.ListN.{getD}
 use native.Mathlib.Omega.{arith}
 use Rattle.definition.specs.Basic.{Answer, ok, refused, _>>=_}
 use Rattle.definition.specs.Syntax.{Bytes, FuncType}
-use Rattle.definition.specs.Types.{sameType, typeAt, typeNumber, takeOrAdd, intern, Uses}
+use Rattle.definition.specs.Types.{sameType, typeAt, takeOrAdd, intern, Uses}
 use Rattle.laws.proofs.Interning.{first-kept, Keeps, intern-keeps}
-use Rattle.space.specs.Kept.{Kept}
 use Rattle.space.proofs.Kept.{kept-same, kept-then}
 use Rattle.signatures.specs.Table.{typeTable}
 use Rattle.types.specs.Uses.{Known, Handled, Stopped, Handles}

@@ -1,16 +1,15 @@
 -- Laws of the pass over all fields, and of what it leaves.
-use Prim.Native.Nat.{ℕ, zero, suc, _+_, _-_, _*_, _≤_, _<_, min}
+use Prim.Native.Nat.{ℕ, _+_, _-_, _≤_, _<_, min}
 use mathlib.Core.Path.{_≡_, refl, sym, _∙_, ap}
-use mathlib.Core.List.{List, [], _∷_, _++_, append-nil, append-assoc}
+use mathlib.Core.List.{List, [], _++_, append-nil, append-assoc}
 use mathlib.Core.Option.{Option, none, some}
 use lib.ListN.{length, getD, set}
-use lib.Seq.{getD-set-same, getD-set-other}
+use lib.Seq.{getD-set-same}
 use native.Mathlib.Omega.{arith}
-use Rattle.definition.specs.Basic.{ok, refused}
-use Rattle.definition.specs.Syntax.{Bytes, Identifier, FuncType}
+use Rattle.definition.specs.Syntax.{Bytes, Identifier}
 use Rattle.definition.specs.Read.{fieldBody}
 use Rattle.definition.specs.Deinline.{Numbered}
-use Rattle.definition.specs.Types.{Uses, uses, declared, intern, allTypes}
+use Rattle.definition.specs.Types.{Uses, uses, allTypes}
 use Rattle.sources.specs.Views.{countOf}
 use Rattle.fields.specs.Views.{fieldOf}
 use Rattle.fields.specs.declared.field.Field.{Field}
@@ -18,14 +17,14 @@ use Rattle.space.specs.Kept.{Kept}
 use Rattle.space.proofs.Kept.{kept-set, kept-then, kept-less}
 use Rattle.signatures.specs.Table.{typeTable, typesIn}
 use Rattle.signatures.proofs.Types.{table-length, table-kept}
-use Rattle.walk.specs.Walk.{begin, afterField, cursorAfter, visitIn, visitOf, fieldsHere, fieldsAhead, fieldsIn, Ahead}
+use Rattle.walk.specs.Walk.{begin, cursorAfter, visitIn, visitOf, fieldsHere, fieldsAhead, fieldsIn, Ahead}
 use Rattle.walk.specs.declared.Cursor.{Cursor}
 use Rattle.walk.specs.declared.Met.{Met}
 use Rattle.walk.specs.declared.What.the-variants as W
 use Rattle.walk.proofs.Steps.{visit-done, visit-few, visit-next, visit-fields, visit-ahead, ahead-kept}
-use Rattle.types.specs.Uses.{usesField, endAfter, Known, Handled, Handles}
+use Rattle.types.specs.Uses.{usesField, endAfter, Handled, Handles}
 use Rattle.types.specs.Declaring.{DeclaresAll}
-use Rattle.types.specs.Pass.{Recalled, HasTypes, NoTypes, TypesDone, InternsAll}
+use Rattle.types.specs.Pass.{TypesDone, InternsAll}
 use Rattle.types.specs.declared.taken.Used.{Used}
 use Rattle.types.specs.declared.taken.Used.the-variants as U
 use Rattle.types.specs.declared.pass.Typed.{Typed}

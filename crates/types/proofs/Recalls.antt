@@ -1,13 +1,12 @@
 -- Laws of the numbers that interning left at the records of uses.
-use Prim.Native.Nat.{ℕ, _+_, _≤_, _<_}
-use mathlib.Core.Path.{_≡_, refl, sym, _∙_, ap}
+use Prim.Native.Nat.{ℕ, _+_, _≤_}
+use mathlib.Core.Path.{_≡_, sym, _∙_, ap}
 use mathlib.Core.List.{List, [], _∷_, _++_}
-use mathlib.Core.Option.{some}
 use lib.ListN.{length, getD}
 use native.Mathlib.Omega.{arith}
 use Rattle.definition.specs.Basic.{someOr}
 use Rattle.definition.specs.Syntax.{FuncType}
-use Rattle.definition.specs.Types.{Uses, typeAt, typeNumber}
+use Rattle.definition.specs.Types.{Uses, typeNumber}
 use Rattle.space.specs.Kept.{Kept}
 use Rattle.space.proofs.Kept.{kept-word}
 use Rattle.types.specs.Uses.{Known}

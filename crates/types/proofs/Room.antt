@@ -8,7 +8,7 @@ use lib.Dec.{eqb}
 use native.Mathlib.Omega.{arith}
 use Rattle.definition.specs.Basic.{if_then_else_}
 use Rattle.definition.specs.Syntax.{Bytes, Identifier, Space, FuncType, FieldRec, typeR, importR, itemR, exportR, startR, elemR, dataR, ImportName, funcs, tables, mems, globals, types, elems, datas}
-use Rattle.definition.specs.Reader.{Step, got, fault, Reader, onward, require, give, byte, choose, _>>=_, _>>_}
+use Rattle.definition.specs.Reader.{got, Reader, require, give, byte, choose, _>>=_, _>>_}
 use Rattle.definition.specs.Token.{counted, identifier, string, bytes, valType, present}
 use Rattle.definition.specs.Records.{Room, Extern, Forms, importName, funcExtern, tableExtern, memExtern, globalExtern, importOf, importRec, itemRec, funcRec, tableRec, memRec, globalRec}
 use Rattle.definition.specs.Records.{typeRec, kind, exportRec, startRec, mode, elemRec, dataRec, fieldRecs, fieldRec}

@@ -1,16 +1,15 @@
 -- Laws of one type use at its record.
-use Prim.Native.Nat.{ℕ, zero, suc, _+_, _-_, _*_, _≤_, _<_}
-use mathlib.Core.Path.{_≡_, refl, sym, _∙_, ap}
+use Prim.Native.Nat.{ℕ, _+_, _-_, _*_, _≤_, _<_}
+use mathlib.Core.Path.{_≡_, sym, _∙_, ap}
 use mathlib.Core.Bool.{Bool, true, false}
-use mathlib.Core.List.{List, [], _∷_, _++_}
-use mathlib.Core.Option.{Option, none, some}
+use mathlib.Core.List.{List, [], _∷_}
 use lib.ListN.{length, getD, set, drop}
 use lib.Seq.{getD-set-same, getD-set-other, getD-drop}
 use native.Mathlib.Omega.{arith}
-use Rattle.definition.specs.Basic.{if_then_else_, Answer, ok, refused, _>>=_}
+use Rattle.definition.specs.Basic.{Answer, ok, _>>=_}
 use Rattle.definition.specs.Syntax.{Bytes, FuncType}
 use Rattle.definition.specs.Types as Types
-use Rattle.definition.specs.Types.{typeAt, takeOrAdd, intern, signature, isShort, instrUses, usedAt}
+use Rattle.definition.specs.Types.{intern, signature, isShort, instrUses, usedAt}
 use Rattle.token.specs.declared.index.Index.the-variants as X
 use Rattle.typeuse.specs.Views.{useOf}
 use Rattle.typeuse.specs.declared.TypeUse.{TypeUse}
@@ -19,11 +18,11 @@ use Rattle.instr.specs.declared.Instr.{Instr}
 use Rattle.instr.specs.declared.Instr.the-variants as N
 use Rattle.space.specs.Kept.{Kept}
 use Rattle.space.proofs.Kept.{kept-set, kept-then, kept-less}
-use Rattle.signatures.specs.Table.{typeTable, Inside, Taken, Denied, Interns}
+use Rattle.signatures.specs.Table.{typeTable, Taken, Denied, Interns}
 use Rattle.signatures.specs.declared.table.Interned.{Interned}
 use Rattle.signatures.specs.declared.table.Interned.the-variants as I
 use Rattle.signatures.proofs.Types.{table-kept}
-use Rattle.types.specs.Uses.{blockUses, Known, Handled, Stopped, Handles}
+use Rattle.types.specs.Uses.{blockUses, Known, Handles}
 use Rattle.types.specs.declared.taken.Used.{Used}
 use Rattle.types.specs.declared.taken.Used.the-variants as U
 use Rattle.types.proofs.Handled.{handles-none}

@@ -1,8 +1,8 @@
 -- What the pass makes of type uses, one after the other.
-use Prim.Native.Nat.{ℕ, zero, suc, _+_, _-_, _≤_, _<_}
+use Prim.Native.Nat.{ℕ, _+_, _-_, _≤_, _<_}
 use mathlib.Core.Path.{_≡_}
 use mathlib.Core.List.{List, [], _∷_, _++_}
-use mathlib.Core.Option.{Option, none, some}
+use mathlib.Core.Option.{Option, some}
 use lib.ListN.{length, getD}
 use Rattle.definition.specs.Basic.{if_then_else_, ok, refused}
 use Rattle.definition.specs.Syntax as Syntax

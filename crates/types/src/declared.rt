@@ -3,7 +3,6 @@ use fields::Field;
 use signatures::Signature;
 use typeuse::List;
 use walk::What;
-ghost use mathlib.Core.Path.{_≡_};
 ghost use Prim.Native.Nat.{_+_, _≤_, _<_};
 ghost use lib.ListN.{length};
 ghost use Rattle.signatures.specs.Table.{Adds};

@@ -6,7 +6,6 @@ use fields::Field;
 use sources::Extern;
 use sources::Own;
 use sources::Source;
-ghost use mathlib.Core.Path.{_≡_};
 ghost use Prim.Native.Nat.{_+_, _≤_, _<_};
 ghost use lib.ListN.{length};
 ghost use Rattle.definition.specs.Types as Types;

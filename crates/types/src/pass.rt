@@ -4,7 +4,7 @@ use crate::field::use_field;
 use crate::taken::Used;
 use walk::What;
 ghost use mathlib.Core.Path.{_≡_};
-ghost use Prim.Native.Nat.{_+_, _≤_, _<_};
+ghost use Prim.Native.Nat.{_≤_};
 ghost use lib.ListN.{length, set};
 ghost use Rattle.definition.specs.Types as Types;
 ghost use Rattle.walk.specs.Walk.{Ahead, begin, fieldsIn};

@@ -23,13 +23,13 @@ same-length : tie.Need-same-length
 same-length c = search needs
 
 returns : tie.Need-returns
-returns c = search (func-body, func-refused) depth 8
+returns c = search func-body
 
 same-length-2 : tie.Need-same-length-2
 same-length-2 c = search needs
 
 returns-2 : tie.Need-returns-2
-returns-2 c = search (func-body, func-refused) depth 8
+returns-2 c = search func-refused
 
 pub use-func-spec : {M : Type 1} → statement M
 use-func-spec =

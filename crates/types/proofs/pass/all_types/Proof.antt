@@ -3,10 +3,6 @@ use Rattle.types.proofs.Passes.{types-done}
 use borrow.Author.Needs.{needs}
 use Rattle.types.proofs.pass.all_types.Statement.{statement}
 use Rattle.types.proofs.pass.all_types.Tie as tie
-use Rattle.types.proofs.pass.all_types.Reads as reads
-use Rattle.types.proofs.pass.all_types.Lts as lts
-use Rattle.types.proofs.declared.declare_all.Reads as declare-all-reads
-use Rattle.types.proofs.pass.intern_all.Reads as intern-all-reads
 
 -- src/pass.rt:77:9
 declare-all-requires : tie.Need-declare-all-requires

@@ -2,10 +2,6 @@ use Rattle.types.proofs.Passes.{interned-all, stopped-all}
 use borrow.Author.Needs.{needs}
 use Rattle.types.proofs.pass.intern_all.Statement.{statement}
 use Rattle.types.proofs.pass.intern_all.Tie as tie
-use Rattle.types.proofs.pass.intern_all.Reads as reads
-use Rattle.types.proofs.pass.intern_all.Lts as lts
-use Rattle.types.proofs.pass.put_total.Reads as put-total-reads
-use Rattle.types.proofs.pass.use_all.Reads as use-all-reads
 
 -- src/pass.rt:63:11
 use-all-requires : tie.Need-use-all-requires
@@ -29,7 +25,7 @@ same-length c = search needs
 
 -- src/pass.rt:59:1
 returns : tie.Need-returns
-returns c = search (interned-all, stopped-all) depth 8
+returns c = search interned-all
 
 -- src/pass.rt:59:1
 same-length-2 : tie.Need-same-length-2
@@ -37,7 +33,7 @@ same-length-2 c = search needs
 
 -- src/pass.rt:59:1
 returns-2 : tie.Need-returns-2
-returns-2 c = search (interned-all, stopped-all) depth 8
+returns-2 c = search stopped-all
 
 pub intern-all-spec : {M : Type 1} → statement M
 intern-all-spec =
