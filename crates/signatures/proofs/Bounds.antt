@@ -1,16 +1,16 @@
 -- A list has no more value types than the stream has bytes: each that is read moves the place on.
 use Prim.Native.Nat.{ℕ, zero, suc, _+_, _-_, _*_, _%_, _≤_, _<_}
-use mathlib.Core.Path.{_≡_, refl, ap, _∙_}
+use mathlib.Core.Path.{_≡_, ap}
 use mathlib.Core.Bool.{Bool, true, false}
 use mathlib.Core.List.{List, [], _∷_}
-use mathlib.Core.Option.{Option, none, some}
+use mathlib.Core.Option.{Option}
 use lib.Dec.{leb, ltb}
-use lib.ListN.{length, getD}
+use lib.ListN.{length}
 use borrow.Author.Tests.{ltb-true}
 use native.Mathlib.Omega.{arith}
-use Rattle.definition.specs.Basic.{if_then_else_, at}
+use Rattle.definition.specs.Basic.{at}
 use Rattle.definition.specs.Syntax.{Bytes, Identifier, Local}
-use Rattle.definition.specs.Reader.{Step, got, fault, Reader, onward, require, give, byte, many}
+use Rattle.definition.specs.Reader.{Step, got, fault, Reader, onward, require, byte, many}
 use Rattle.definition.specs.Token.{param, valType, isVal, identifier, idByte, idchar, upTo, u32, groups}
 use Rattle.definition.specs.Names.{paramCount}
 use Rattle.laws.proofs.Exits.{if-either}

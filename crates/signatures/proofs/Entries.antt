@@ -1,24 +1,23 @@
 -- Plain mathematics of one type of the table: read, compared, written.
-use Prim.Native.Nat.{ℕ, zero, suc, _+_, _-_, _*_, _≤_, _<_, min}
-use mathlib.Core.Path.{_≡_, refl, sym, _∙_, ap}
+use Prim.Native.Nat.{ℕ, zero, suc, _+_, _-_, _≤_, _<_, min}
+use mathlib.Core.Path.{_≡_, refl, sym, _∙_}
 use mathlib.Core.Bool.{Bool, true, false}
 use mathlib.Core.List.{List, [], _∷_}
-use lib.ListN.{length, getD, set, take, drop, length-set}
+use lib.ListN.{length, getD, set, drop, length-set}
 use lib.Seq.{getD-set-same, getD-set-other}
 use lib.Dec.{eqb}
 use native.Mathlib.Decide.{decLe}
 use native.Mathlib.Omega.{arith}
 use Rattle.definition.specs.Basic.{sameBytes}
-use Rattle.definition.specs.Syntax.{Bytes, FuncType}
-use Rattle.definition.specs.Reader.{Step, fault, Reader, byte}
+use Rattle.definition.specs.Syntax.{Bytes}
+use Rattle.definition.specs.Reader.{fault}
 use Rattle.definition.specs.Token.{param, valType, identifier, upTo, u32, groups}
 use Rattle.definition.specs.Types.{sameType, signature}
 use Rattle.laws.proofs.Readers.{byte-out}
 use Rattle.typeuse.specs.Views.{elements, useOf}
 use Rattle.typeuse.specs.declared.List as Code
 use Rattle.typeuse.specs.declared.TypeUse.{TypeUse}
-use Rattle.space.specs.Kept.{Kept}
-use Rattle.space.proofs.Kept.{kept-set, kept-then, kept-less}
+use Rattle.space.proofs.Kept.{kept-set, kept-then}
 use Rattle.signatures.specs.Table.{typesOf, typed, signatureOf, ofUse, listIn, entryIn, flagOf, listWords, typeWords, Inside}
 use Rattle.signatures.specs.declared.entry.Signature.{Signature}
 use Rattle.signatures.proofs.Lists.{types-are}

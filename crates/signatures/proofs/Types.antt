@@ -4,7 +4,7 @@ use mathlib.Core.Path.{_≡_, refl, sym, _∙_, ap}
 use mathlib.Core.Bool.{Bool, true, false}
 use mathlib.Core.List.{List, [], _∷_, _++_}
 use mathlib.Core.Option.{Option, none, some}
-use lib.ListN.{length, getD, set}
+use lib.ListN.{length, getD}
 use borrow.Author.Tests.{lt-leb, le-leb, eq-eqb}
 use native.Mathlib.Omega.{arith}
 use Rattle.definition.specs.Basic.{if_then_else_, Answer, ok, refused, at, same, sameBytes, firstAt, later}
@@ -16,7 +16,7 @@ use Rattle.typeuse.specs.declared.TypeUse.{TypeUse}
 use Rattle.space.specs.Kept.{Kept}
 use Rattle.space.proofs.Kept.{kept-word}
 use Rattle.space.proofs.Walk.{Looking, look-begin, look-found, look-on, look-none}
-use Rattle.signatures.specs.Table.{typesOf, signatureOf, ofUse, listIn, entryIn, typeTable, typesIn, numberOf, agreeing, typeWords, Inside, Adds, Taken, Denied, Interns, interning}
+use Rattle.signatures.specs.Table.{typesOf, signatureOf, ofUse, entryIn, typeTable, typesIn, numberOf, agreeing, typeWords, Inside, Adds, Interns}
 use Rattle.signatures.specs.declared.entry.Signature.{Signature}
 use Rattle.signatures.specs.declared.table.TypeFound.{TypeFound}
 use Rattle.signatures.specs.declared.table.TypeFound.the-variants as T
@@ -53,6 +53,12 @@ table-kept zero s base m h k = refl
 table-kept (suc n) s {w} {w′} base m h k =
     rw (kept-word k base (omega arith), kept-word k (base + 1) (omega arith), kept-word k (base + 1 + 1) (omega arith), kept-word k (base + 3) (omega arith),
     kept-word k (base + 3 + 1) (omega arith), table-kept n s {w = w} {w′ = w′} (base + 5) m (omega arith) k)
+
+-- nor do words after the number of types
+pub types-kept : (n : ℕ) (s : Bytes) {w w′ : List ℕ} → 5897 ≤ n → Kept n w w′ → typesIn s w′ ≡ typesIn s w
+unfolding typesIn
+types-kept n s {w} {w′} h k =
+    rw (kept-word k 5896 (omega arith)) (table-kept (min (getD w 5896 0) 256) s {w = w} {w′ = w′} 520 n (omega arith) k)
 
 -- the entry at a number
 table-at : (n : ℕ) (s w : List ℕ) (base k : ℕ) → k < n → at (typeTable n s w base) k ≡ some (signatureOf s (entryIn w (base + 5 * k)))

@@ -4,7 +4,7 @@ use typeuse::TypeUse;
 ghost use mathlib.Core.Path.{_≡_};
 ghost use mathlib.Core.Bool.{true, false};
 ghost use Prim.Native.Nat.{_+_, _≤_, _<_, min};
-ghost use lib.ListN.{length, getD, set};
+ghost use lib.ListN.{length, set};
 ghost use Rattle.definition.specs.Types as Types;
 ghost use Rattle.signatures.specs.Table.{ofUse, signatureOf, listIn, entryIn, listWords, typeWords, flagOf};
 

@@ -12,6 +12,7 @@ pub use list::is_short;
 pub use table::Agreement;
 pub use table::Interned;
 pub use table::TypeFound;
+pub use table::add_type;
 pub use table::agrees;
 pub use table::find_type;
 pub use table::intern_use;

@@ -12,7 +12,7 @@ ghost use Rattle.definition.specs.Basic as Basic;
 ghost use Rattle.definition.specs.Types as Types;
 ghost use Rattle.definition.specs.Names as Names;
 ghost use Rattle.typeuse.specs.Views.{useOf};
-ghost use Rattle.signatures.specs.Table.{signatureOf, entryIn, typeTable, typesIn, numberOf, agreeing, Adds, Interns};
+ghost use Rattle.signatures.specs.Table.{signatureOf, typeTable, typesIn, numberOf, agreeing, Adds, Interns};
 
 pub enum TypeFound {
     Number(u32),
@@ -44,7 +44,7 @@ pub enum Interned {
 }
 
 // A signature is added at the end.
-fn add_type(s: &[u8], work: &mut [u32], count: u32, x: Signature)
+pub fn add_type(s: &[u8], work: &mut [u32], count: u32, x: Signature)
     requires { ⌜ (length (now s) ≤ 65536) × (count < 256) × (1800 ≤ length (now work)) ⌝ }
     ensures { λ _. ⌜ Adds (now (s .entry)) (now (work .entry)) count x (now (work .exit)) ⌝ }
 {

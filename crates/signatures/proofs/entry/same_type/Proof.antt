@@ -10,10 +10,10 @@ same-types-requires-2 : tie.Need-same-types-requires-2
 same-types-requires-2 c κs = search needs
 
 returns : tie.Need-returns
-returns c = search (type-same, type-other) depth 8
+returns c = search type-same
 
 returns-2 : tie.Need-returns-2
-returns-2 c = search (type-same, type-other) depth 8
+returns-2 c = search type-other
 
 pub same-type-spec : {M : Type 1} → statement M
 same-type-spec = tie.close (tie.spec same-types-requires same-types-requires-2 returns returns-2)

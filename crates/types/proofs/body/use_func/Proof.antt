@@ -1,0 +1,46 @@
+use Rattle.types.proofs.Handled.{handles-few}
+use Rattle.types.proofs.Bodies.{func-body, func-refused}
+use borrow.Author.Needs.{needs}
+use Rattle.types.proofs.body.use_func.Statement.{statement}
+use Rattle.types.proofs.body.use_func.Tie as tie
+
+use-type-requires : tie.Need-use-type-requires
+use-type-requires c κs = search needs
+
+enum-known-k : tie.Need-enum-known-k
+enum-known-k c = search needs
+
+add-use-body : tie.Need-add-use-body
+add-use-body c = search needs
+
+use-body-requires : tie.Need-use-body-requires
+use-body-requires c κs = search (handles-few, needs)
+
+enum-known-n : tie.Need-enum-known-n
+enum-known-n c = search needs
+
+same-length : tie.Need-same-length
+same-length c = search needs
+
+returns : tie.Need-returns
+returns c = search func-body
+
+same-length-2 : tie.Need-same-length-2
+same-length-2 c = search needs
+
+returns-2 : tie.Need-returns-2
+returns-2 c = search func-refused
+
+pub use-func-spec : {M : Type 1} → statement M
+use-func-spec =
+    tie.close
+    (tie.spec
+    use-type-requires
+    enum-known-k
+    add-use-body
+    use-body-requires
+    enum-known-n
+    same-length
+    returns
+    same-length-2
+    returns-2)

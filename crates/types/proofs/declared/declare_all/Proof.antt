@@ -1,0 +1,58 @@
+use borrow.Author.Needs.{needs}
+use Rattle.walk.proofs.Steps.{visit-less}
+use Rattle.types.proofs.Declares.{Declaring, declaring-begin, declaring-done, declaring-again, has-room}
+use Rattle.types.proofs.declared.declare_all.Statement.{statement}
+use Rattle.types.proofs.declared.declare_all.Tie as tie
+
+abbrev Inv-loop : tie.InvT-loop
+Inv-loop s work₀ c₀ count₀ work c count = Declaring s work₀ work c count
+
+abbrev μ-loop : tie.MeasureT-loop
+μ-loop s work₀ c₀ count₀ work c count = c .left
+
+start-requires : tie.Need-start-requires Inv-loop μ-loop
+start-requires c κs = search needs
+
+loop-holds : tie.Need-loop-holds Inv-loop μ-loop
+loop-holds c = search declaring-begin
+
+visit-requires : tie.Need-visit-requires Inv-loop μ-loop
+visit-requires c κs = search needs
+
+enum-known-what : tie.Need-enum-known-what Inv-loop μ-loop
+enum-known-what c = search needs
+
+declare-requires : tie.Need-declare-requires Inv-loop μ-loop
+declare-requires c κs = search (has-room, needs)
+
+loop-less : tie.Need-loop-less Inv-loop μ-loop
+loop-less c = search visit-less
+
+loop-again : tie.Need-loop-again Inv-loop μ-loop
+loop-again c = search declaring-again
+
+enum-told : tie.Need-enum-told Inv-loop μ-loop
+enum-told c = search needs
+
+same-length : tie.Need-same-length Inv-loop μ-loop
+same-length c = search needs
+
+returns : tie.Need-returns Inv-loop μ-loop
+returns c = search declaring-done
+
+pub declare-all-spec : {M : Type 1} → statement M
+declare-all-spec =
+    tie.close
+    (tie.spec
+    Inv-loop
+    μ-loop
+    start-requires
+    loop-holds
+    visit-requires
+    enum-known-what
+    declare-requires
+    loop-less
+    loop-again
+    enum-told
+    same-length
+    returns)
