@@ -1,0 +1,211 @@
+-- What a field puts into the sections, entry by entry.
+use Prim.Native.Nat.{ℕ, _+_, _-_, _≤_}
+use mathlib.Core.Path.{_≡_}
+use mathlib.Core.Bool.{Bool}
+use mathlib.Core.List.{List, [], _∷_, _++_, map}
+use mathlib.Core.Option.{Option, none, some}
+use lib.ListN.{length}
+use Rattle.definition.specs.Basic.{if_then_else_, Answer, ok, refused, _>>=_, each, concatMap}
+use Rattle.definition.specs.Syntax as Syntax
+use Rattle.definition.specs.Syntax.{Bytes, Identifier, Space, funcs, tables, mems, globals, number, active, Item}
+use Rattle.definition.specs.Token as Token
+use Rattle.definition.specs.Deinline.{Numbered, exactly, pages, zeroOffset}
+use Rattle.definition.specs.Types as Types
+use Rattle.definition.specs.Types.{Uses, usedAt}
+use Rattle.definition.specs.Names.{Scope, typeNo, resolve, resolveAll}
+use Rattle.definition.specs.Binary.{u, funcType, limits, tableType, func-code, entries}
+use Rattle.token.specs.Views.{partOf, indexOf, spaceOf}
+use Rattle.coretypes.specs.Views.{limitsIs, tableTypeIs, globalTypeIs}
+use Rattle.typeuse.specs.Views.{listOf, useOf}
+use Rattle.typeuse.specs.declared.List as Code
+use Rattle.typeuse.specs.declared.TypeUse.{TypeUse}
+use Rattle.expr.specs.Views.{plainIs}
+use Rattle.sources.specs.Views.{countOf, nameOf, externIs}
+use Rattle.sources.specs.declared.seen.Seen.{Seen}
+use Rattle.sources.specs.declared.import.Extern.{Extern}
+use Rattle.sources.specs.declared.import.Extern.the-variants as X
+use Rattle.sources.specs.declared.source.Own.{Own}
+use Rattle.sources.specs.declared.source.Own.the-variants as O
+use Rattle.sources.specs.declared.source.Source.{Source}
+use Rattle.sources.specs.declared.source.Source.the-variants as S
+use Rattle.token.specs.declared.text.Part.{Part}
+use Rattle.token.specs.declared.index.Space as Kind
+use Rattle.token.specs.declared.index.Space.the-variants as K
+use Rattle.fields.specs.Views.{modeOf}
+use Rattle.fields.specs.declared.field.Field.{Field}
+use Rattle.fields.specs.declared.field.Field.the-variants as F
+use Rattle.stream.specs.Counting.{externBrings, ownBrings}
+use Rattle.walk.specs.Walk.{bodyFrom}
+use Rattle.content.specs.Temp.{entryOf, exportEntries}
+use Rattle.content.specs.declared.entry.Entry.{Entry}
+use Rattle.content.specs.declared.entry.Entry.the-variants as E
+use Rattle.content.specs.declared.entry.Three.{Three}
+
+abbrev pub sectionNo : Entry → ℕ
+sectionNo E.Nothing = 0
+sectionNo (E.Type ps rs) = 1
+sectionNo (E.Import n x) = 2
+sectionNo (E.Func t) = 3
+sectionNo (E.Table t) = 4
+sectionNo (E.InlineTable w xs) = 4
+sectionNo (E.Mem l) = 5
+sectionNo (E.InlineMem w d) = 5
+sectionNo (E.Global t c) = 6
+sectionNo (E.Export n k x) = 7
+sectionNo (E.Exports es k n) = 7
+sectionNo (E.Start x) = 8
+sectionNo (E.Elem m xs) = 9
+sectionNo (E.InlineElem w n xs) = 9
+sectionNo (E.Code t ls here) = 10
+sectionNo (E.Data m d) = 11
+sectionNo (E.InlineData w n d) = 11
+
+-- ## What the definition makes of an entry
+
+-- the bytes of what was resolved, as the only entry
+unfoldable pub oneOf : {A : Type 0} → (A → Bytes) → Answer A → Answer (List Bytes)
+oneOf bytes (ok a) = ok (bytes a ∷ [])
+oneOf bytes (refused n r) = refused n r
+
+-- a function's type, and its code
+unfoldable pub typeBytes : Syntax.TypeNo → Bytes
+typeBytes n = u (n .type-no)
+
+abbrev pub codeOf : Item → Bytes
+codeOf (Syntax.typeI t) = []
+codeOf (Syntax.importI n d) = []
+codeOf (Syntax.funcI n ls os) = func-code ls os
+codeOf (Syntax.tableI t) = []
+codeOf (Syntax.memI l) = []
+codeOf (Syntax.globalI t o) = []
+codeOf (Syntax.exportI n k x) = []
+codeOf (Syntax.startI x) = []
+codeOf (Syntax.elemI m ns) = []
+codeOf (Syntax.dataI m d) = []
+
+-- an own function whose body begins at `here`; `r` is its record
+unfoldable pub funcField : Bytes → ℕ → TypeUse → Code.List → ℕ → Syntax.Field Identifier
+funcField s r t ls here = Syntax.ownF none (Syntax.ownFunc (useOf s t) (listOf Token.param s ls)) (bodyFrom (4096 - (r + 1)) 0 s here)
+
+unfoldable pub answerOf : Scope Identifier → Bytes → ℕ → Entry → Answer (List Bytes)
+answerOf Γ s r E.Nothing = ok []
+answerOf Γ s r (E.Type ps rs) = ok (funcType (record { params = listOf Token.valType s ps; results = listOf Token.valType s rs }) ∷ [])
+answerOf Γ s r (E.Import n x) = oneOf entryOf (resolve Γ r (Syntax.importF (nameOf s n) none (externIs s x)))
+answerOf Γ s r (E.Func t) = oneOf typeBytes (typeNo Γ r (useOf s t))
+answerOf Γ s r (E.Table t) = ok (tableType (tableTypeIs t) ∷ [])
+answerOf Γ s r (E.InlineTable w xs) = ok (tableType (record { element = 0x70; limits = exactly w (length (listOf Token.present s xs)) }) ∷ [])
+answerOf Γ s r (E.Mem l) = ok (limits (limitsIs l) ∷ [])
+answerOf Γ s r (E.InlineMem w d) = ok (limits (exactly w (pages (length (partOf s d)))) ∷ [])
+answerOf Γ s r (E.Global t c) = oneOf entryOf (resolve Γ r (Syntax.ownF none (Syntax.ownGlobal (globalTypeIs t) (plainIs s c)) []))
+answerOf Γ s r (E.Export n k x) = oneOf entryOf (resolve Γ r (Syntax.exportF (partOf s n) (spaceOf k) (indexOf s x)))
+answerOf Γ s r (E.Exports es k n) = ok (exportEntries (spaceOf k) n (listOf Token.string s es))
+answerOf Γ s r (E.Start x) = oneOf entryOf (resolve Γ r (Syntax.startF (indexOf s x)))
+answerOf Γ s r (E.Elem m xs) = oneOf entryOf (resolve Γ r (Syntax.elemF none (modeOf s m) (listOf Token.present s xs)))
+answerOf Γ s r (E.InlineElem w n xs) = oneOf entryOf (resolve Γ r (Syntax.elemF none (active (number n) (zeroOffset w)) (listOf Token.present s xs)))
+answerOf Γ s r (E.Code t ls here) = oneOf codeOf (resolve Γ r (funcField s r t ls here))
+answerOf Γ s r (E.Data m d) = oneOf entryOf (resolve Γ r (Syntax.dataF none (modeOf s m) (partOf s d)))
+answerOf Γ s r (E.InlineData w n d) = oneOf entryOf (resolve Γ r (Syntax.dataF none (active (number n) (zeroOffset w)) (partOf s d)))
+
+-- the type uses that it resolves
+unfoldable pub usesOf : Bytes → ℕ → Entry → Uses
+usesOf s r E.Nothing = []
+usesOf s r (E.Type ps rs) = []
+usesOf s r (E.Import n x) = usedAt r (Types.externUses (externIs s x))
+usesOf s r (E.Func t) = usedAt r (Types.useOf (useOf s t))
+usesOf s r (E.Table t) = []
+usesOf s r (E.InlineTable w xs) = []
+usesOf s r (E.Mem l) = []
+usesOf s r (E.InlineMem w d) = []
+usesOf s r (E.Global t c) = []
+usesOf s r (E.Export n k x) = []
+usesOf s r (E.Exports es k n) = []
+usesOf s r (E.Start x) = []
+usesOf s r (E.Elem m xs) = []
+usesOf s r (E.InlineElem w n xs) = []
+usesOf s r (E.Code t ls here) = usedAt r (Types.useOf (useOf s t)) ++ Types.bodyUses (r + 1) (bodyFrom (4096 - (r + 1)) 0 s here)
+usesOf s r (E.Data m d) = []
+usesOf s r (E.InlineData w n d) = []
+
+-- a function has at most 64 parameters and 64 locals
+abbrev pub FewIn : Bytes → Entry → Type 0
+FewIn s E.Nothing = Unit {0}
+FewIn s (E.Type ps rs) = Unit {0}
+FewIn s (E.Import n x) = Unit {0}
+FewIn s (E.Func t) = Unit {0}
+FewIn s (E.Table t) = Unit {0}
+FewIn s (E.InlineTable w xs) = Unit {0}
+FewIn s (E.Mem l) = Unit {0}
+FewIn s (E.InlineMem w d) = Unit {0}
+FewIn s (E.Global t c) = Unit {0}
+FewIn s (E.Export n k x) = Unit {0}
+FewIn s (E.Exports es k n) = Unit {0}
+FewIn s (E.Start x) = Unit {0}
+FewIn s (E.Elem m xs) = Unit {0}
+FewIn s (E.InlineElem w n xs) = Unit {0}
+FewIn s (E.Code t ls here) = (length (useOf s t .params) ≤ 64) × (length (listOf Token.param s ls) ≤ 64)
+FewIn s (E.Data m d) = Unit {0}
+FewIn s (E.InlineData w n d) = Unit {0}
+
+-- ## The entries of a field
+
+-- the space of an item, among the code's values
+abbrev pub externSpaceOf : Extern → Kind.Space
+externSpaceOf (X.Func t) = K.Funcs
+externSpaceOf (X.Table t) = K.Tables
+externSpaceOf (X.Mem l) = K.Mems
+externSpaceOf (X.Global t) = K.Globals
+
+abbrev pub ownSpaceOf : Own → Kind.Space
+ownSpaceOf (O.Func t ls) = K.Funcs
+ownSpaceOf (O.Table t) = K.Tables
+ownSpaceOf (O.Mem l) = K.Mems
+ownSpaceOf (O.Global t c) = K.Globals
+
+abbrev pub only : Entry → Three
+only e = record { first = e; second = E.Nothing; third = E.Nothing }
+
+abbrev pub ownThree : Entry → Own → ℕ → Three
+ownThree es (O.Func t ls) here = record { first = es; second = E.Func t; third = E.Code t ls here }
+ownThree es (O.Table t) here = record { first = es; second = E.Table t; third = E.Nothing }
+ownThree es (O.Mem l) here = record { first = es; second = E.Mem l; third = E.Nothing }
+ownThree es (O.Global t c) here = record { first = es; second = E.Global t c; third = E.Nothing }
+
+abbrev pub sourceThree : Code.List → Source → Seen → ℕ → Three
+sourceThree es (S.Own o) seen here = ownThree (E.Exports es (ownSpaceOf o) (countOf seen (ownBrings o))) o here
+sourceThree es (S.Imported n x) seen here = record { first = E.Exports es (externSpaceOf x) (countOf seen (externBrings x)); second = E.Import n x; third = E.Nothing }
+sourceThree es (S.TableOf w xs) seen here = record { first = E.Exports es K.Tables (countOf seen tables); second = E.InlineElem w (countOf seen tables) xs; third = E.InlineTable w xs }
+sourceThree es (S.MemOf w d) seen here = record { first = E.Exports es K.Mems (countOf seen mems); second = E.InlineData w (countOf seen mems) d; third = E.InlineMem w d }
+
+abbrev pub three : Field → Seen → ℕ → Three
+three (F.Type i ps rs) seen here = only (E.Type ps rs)
+three (F.Import n i x) seen here = only (E.Import n x)
+three (F.Item i es x) seen here = sourceThree es x seen here
+three (F.Export n k x) seen here = only (E.Export n k x)
+three (F.Start x) seen here = only (E.Start x)
+three (F.Elem i m xs) seen here = only (E.Elem m xs)
+three (F.Data i m d) seen here = only (E.Data m d)
+
+-- ## Entries with their sections
+
+abbrev pub Entries : Type 0
+Entries = List (ℕ × Bytes)
+
+-- what fields resolve to, as entries
+unfoldable pub entriesOf : Scope Identifier → Numbered Identifier → Answer Entries
+entriesOf Γ fs = resolveAll Γ fs >>= λ is. ok (concatMap entries is)
+
+unfoldable pub tagged : ℕ → Answer (List Bytes) → Answer Entries
+tagged k (ok bs) = ok (map (λ b. (k, b)) bs)
+tagged k (refused n r) = refused n r
+
+-- first the one, then the other
+unfoldable pub both : {A : Type 0} → Answer (List A) → Answer (List A) → Answer (List A)
+both (ok xs) (ok ys) = ok (xs ++ ys)
+both (ok xs) (refused n r) = refused n r
+both (refused n r) b = refused n r
+
+unfoldable pub entryIn : Scope Identifier → Bytes → ℕ → Entry → Answer Entries
+entryIn Γ s r e = tagged (sectionNo e) (answerOf Γ s r e)
+
+unfoldable pub threeIn : Scope Identifier → Bytes → ℕ → Three → Answer Entries
+threeIn Γ s r t = both (entryIn Γ s r (t .first)) (both (entryIn Γ s r (t .second)) (entryIn Γ s r (t .third)))
