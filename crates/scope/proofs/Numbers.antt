@@ -82,7 +82,7 @@ module _ (s w : List ℕ) (r : ℕ) (t : TypeUse) where
   pub use-absent : (n : ℕ) → t .index ≡ X.Absent → Recalled w (typesIn s w) (usedAt r (Types.useOf (useOf s t))) → n ≡ getD w (1800 + r) 0
       → typeNo (scopeIn s w) r (useOf s t) ≡ ok (record { type-no = n })
   unfolding typeNo Names.typeNoOf scopeIn Types.useOf Recalled signature
-  use-absent n d h e = (let g : (getD w (1800 + r) 0 ≡ Types.typeNumber (signature (useOf s t)) (typesIn s w)) × Unit {0} = rw d at h in rw (d, e, g .0))
+  use-absent n d h e = (let g : (r < 4096) × (getD w (1800 + r) 0 ≡ Types.typeNumber (signature (useOf s t)) (typesIn s w)) × Unit {0} = rw d at h in rw (d, e, g .1))
 
   pub use-number : (n : ℕ) (a : Answer Syntax.TypeNo) → t .index ≡ X.Number n → Names.checked (scopeIn s w) r (isInline (useOf s t)) (signature (useOf s t)) n ≡ a
       → typeNo (scopeIn s w) r (useOf s t) ≡ a

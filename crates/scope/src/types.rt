@@ -10,7 +10,7 @@ use typeuse::List;
 use typeuse::TypeUse;
 ghost use mathlib.Core.Path.{_≡_};
 ghost use mathlib.Core.Bool.{_&&_};
-ghost use Prim.Native.Nat.{_≤_, _<_};
+ghost use Prim.Native.Nat.{_≤_};
 ghost use lib.ListN.{length};
 ghost use Rattle.definition.specs.Token as Token;
 ghost use Rattle.definition.specs.Types as Types;
@@ -45,7 +45,7 @@ fn checked(s: &[u8], work: &[u32], n: u32, t: TypeUse, rec: u32) -> TypeAt
 
 // The number of the type of a use. Without an index it is the one that interning gave it.
 pub fn type_no(s: &[u8], work: &[u32], t: TypeUse, rec: u32) -> TypeAt
-    requires { ⌜ (16384 ≤ length (now work)) × (rec < 4096) × Recalled (now work) (typesIn (now s) (now work)) (Types.usedAt rec (Types.useOf (useOf (now s) t))) ⌝ }
+    requires { ⌜ (16384 ≤ length (now work)) × Recalled (now work) (typesIn (now s) (now work)) (Types.usedAt rec (Types.useOf (useOf (now s) t))) ⌝ }
     ensures { λ r. ⌜ Names.typeNo (scopeIn (now (s .entry)) (now (work .entry))) rec (useOf (now (s .entry)) t) ≡ typeAnswer r ⌝ }
 {
     let index = t.index;
@@ -92,7 +92,7 @@ fn goes_short(s: &[u8], t: TypeUse) -> bool
 
 // The type of a block.
 pub fn block_type(s: &[u8], work: &[u32], t: TypeUse, rec: u32) -> BlockAt
-    requires { ⌜ (16384 ≤ length (now work)) × (rec < 4096) × Recalled (now work) (typesIn (now s) (now work)) (Types.usedAt rec (blockUses (useOf (now s) t))) ⌝ }
+    requires { ⌜ (16384 ≤ length (now work)) × Recalled (now work) (typesIn (now s) (now work)) (Types.usedAt rec (blockUses (useOf (now s) t))) ⌝ }
     ensures { λ r. ⌜ Names.blockType (scopeIn (now (s .entry)) (now (work .entry))) rec (useOf (now (s .entry)) t) ≡ blockAnswer r ⌝ }
 {
     if goes_short(s, t) {
