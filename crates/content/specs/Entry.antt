@@ -34,7 +34,6 @@ use Rattle.token.specs.declared.index.Space.the-variants as K
 use Rattle.fields.specs.Views.{modeOf}
 use Rattle.fields.specs.declared.field.Field.{Field}
 use Rattle.fields.specs.declared.field.Field.the-variants as F
-use Rattle.stream.specs.Counting.{externBrings, ownBrings}
 use Rattle.walk.specs.Walk.{bodyFrom}
 use Rattle.content.specs.Temp.{entryOf, exportEntries}
 use Rattle.content.specs.declared.entry.Entry.{Entry}
@@ -161,20 +160,27 @@ ownSpaceOf (O.Table t) = K.Tables
 ownSpaceOf (O.Mem l) = K.Mems
 ownSpaceOf (O.Global t c) = K.Globals
 
+-- the exports of the next item of a space
+abbrev pub exportsOf : Code.List → Kind.Space → Seen → Entry
+exportsOf es k seen = E.Exports es k (countOf seen (spaceOf k))
+
+abbrev pub threeOf : Entry → Entry → Entry → Three
+threeOf a b c = record { first = a; second = b; third = c }
+
 abbrev pub only : Entry → Three
-only e = record { first = e; second = E.Nothing; third = E.Nothing }
+only e = threeOf e E.Nothing E.Nothing
 
 abbrev pub ownThree : Entry → Own → ℕ → Three
-ownThree es (O.Func t ls) here = record { first = es; second = E.Func t; third = E.Code t ls here }
-ownThree es (O.Table t) here = record { first = es; second = E.Table t; third = E.Nothing }
-ownThree es (O.Mem l) here = record { first = es; second = E.Mem l; third = E.Nothing }
-ownThree es (O.Global t c) here = record { first = es; second = E.Global t c; third = E.Nothing }
+ownThree es (O.Func t ls) here = threeOf es (E.Func t) (E.Code t ls here)
+ownThree es (O.Table t) here = threeOf es (E.Table t) E.Nothing
+ownThree es (O.Mem l) here = threeOf es (E.Mem l) E.Nothing
+ownThree es (O.Global t c) here = threeOf es (E.Global t c) E.Nothing
 
 abbrev pub sourceThree : Code.List → Source → Seen → ℕ → Three
-sourceThree es (S.Own o) seen here = ownThree (E.Exports es (ownSpaceOf o) (countOf seen (ownBrings o))) o here
-sourceThree es (S.Imported n x) seen here = record { first = E.Exports es (externSpaceOf x) (countOf seen (externBrings x)); second = E.Import n x; third = E.Nothing }
-sourceThree es (S.TableOf w xs) seen here = record { first = E.Exports es K.Tables (countOf seen tables); second = E.InlineElem w (countOf seen tables) xs; third = E.InlineTable w xs }
-sourceThree es (S.MemOf w d) seen here = record { first = E.Exports es K.Mems (countOf seen mems); second = E.InlineData w (countOf seen mems) d; third = E.InlineMem w d }
+sourceThree es (S.Own o) seen here = ownThree (exportsOf es (ownSpaceOf o) seen) o here
+sourceThree es (S.Imported n x) seen here = threeOf (exportsOf es (externSpaceOf x) seen) (E.Import n x) E.Nothing
+sourceThree es (S.TableOf w xs) seen here = threeOf (exportsOf es K.Tables seen) (E.InlineElem w (countOf seen tables) xs) (E.InlineTable w xs)
+sourceThree es (S.MemOf w d) seen here = threeOf (exportsOf es K.Mems seen) (E.InlineData w (countOf seen mems) d) (E.InlineMem w d)
 
 abbrev pub three : Field → Seen → ℕ → Three
 three (F.Type i ps rs) seen here = only (E.Type ps rs)

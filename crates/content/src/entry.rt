@@ -8,6 +8,7 @@ use fields::Mode;
 use sources::Extern;
 use sources::ImportName;
 use sources::Own;
+use sources::Seen;
 use sources::Source;
 use token::Index;
 use token::Part;
@@ -15,7 +16,7 @@ use token::Space;
 use typeuse::List;
 use typeuse::TypeUse;
 ghost use mathlib.Core.Path.{_≡_};
-ghost use Rattle.content.specs.Entry.{sectionNo, only, ownThree};
+ghost use Rattle.content.specs.Entry.{sectionNo, externSpaceOf, ownSpaceOf, exportsOf, threeOf, only, ownThree, sourceThree, three};
 
 // Entries of one section. The inline forms have the number of their item.
 pub enum Entry {
@@ -71,40 +72,91 @@ pub struct Three {
     pub third: Entry,
 }
 
+fn together(first: Entry, second: Entry, third: Entry) -> Three
+    ensures { λ r. ⌜ r ≡ threeOf first second third ⌝ }
+{
+    Three { first, second, third }
+}
+
 // A field of one entry.
 fn only(e: Entry) -> Three
     ensures { λ r. ⌜ r ≡ only e ⌝ }
 {
-    Three {
-        first: e,
-        second: Entry::Nothing,
-        third: Entry::Nothing,
+    together(e, Entry::Nothing, Entry::Nothing)
+}
+
+// The space of an item.
+fn extern_space(x: Extern) -> Space
+    ensures { λ r. ⌜ r ≡ externSpaceOf x ⌝ }
+{
+    match x {
+        Extern::Func(_) => Space::Funcs,
+        Extern::Table(_) => Space::Tables,
+        Extern::Mem(_) => Space::Mems,
+        Extern::Global(_) => Space::Globals,
     }
+}
+
+fn own_space(o: Own) -> Space
+    ensures { λ r. ⌜ r ≡ ownSpaceOf o ⌝ }
+{
+    match o {
+        Own::Func(_, _) => Space::Funcs,
+        Own::Table(_) => Space::Tables,
+        Own::Mem(_) => Space::Mems,
+        Own::Global(_, _) => Space::Globals,
+    }
+}
+
+// The exports of the next item of a space: they have its number.
+fn exports_of(exports: List, k: Space, seen: Seen) -> Entry
+    ensures { λ r. ⌜ r ≡ exportsOf exports k seen ⌝ }
+{
+    Entry::Exports(exports, k, sources::seen::count_of(seen, k))
 }
 
 fn own_entries(exports: Entry, o: Own, here: usize) -> Three
     ensures { λ r. ⌜ r ≡ ownThree exports o here ⌝ }
 {
     match o {
-        Own::Func(t, ls) => Three {
-            first: exports,
-            second: Entry::Func(t),
-            third: Entry::Code(t, ls, here),
-        },
-        Own::Table(t) => Three {
-            first: exports,
-            second: Entry::Table(t),
-            third: Entry::Nothing,
-        },
-        Own::Mem(l) => Three {
-            first: exports,
-            second: Entry::Mem(l),
-            third: Entry::Nothing,
-        },
-        Own::Global(t, c) => Three {
-            first: exports,
-            second: Entry::Global(t, c),
-            third: Entry::Nothing,
-        },
+        Own::Func(t, ls) => together(exports, Entry::Func(t), Entry::Code(t, ls, here)),
+        Own::Table(t) => together(exports, Entry::Table(t), Entry::Nothing),
+        Own::Mem(l) => together(exports, Entry::Mem(l), Entry::Nothing),
+        Own::Global(t, c) => together(exports, Entry::Global(t, c), Entry::Nothing),
+    }
+}
+
+// An inline table or memory is two entries beside its exports: the segment, and the item with the same number.
+fn source_entries(exports: List, x: Source, seen: Seen, here: usize) -> Three
+    ensures { λ r. ⌜ r ≡ sourceThree exports x seen here ⌝ }
+{
+    match x {
+        Source::Own(o) => own_entries(exports_of(exports, own_space(o), seen), o, here),
+        Source::Imported(n, e) => together(exports_of(exports, extern_space(e), seen), Entry::Import(n, e), Entry::Nothing),
+        Source::TableOf(w, xs) => together(exports_of(exports, Space::Tables, seen), Entry::InlineElem(w, sources::seen::count_of(seen, Space::Tables), xs), Entry::InlineTable(w, xs)),
+        Source::MemOf(w, d) => together(exports_of(exports, Space::Mems, seen), Entry::InlineData(w, sources::seen::count_of(seen, Space::Mems), d), Entry::InlineMem(w, d)),
+    }
+}
+
+// The entries of a field whose head ends at `here`; what was seen before it numbers its items.
+pub fn entries_of(f: Field, seen: Seen, here: usize) -> Three
+    ensures { λ r. ⌜ r ≡ three f seen here ⌝ }
+{
+    match f {
+        Field::Type {
+            id: _,
+            params,
+            results,
+        } => only(Entry::Type(params, results)),
+        Field::Import { name, id: _, what } => only(Entry::Import(name, what)),
+        Field::Item {
+            id: _,
+            exports,
+            source,
+        } => source_entries(exports, source, seen, here),
+        Field::Export { name, space, index } => only(Entry::Export(name, space, index)),
+        Field::Start(x) => only(Entry::Start(x)),
+        Field::Elem { id: _, mode, funcs } => only(Entry::Elem(mode, funcs)),
+        Field::Data { id: _, mode, bytes } => only(Entry::Data(mode, bytes)),
     }
 }

@@ -3,4 +3,5 @@ pub mod entry;
 
 pub use entry::Entry;
 pub use entry::Three;
+pub use entry::entries_of;
 pub use entry::section_of;
