@@ -6,9 +6,14 @@ use lib.ListN.{length}
 use Rattle.definition.specs.Basic.{Answer, ok, refused}
 use Rattle.definition.specs.Syntax.{Bytes}
 use Rattle.definition.specs.Binary.{joined}
+use native.Mathlib.Omega.{arith}
 use Rattle.emit.specs.Put.{Put, past}
-use Rattle.content.specs.Entry.{Entries, tagged, both}
-use Rattle.sections.specs.Tally.{added, tallies, noTally, Twelve, Tallied, ChecksBy, Checks}
+use Rattle.space.specs.Kept.{Kept}
+use Rattle.space.proofs.Kept.{kept-less}
+use Rattle.scope.proofs.Frames.{recalled-scope}
+use Rattle.content.specs.declared.entry.Entry.{Entry}
+use Rattle.content.specs.Entry.{Entries, tagged, both, usesOf}
+use Rattle.sections.specs.Tally.{added, tallies, noTally, Twelve, Tallied, ChecksBy, Checks, Ready, AreaBy, ChecksIn}
 use Rattle.sections.specs.declared.tally.Tally.{Tally}
 use Rattle.sections.specs.declared.tally.Verdict.{Verdict}
 use Rattle.sections.specs.declared.tally.Verdict.the-variants as V′
@@ -55,3 +60,41 @@ refused-first a b n r e = rw e refl
 
 pub tallied-twelve : {a : Answer Entries} {t t′ : Tally} → Tallied a t t′ → Twelve t → Twelve t′
 tallied-twelve {t = t} x w = rw (x .tally) (tallies-twelve t (x .entries) w)
+
+-- ## What the code answers
+
+module _ (a : Answer Entries) (t t′ : Tally) (w w′ : List ℕ) where
+  pub checks-fine : Tallied a t t′ → Kept 11536 w w′ → ChecksIn a t w (record { tally = t′; verdict = V′.Fine }) w′
+  unfolding Checks
+  checks-fine x k = record { says = x; area = k }
+
+  pub checks-not : (n r : ℕ) → a ≡ refused n r → length w′ ≡ length w → ChecksIn a t w (record { tally = t′; verdict = V′.Refused n r }) w′
+  unfolding Checks
+  checks-not n r e l = record { says = e; area = l }
+
+module _ {a : Answer Entries} {t : Tally} {w : List ℕ} {r : Checked} {w′ : List ℕ} (v : ChecksIn a t w r w′) where
+  pub was-fine : r .verdict ≡ V′.Fine → Tallied a t (r .tally)
+  unfolding Checks
+  was-fine e = (let d = v .says in rw e at d)
+
+  pub fine-kept : r .verdict ≡ V′.Fine → Kept 11536 w w′
+  fine-kept e = (let d = v .area in rw e at d)
+
+  pub was-not : (n q : ℕ) → r .verdict ≡ V′.Refused n q → a ≡ refused n q
+  unfolding Checks
+  was-not n q e = (let d = v .says in rw e at d)
+
+  pub not-long : (n q : ℕ) → r .verdict ≡ V′.Refused n q → length w′ ≡ length w
+  not-long n q e = (let d = v .area in rw e at d)
+
+  pub area-long : length w′ ≡ length w
+  area-long = go (r .verdict) refl
+    where
+      go : (x : Verdict) → r .verdict ≡ x → length w′ ≡ length w
+      go V′.Fine e = fine-kept e .long
+      go (V′.Refused n q) e = not-long n q e
+
+-- ## Ready after what was written
+
+pub ready-kept : (s w w′ : List ℕ) (r : ℕ) (e : Entry) → Kept 11536 w w′ → Ready s w r e → Ready s w′ r e
+ready-kept s w w′ r e k h = record { recalled = recalled-scope s w w′ (usesOf s r e) (kept-less 11280 11536 (omega arith) k) (h .recalled); few = h .few }

@@ -1,2 +1,3 @@
 pub mod Tallies
 pub mod Checking
+pub mod Sweep

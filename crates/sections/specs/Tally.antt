@@ -6,7 +6,12 @@ use lib.ListN.{length, getD, set, replicate}
 use Rattle.definition.specs.Basic.{Answer, ok, refused}
 use Rattle.definition.specs.Syntax.{Bytes}
 use Rattle.emit.specs.Put.{past}
-use Rattle.content.specs.Entry.{Entries}
+use Rattle.space.specs.Kept.{Kept}
+use Rattle.signatures.specs.Table.{typesIn}
+use Rattle.scope.specs.Scope.{Recalled}
+use Rattle.content.specs.Entry.{Entries, usesOf, FewIn}
+use Rattle.content.specs.declared.entry.Entry.{Entry}
+use Rattle.content.specs.declared.entry.Three.{Three}
 use Rattle.sections.specs.declared.tally.Tally.{Tally}
 use Rattle.sections.specs.declared.tally.Verdict.{Verdict}
 use Rattle.sections.specs.declared.tally.Verdict.the-variants as V′
@@ -41,3 +46,24 @@ ChecksBy a t (V′.Refused n r) t′ = a ≡ refused n r
 
 unfoldable pub Checks : Answer Entries → Tally → Checked → Type 0
 Checks a t r = ChecksBy a t (r .verdict) (r .tally)
+
+-- ## What checking needs, and leaves
+
+-- an entry's type uses have their numbers, and a function few enough parameters and locals
+pub record Ready (s w : List ℕ) (r : ℕ) (e : Entry) : Type 0 where
+  pub recalled : Recalled w (typesIn s w) (usesOf s r e)
+  pub few : FewIn s e
+
+pub record ReadyThree (s w : List ℕ) (r : ℕ) (x : Three) : Type 0 where
+  pub first : Ready s w r (x .first)
+  pub second : Ready s w r (x .second)
+  pub third : Ready s w r (x .third)
+
+abbrev pub AreaBy : Verdict → List ℕ → List ℕ → Type 0
+AreaBy V′.Fine w w′ = Kept 11536 w w′
+AreaBy (V′.Refused n r) w w′ = length w′ ≡ length w
+
+-- an answer was checked: its entries tallied, or its refusal told
+pub record ChecksIn (a : Answer Entries) (t : Tally) (w : List ℕ) (r : Checked) (w′ : List ℕ) : Type 0 where
+  pub says : Checks a t r
+  pub area : AreaBy (r .verdict) w w′

@@ -1,0 +1,127 @@
+-- The pass over all fields: each field's entries are checked and tallied, in stream order.
+use Prim.Native.Nat.{ℕ, _≤_, _<_}
+use mathlib.Core.Path.{_≡_, refl, sym, _∙_, ap}
+use mathlib.Core.List.{List, [], _∷_, _++_, append-assoc, append-nil}
+use lib.ListN.{length}
+use native.Mathlib.Omega.{arith}
+use Rattle.definition.specs.Basic.{Answer, ok, refused, _>>=_, each, concatMap}
+use Rattle.definition.specs.Syntax.{Bytes, Identifier}
+use Rattle.definition.specs.Types.{uses}
+use Rattle.definition.specs.Names.{Scope, resolveAll}
+use Rattle.fields.specs.Views.{fieldOf}
+use Rattle.fields.specs.declared.field.Field as Code
+use Rattle.space.specs.Kept.{Kept}
+use Rattle.space.proofs.Kept.{kept-then, kept-same, kept-less}
+use Rattle.signatures.specs.Table.{typesIn}
+use Rattle.walk.specs.Walk.{begin, visitIn, visitOf, fieldsHere, fieldsAhead, fieldsIn, Ahead}
+use Rattle.walk.specs.declared.Cursor.{Cursor}
+use Rattle.walk.specs.declared.Met.{Met}
+use Rattle.walk.specs.declared.What.the-variants as W
+use Rattle.walk.proofs.Steps.{visit-done, visit-fields, visit-ahead, ahead-kept}
+use Rattle.types.proofs.Fields.{uses-append}
+use Rattle.scope.specs.Scope.{scopeIn, Recalled}
+use Rattle.scope.proofs.Frames.{scope-kept, recalled-left, recalled-right}
+use Rattle.content.specs.Entry.{Entries, entriesOf, both, threeIn, three}
+use Rattle.content.specs.declared.entry.Three.{Three}
+use Rattle.content.proofs.Fields.{entries-append, entries-here}
+use Rattle.sections.specs.Tally.{tallies, noTally, Twelve, Tallied, ChecksIn}
+use Rattle.sections.specs.declared.tally.Tally.{Tally}
+use Rattle.sections.specs.declared.tally.Verdict.the-variants as V′
+use Rattle.sections.specs.declared.tally.Checked.{Checked}
+use Rattle.sections.proofs.Tallies.{tallies-append, tallies-twelve}
+use Rattle.sections.proofs.Checking.{was-fine, fine-kept, was-not, area-long}
+
+-- some entries before an answer's
+onto : (xs ys : Entries) (a b : Answer Entries) → a ≡ ok ys → both (ok xs) (both a b) ≡ both (ok (xs ++ ys)) b
+unfolding both
+onto xs ys a (ok zs) e = rw e (ap ok (sym (append-assoc xs ys zs)))
+onto xs ys a (refused n r) e = rw e refl
+
+onto-not : (xs : Entries) (n r : ℕ) (a b : Answer Entries) → a ≡ refused n r → both (ok xs) (both a b) ≡ refused n r
+unfolding both
+onto-not xs n r a b e = rw e refl
+
+nothing-onto : (a : Answer Entries) → both (ok []) a ≡ a
+unfolding both
+nothing-onto (ok xs) = refl
+nothing-onto (refused n r) = refl
+
+onto-nothing : (xs : Entries) → both (ok xs) (ok []) ≡ ok xs
+unfolding both
+onto-nothing xs = ap ok (append-nil xs)
+
+entries-none : (Γ : Scope Identifier) → entriesOf Γ [] ≡ ok []
+unfolding entriesOf resolveAll each _>>=_ concatMap
+entries-none Γ = refl
+
+pub record Sweeping (s w₀ w : List ℕ) (c : Cursor) (t : Tally) : Type 0 where
+  pub done : Entries
+  pub same : entriesOf (scopeIn s w₀) (fieldsIn s) ≡ both (ok done) (entriesOf (scopeIn s w₀) (fieldsAhead c s))
+  pub tally : t ≡ tallies noTally done
+  pub kept : Kept 11536 w₀ w
+  pub ahead : Ahead s w c
+  pub recalled : Recalled w₀ (typesIn s w₀) (uses (fieldsAhead c s))
+
+-- before the first field
+pub sweep-begin : (s w : List ℕ) (c : Cursor) (t : Tally) → c ≡ begin → t ≡ noTally → Ahead s w begin → Recalled w (typesIn s w) (uses (fieldsIn s)) → Sweeping s w w c t
+unfolding fieldsIn tallies
+sweep-begin s w c t e d a h =
+    record { done = []; same = sym (nothing-onto (entriesOf (scopeIn s w) (fieldsIn s))) ∙ rw e refl; tally = d; kept = kept-same 11536 w; ahead = rw e a; recalled = rw e h }
+
+no-twelve : Twelve noTally
+no-twelve = record { sizes = refl; counts = refl }
+
+module _ (s w₀ w : List ℕ) (c : Cursor) (t : Tally) (v : Sweeping s w₀ w c t) where
+  pub sweep-long : 16384 ≤ length w₀ → 16384 ≤ length w
+  sweep-long h = rw (v .kept .long) h
+
+  pub sweep-ahead : Ahead s w c
+  sweep-ahead = v .ahead
+
+  pub sweep-twelve : Twelve t
+  sweep-twelve = rw (v .tally) (tallies-twelve noTally (v .done) no-twelve)
+
+  module _ (m : Met) (told : visitIn (c .left) c s ≡ visitOf s m) where
+    -- no field is left
+    pub sweep-done : m .what ≡ W.Done → Tallied (entriesOf (scopeIn s w₀) (fieldsIn s)) noTally t
+    sweep-done is =
+        record { entries = v .done; is = v .same ∙ rw (visit-done s c m told is, entries-none (scopeIn s w₀)) (onto-nothing (v .done)); tally = v .tally }
+
+    pub sweep-kept : Kept 11536 w₀ w
+    sweep-kept = v .kept
+
+    module _ (f : Code.Field) (here : ℕ) (is : m .what ≡ W.Field f here) (x : Three) (d : x ≡ three f (c .seen) here) where
+      fields : entriesOf (scopeIn s w₀) (fieldsAhead c s) ≡ both (threeIn (scopeIn s w) s (c .rec) x) (entriesOf (scopeIn s w₀) (fieldsAhead (m .next) s))
+      fields =
+          let k : scopeIn s w ≡ scopeIn s w₀ = scope-kept s w₀ w (kept-less 11280 11536 (omega arith) (v .kept)) in
+          rw (visit-fields s c m told f here is, entries-append (scopeIn s w₀), d, k) (ap (λ a. both a (entriesOf (scopeIn s w₀) (fieldsAhead (m .next) s))) (entries-here (scopeIn s w₀) s c (m .next) f here))
+
+      uses-are : uses (fieldsAhead c s) ≡ uses (fieldsHere c s (record { field = fieldOf s f; head-end = here; next = m .next })) ++ uses (fieldsAhead (m .next) s)
+      uses-are = rw (visit-fields s c m told f here is) (uses-append (fieldsHere c s (record { field = fieldOf s f; head-end = here; next = m .next })) (fieldsAhead (m .next) s))
+
+      -- the type uses of this field have their numbers
+      pub sweep-uses : Recalled w₀ (typesIn s w₀) (uses (fieldsHere c s (record { field = fieldOf s f; head-end = here; next = m .next })))
+      sweep-uses = recalled-left w₀ (typesIn s w₀) _ (uses (fieldsAhead (m .next) s)) (rw uses-are at (v .recalled))
+
+      module _ (r : Checked) (w′ : List ℕ) (h : ChecksIn (threeIn (scopeIn s w) s (c .rec) x) t w r w′) where
+        -- a field that is fine
+        pub sweep-again : r .verdict ≡ V′.Fine → Sweeping s w₀ w′ (m .next) (r .tally)
+        sweep-again e =
+            let y = was-fine h e in
+            let k = fine-kept h e in
+            record {
+              done = v .done ++ y .entries;
+              same = v .same ∙ rw fields (onto (v .done) (y .entries) (threeIn (scopeIn s w) s (c .rec) x) (entriesOf (scopeIn s w₀) (fieldsAhead (m .next) s)) (y .is));
+              tally = y .tally ∙ ap (λ (z : Tally). tallies z (y .entries)) (v .tally) ∙ sym (tallies-append noTally (v .done) (y .entries));
+              kept = kept-then (v .kept) k;
+              ahead = visit-ahead s c m told f here is w′ (ahead-kept s w w′ c (kept-less 520 11536 (omega arith) k) (v .ahead));
+              recalled = recalled-right w₀ (typesIn s w₀) (uses (fieldsHere c s (record { field = fieldOf s f; head-end = here; next = m .next }))) (uses (fieldsAhead (m .next) s)) (rw uses-are at (v .recalled));
+            }
+
+        -- one that is not
+        pub sweep-stops : (n q : ℕ) → r .verdict ≡ V′.Refused n q → entriesOf (scopeIn s w₀) (fieldsIn s) ≡ refused n q
+        sweep-stops n q e =
+            v .same ∙ rw fields (onto-not (v .done) n q (threeIn (scopeIn s w) s (c .rec) x) (entriesOf (scopeIn s w₀) (fieldsAhead (m .next) s)) (was-not h n q e))
+
+        pub sweep-length : length w′ ≡ length w₀
+        sweep-length = area-long h ∙ v .kept .long
