@@ -18,6 +18,8 @@ use Rattle.typeuse.specs.Views.{listOf}
 use Rattle.binary.specs.Views.{immOf}
 use Rattle.entries.specs.declared.constant.ImmAt.{ImmAt}
 use Rattle.entries.specs.declared.constant.ImmAt.the-variants as I
+use Rattle.entries.specs.declared.elem_segment.TableAt.{TableAt}
+use Rattle.entries.specs.declared.elem_segment.TableAt.the-variants as T
 use Rattle.entries.specs.declared.export.Ends.{Ends}
 
 -- ## Items
@@ -60,16 +62,30 @@ pub record Lists (es : List Bytes) (old : List ℕ) (at : ℕ) (r : Ends) (new :
 
 -- ## Segments
 
+-- the table of an element segment; an absent index stays so
+abbrev pub tableAt : TableAt → Answer (Option ℕ)
+tableAt T.Absent = ok none
+tableAt (T.To n) = ok (some n)
+tableAt (T.Refused n r) = refused n r
+
+-- what stands before the functions of an active segment, which begins at this offset
+unfoldable pub atTable : Option ℕ → Op → Bytes
+atTable none o = 0 ∷ expr (o ∷ [])
+atTable (some t) o = 2 ∷ u t ++ expr (o ∷ []) ++ (0 ∷ [])
+
 -- what stands before an element segment's functions
 unfoldable pub elemMode : Mode (Option ℕ) Op → Bytes
 elemMode passive = 1 ∷ 0 ∷ []
-elemMode (active none o) = 0 ∷ expr (o ∷ [])
-elemMode (active (some t) o) = 2 ∷ u t ++ expr (o ∷ []) ++ (0 ∷ [])
+elemMode (active t o) = atTable t o
+
+-- what stands before the bytes of an active segment
+unfoldable pub atMemory : ℕ → Op → Bytes
+atMemory m o = (if eqb m 0 then 0 ∷ [] else 2 ∷ u m) ++ expr (o ∷ [])
 
 -- what stands before a data segment's bytes
 unfoldable pub dataMode : Mode ℕ Op → Bytes
 dataMode passive = 1 ∷ []
-dataMode (active m o) = (if eqb m 0 then 0 ∷ [] else 2 ∷ u m) ++ expr (o ∷ [])
+dataMode (active m o) = atMemory m o
 
 -- offset 0, resolved
 unfoldable pub zeroOp : Bool → Op

@@ -17,13 +17,15 @@ ghost use Rattle.definition.specs.Basic.{sameBytes};
 ghost use Rattle.definition.specs.Syntax.{labels};
 ghost use Rattle.definition.specs.Token as Token;
 ghost use Rattle.definition.specs.Names as Names;
+ghost use Rattle.definition.specs.Deinline as Deinline;
+ghost use Rattle.emit.specs.Put.{Put};
 ghost use Rattle.token.specs.Views.{indexOf};
 ghost use Rattle.space.specs.Area.{resolved};
 ghost use Rattle.typeuse.specs.Views.{listOf};
 ghost use Rattle.expr.specs.Views.{operandOf, plainIs};
 ghost use Rattle.scope.specs.Scope.{scopeIn};
 ghost use Rattle.binary.specs.Emits.{Emits};
-ghost use Rattle.entries.specs.Entry.{constBytes, immAt};
+ghost use Rattle.entries.specs.Entry.{constBytes, immAt, zeroOp};
 
 // What stands after a constant's opcode; the labels of a br_table are resolved as they are put.
 pub enum ImmAt {
@@ -95,4 +97,29 @@ pub fn emit_const(out: &mut [u8], at: usize, s: &[u8], work: &[u32], c: Plain, r
         ImmAt::Refused(n, r) => Emitted::Refused(n, r),
         ImmAt::Labels(xs, x) => emit_table_const(out, at, s, work, c.opcode, xs, x, rec),
     }
+}
+
+// Offset 0, as wide as the item's indices.
+pub fn zero_offset(s: &[u8], is64: bool) -> Plain
+    ensures { λ r. ⌜ plainIs (now (s .entry)) r ≡ Deinline.zeroOffset is64 ⌝ }
+{
+    if is64 {
+        return Plain {
+            opcode: 0x42,
+            operand: Operand::Int64(0),
+        };
+    }
+    Plain {
+        opcode: 0x41,
+        operand: Operand::Int32(0),
+    }
+}
+
+pub fn put_zero_offset(out: &mut [u8], at: usize, s: &[u8], is64: bool) -> usize
+    ensures { λ r. ⌜ Put (now (out .entry)) at (constBytes (zeroOp is64)) r (now (out .exit)) ⌝ }
+{
+    if is64 {
+        return binary::put_constant(out, at, s, 0x42, Imm::Int64(0));
+    }
+    binary::put_constant(out, at, s, 0x41, Imm::Int32(0))
 }
