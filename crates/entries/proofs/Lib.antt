@@ -3,3 +3,5 @@ pub mod Turns
 pub mod Constants
 pub mod Exports
 pub mod Segments
+pub mod Imports
+pub mod ValTypes
