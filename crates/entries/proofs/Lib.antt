@@ -5,3 +5,4 @@ pub mod Exports
 pub mod Segments
 pub mod Imports
 pub mod ValTypes
+pub mod Items
