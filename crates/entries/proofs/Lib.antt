@@ -1,0 +1,5 @@
+pub mod Elements
+pub mod Turns
+pub mod Constants
+pub mod Exports
+pub mod Segments
