@@ -1,0 +1,33 @@
+// How large each section is.
+ghost use mathlib.Core.Path.{_≡_};
+ghost use Prim.Native.Nat.{_<_};
+ghost use Rattle.sections.specs.Tally.{added};
+
+// The bytes of each section's entries, and how many entries there are, by the section's number.
+pub struct Tally {
+    pub sizes: [u64; 12],
+    pub counts: [u64; 12],
+}
+
+pub enum Verdict {
+    Fine,
+    Refused(u8, u32),
+}
+
+pub struct Checked {
+    pub tally: Tally,
+    pub verdict: Verdict,
+}
+
+// More entries of a section.
+pub fn add(t: Tally, k: u8, size: usize, n: u64) -> Tally
+    requires { ⌜ k < 12 ⌝ }
+    ensures { λ r. ⌜ r ≡ added t k size n ⌝ }
+{
+    let i = k as usize;
+    let mut sizes = t.sizes;
+    let mut counts = t.counts;
+    sizes[i] = emit::tally(sizes[i] as usize, size) as u64;
+    counts[i] = emit::tally(counts[i] as usize, n as usize) as u64;
+    Tally { sizes, counts }
+}
