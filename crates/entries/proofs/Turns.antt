@@ -4,11 +4,11 @@ use mathlib.Core.Path.{_≡_, refl, sym, _∙_, ap}
 use mathlib.Core.List.{List, [], _∷_, _++_}
 use lib.ListN.{length}
 use native.Mathlib.Omega.{arith}
-use Rattle.definition.specs.Basic.{Answer, ok, refused, _>>=_, sameBytes, each, concatMap}
+use Rattle.definition.specs.Basic.{Answer, ok, refused, _>>=_, each, concatMap}
 use Rattle.definition.specs.Syntax as Syntax
 use Rattle.definition.specs.Syntax.{Bytes, Identifier, Depth}
 use Rattle.definition.specs.Token.{present}
-use Rattle.definition.specs.Names.{Scope, Namespace, numberIn, depthOf, immediate}
+use Rattle.definition.specs.Names.{Scope, Namespace, depthOf, immediate}
 use Rattle.definition.specs.Binary.{u, vec, imm}
 use Rattle.emit.specs.Put.{Put}
 use Rattle.emit.proofs.Laws.{put-none, put-then, put-is}
@@ -17,11 +17,14 @@ use Rattle.token.specs.declared.index.Index.{Index}
 use Rattle.token.specs.declared.index.IndexAt.{IndexAt}
 use Rattle.token.specs.declared.index.IndexAt.the-variants as X
 use Rattle.typeuse.specs.Views.{elements}
-use Rattle.space.specs.Area as Area
 use Rattle.space.specs.Area.{resolved}
 use Rattle.space.specs.declared.table.Resolved.{Resolved}
 use Rattle.space.specs.declared.table.Resolved.the-variants as R
-use Rattle.scope.specs.Scope.{scopeIn, labelsIn}
+use Rattle.binary.specs.Views as View
+use Rattle.binary.specs.declared.instructions.Depth as Code
+use Rattle.scope.specs.Answers.{depthAnswer}
+use Rattle.scope.specs.declared.label.DepthAt.{DepthAt}
+use Rattle.scope.specs.declared.label.DepthAt.the-variants as D
 use Rattle.binary.specs.Emits.{Wrote, Emits}
 use Rattle.binary.specs.declared.Emitted.{Emitted}
 use Rattle.binary.specs.declared.Emitted.the-variants as E
@@ -125,18 +128,13 @@ module _ (a : Answer ℕ) (y : Resolved) (told : a ≡ resolved y) where
   pub number-not : (old : List ℕ) (at n r : ℕ) (new : List ℕ) → y ≡ R.Refused n r → Emits u a old at (E.Refused n r) new
   number-not old at n r new d = halts u a old at new n r (told ∙ ap resolved d)
 
--- a depth is a number among the labels of the open blocks
-module _ (s w : List ℕ) (blocks rec : ℕ) (x : Syntax.Index Identifier) (y : Resolved) (told : numberIn sameBytes (Area.labels blocks s w 11920) rec x ≡ resolved y) where
-  abbrev Depth′ : Answer Depth
-  Depth′ = depthOf (scopeIn s w) (labelsIn s w blocks) rec x
+module _ (a : Answer Depth) (y : DepthAt) (told : a ≡ depthAnswer y) where
+  pub depth-to : (old : List ℕ) (at : ℕ) (d : Code.Depth) (r : ℕ) (new : List ℕ) → y ≡ D.To d → Put old at (u (View.depthOf d .depth)) r new → Emits depthBytes a old at (E.To r) new
+  unfolding depthBytes
+  depth-to old at d r new e p = wrote depthBytes a old at new (View.depthOf d) r (told ∙ ap depthAnswer e) p
 
-  pub depth-to : (old : List ℕ) (at n r : ℕ) (new : List ℕ) → y ≡ R.To n → Put old at (u n) r new → Emits depthBytes Depth′ old at (E.To r) new
-  unfolding depthBytes depthOf scopeIn labelsIn _>>=_
-  depth-to old at n r new d p = wrote depthBytes Depth′ old at new (record { depth = n }) r (rw (told, d)) p
-
-  pub depth-not : (old : List ℕ) (at n r : ℕ) (new : List ℕ) → y ≡ R.Refused n r → Emits depthBytes Depth′ old at (E.Refused n r) new
-  unfolding depthOf scopeIn labelsIn _>>=_
-  depth-not old at n r new d = halts depthBytes Depth′ old at new n r (rw (told, d))
+  pub depth-not : (old : List ℕ) (at n r : ℕ) (new : List ℕ) → y ≡ D.Refused n r → Emits depthBytes a old at (E.Refused n r) new
+  depth-not old at n r new e = halts depthBytes a old at new n r (told ∙ ap depthAnswer e)
 
 -- ## `emit_labels`
 

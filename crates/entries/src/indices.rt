@@ -1,5 +1,6 @@
 // Lists of indices: the functions of an element segment, the labels of a br_table. The count, and each in its turn.
 use binary::Emitted;
+use scope::DepthAt;
 use space::Resolved;
 use token::Index;
 use token::IndexAt;
@@ -94,9 +95,9 @@ fn emit_label(out: &mut [u8], at: usize, s: &[u8], work: &[u32], blocks: u32, x:
     requires { ⌜ (16384 ≤ length (now work)) × (blocks ≤ 128) ⌝ }
     ensures { λ r. ⌜ Emits depthBytes (Names.depthOf (scopeIn (now (s .entry)) (now (work .entry))) (labelsIn (now (s .entry)) (now (work .entry)) blocks) rec (indexOf (now (s .entry)) x)) (now (out .entry)) at r (now (out .exit)) ⌝ }
 {
-    match space::depth_of(s, work, 11920, blocks as usize, x, rec) {
-        Resolved::To(n) => Emitted::To(leb::put_u(out, at, n as u64)),
-        Resolved::Refused(n, r) => Emitted::Refused(n, r),
+    match scope::depth_no(s, work, blocks, x, rec) {
+        DepthAt::To(d) => Emitted::To(binary::put_depth(out, at, d)),
+        DepthAt::Refused(n, r) => Emitted::Refused(n, r),
     }
 }
 

@@ -5,7 +5,9 @@ pub mod data_segment;
 pub mod elem_segment;
 pub mod export;
 pub mod global;
+pub mod import;
 pub mod indices;
+pub mod types;
 
 pub use constant::emit_const;
 pub use data_segment::emit_data;
@@ -17,5 +19,8 @@ pub use export::emit_export;
 pub use export::emit_start;
 pub use export::put_exports;
 pub use global::emit_global;
+pub use import::emit_import;
 pub use indices::emit_funcs;
 pub use indices::emit_labels;
+pub use types::put_func_type;
+pub use types::put_signature;

@@ -3,20 +3,17 @@ use borrow.Author.Needs.{needs}
 use Rattle.entries.proofs.indices.emit_label.Statement.{statement}
 use Rattle.entries.proofs.indices.emit_label.Tie as tie
 
-depth-of-requires : tie.Need-depth-of-requires
-depth-of-requires c κs = search needs
+depth-no-requires : tie.Need-depth-no-requires
+depth-no-requires c κs = search needs
+
+enum-known-d : tie.Need-enum-known-d
+enum-known-d c = search needs
+
+put-depth-requires : tie.Need-put-depth-requires
+put-depth-requires c κs = search needs
 
 enum-known-n : tie.Need-enum-known-n
 enum-known-n c = search needs
-
-cast-put-u : tie.Need-cast-put-u
-cast-put-u c = search needs
-
-put-u-requires : tie.Need-put-u-requires
-put-u-requires c κs = search needs
-
-enum-known-n-2 : tie.Need-enum-known-n-2
-enum-known-n-2 c = search needs
 
 same-length : tie.Need-same-length
 same-length c = search needs
@@ -31,11 +28,10 @@ pub emit-label-spec : {M : Type 1} → statement M
 emit-label-spec =
     tie.close
     (tie.spec
-    depth-of-requires
+    depth-no-requires
+    enum-known-d
+    put-depth-requires
     enum-known-n
-    cast-put-u
-    put-u-requires
-    enum-known-n-2
     same-length
     returns
     returns-2)
