@@ -41,7 +41,7 @@ use Rattle.fields.specs.declared.field.Field as Read
 use Rattle.fields.specs.declared.field.Field.the-variants as F
 use Rattle.walk.specs.Walk.{bodyFrom, bodyIn, Visited, fieldsHere}
 use Rattle.walk.specs.declared.Cursor.{Cursor}
-use Rattle.content.specs.Temp.{entryOf, exportEntries}
+use Rattle.entries.specs.Entry.{entryOf, exportEntries}
 use Rattle.content.specs.Entry.{oneOf, typeBytes, codeOf, funcField, answerOf, Entries, entriesOf, tagged, both, entryIn, threeIn, threeOf, three, sourceThree, ownThree, exportsOf, externSpaceOf, ownSpaceOf}
 use Rattle.content.specs.declared.entry.Entry.{Entry}
 use Rattle.content.specs.declared.entry.Entry.the-variants as E

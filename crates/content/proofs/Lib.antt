@@ -1,2 +1,3 @@
 pub mod Threes
 pub mod Fields
+pub mod Uses

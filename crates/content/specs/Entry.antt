@@ -35,7 +35,7 @@ use Rattle.fields.specs.Views.{modeOf}
 use Rattle.fields.specs.declared.field.Field.{Field}
 use Rattle.fields.specs.declared.field.Field.the-variants as F
 use Rattle.walk.specs.Walk.{bodyFrom}
-use Rattle.content.specs.Temp.{entryOf, exportEntries}
+use Rattle.entries.specs.Entry.{entryOf, exportEntries}
 use Rattle.content.specs.declared.entry.Entry.{Entry}
 use Rattle.content.specs.declared.entry.Entry.the-variants as E
 use Rattle.content.specs.declared.entry.Three.{Three}

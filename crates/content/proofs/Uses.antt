@@ -1,0 +1,115 @@
+-- What is known of every type use of a record's fields is known of those of its entries; and its functions are small.
+use Prim.Native.Nat.{ℕ, _+_, _-_, _≤_}
+use mathlib.Core.Path.{_≡_, refl}
+use mathlib.Core.Bool.{Bool}
+use mathlib.Core.List.{List, [], _∷_, _++_, map}
+use mathlib.Core.Option.{Option, none, some}
+use lib.ListN.{length}
+use Rattle.definition.specs.Basic.{if_then_else_}
+use Rattle.definition.specs.Syntax as Syntax
+use Rattle.definition.specs.Syntax.{Bytes, Identifier, Space, FuncType, number, Field, exportF}
+use Rattle.definition.specs.Token as Token
+use Rattle.definition.specs.Spaces.{sourceSpace}
+use Rattle.definition.specs.Read.{fieldBody, sourceBody, ownBody}
+use Rattle.definition.specs.Deinline.{Numbered, fieldsOf, sourceFields}
+use Rattle.definition.specs.Types as Types
+use Rattle.definition.specs.Types.{Uses, usedAt, fieldUses, ownUses, uses}
+use Rattle.token.specs.declared.text.Part.{Part}
+use Rattle.typeuse.specs.Views.{listOf, useOf}
+use Rattle.typeuse.specs.declared.List as Code
+use Rattle.typeuse.specs.declared.TypeUse.{TypeUse}
+use Rattle.sources.specs.Views.{countOf, externIs, sourceOf}
+use Rattle.sources.specs.declared.seen.Seen.{Seen}
+use Rattle.sources.specs.declared.import.Extern.{Extern}
+use Rattle.sources.specs.declared.source.Own.{Own}
+use Rattle.sources.specs.declared.source.Own.the-variants as O
+use Rattle.sources.specs.declared.source.Source.{Source}
+use Rattle.sources.specs.declared.source.Source.the-variants as S
+use Rattle.fields.specs.Views.{fieldOf}
+use Rattle.fields.specs.declared.field.Field as Read
+use Rattle.fields.specs.declared.field.Field.the-variants as F
+use Rattle.walk.specs.Walk.{bodyFrom, Visited, fieldsHere}
+use Rattle.walk.specs.declared.Cursor.{Cursor}
+use Rattle.scope.specs.Scope.{Recalled}
+use Rattle.content.specs.Entry.{usesOf, FewIn, three}
+use Rattle.content.specs.declared.entry.Three.{Three}
+
+-- ## Every use
+
+module _ (P : ℕ → FuncType → Type 0) where
+  -- P holds of each use with its record
+  abbrev pub All : Uses → Type 0
+  All [] = Unit {0}
+  All ((r, t) ∷ us) = P r t × All us
+
+  pub all-first : (us vs : Uses) → All (us ++ vs) → All us
+  all-first [] vs a = tt
+  all-first ((r, t) ∷ us) vs a = (a .0, all-first us vs (a .1))
+
+  pub all-rest : (us vs : Uses) → All (us ++ vs) → All vs
+  all-rest [] vs a = a
+  all-rest ((r, t) ∷ us) vs a = all-rest us vs (a .1)
+
+  -- P holds of each use of the three entries
+  pub record AllThree (s : Bytes) (r : ℕ) (t : Three) : Type 0 where
+    pub first : All (usesOf s r (t .first))
+    pub second : All (usesOf s r (t .second))
+    pub third : All (usesOf s r (t .third))
+
+  -- an export has no use
+  exports-use : (r : ℕ) (k : Space) (n : ℕ) (es : List Bytes) (fs : List (Field Identifier))
+      → All (uses (map (λ x. (r, x)) (map (λ e. exportF e k (number n)) es ++ fs))) → All (uses (map (λ x. (r, x)) fs))
+  unfolding uses fieldUses
+  exports-use r k n [] fs a = a
+  exports-use r k n (e ∷ es) fs a = exports-use r k n es fs a
+
+  module _ (s : Bytes) (c next : Cursor) where
+    own-uses : (i : Part) (es : Code.List) (o : Own) (here : ℕ) → let f : Read.Field = F.Item i es (S.Own o) in
+        All (uses (fieldsHere c s (record { field = fieldOf s f; head-end = here; next = next }))) → AllThree s (c .rec) (three f (c .seen) here)
+    unfolding fieldsHere fieldsOf fieldBody sourceBody ownBody sourceFields uses fieldUses ownUses usesOf
+    own-uses i es (O.Func t ls) here a =
+        let u = usedAt (c .rec) (Types.useOf (useOf s t)) in
+        let b = Types.bodyUses (c .rec + 1) (bodyFrom (4096 - (c .rec + 1)) 0 s here) in
+        let all : All (u ++ b) = all-first (u ++ b) [] (exports-use _ _ _ (listOf Token.string s es) _ a) in
+        record { first = tt; second = all-first u b all; third = all }
+    own-uses i es (O.Table t) here a = record { first = tt; second = tt; third = tt }
+    own-uses i es (O.Mem l) here a = record { first = tt; second = tt; third = tt }
+    own-uses i es (O.Global t k) here a = record { first = tt; second = tt; third = tt }
+
+    pub uses-here : (f : Read.Field) (here : ℕ)
+        → All (uses (fieldsHere c s (record { field = fieldOf s f; head-end = here; next = next }))) → AllThree s (c .rec) (three f (c .seen) here)
+    unfolding fieldsHere fieldsOf fieldBody sourceBody sourceFields uses fieldUses usesOf
+    uses-here (F.Type i ps rs) here a = record { first = tt; second = tt; third = tt }
+    uses-here (F.Import n i x) here a = record { first = all-first (usedAt (c .rec) (Types.externUses (externIs s x))) [] a; second = tt; third = tt }
+    uses-here (F.Export n k x) here a = record { first = tt; second = tt; third = tt }
+    uses-here (F.Start x) here a = record { first = tt; second = tt; third = tt }
+    uses-here (F.Elem i m xs) here a = record { first = tt; second = tt; third = tt }
+    uses-here (F.Data i m d) here a = record { first = tt; second = tt; third = tt }
+    uses-here (F.Item i es (S.Own o)) here a = own-uses i es o here a
+    uses-here (F.Item i es (S.Imported n x)) here a = record { first = tt; second = all-first (usedAt (c .rec) (Types.externUses (externIs s x))) [] (exports-use _ _ _ (listOf Token.string s es) _ a); third = tt }
+    uses-here (F.Item i es (S.TableOf w xs)) here a = record { first = tt; second = tt; third = tt }
+    uses-here (F.Item i es (S.MemOf w d)) here a = record { first = tt; second = tt; third = tt }
+
+-- ## Functions are small
+
+pub record FewThree (s : Bytes) (t : Three) : Type 0 where
+  pub first : FewIn s (t .first)
+  pub second : FewIn s (t .second)
+  pub third : FewIn s (t .third)
+
+pub few-here : (s : Bytes) (seen : Seen) (f : Read.Field) (here : ℕ)
+    → ((i : Part) (es : Code.List) (t : TypeUse) (ls : Code.List) → f ≡ F.Item i es (S.Own (O.Func t ls)) → (length (useOf s t .params) ≤ 64) × (length (listOf Token.param s ls) ≤ 64))
+    → FewThree s (three f seen here)
+few-here s seen (F.Type i ps rs) here h = record { first = tt; second = tt; third = tt }
+few-here s seen (F.Import n i x) here h = record { first = tt; second = tt; third = tt }
+few-here s seen (F.Export n k x) here h = record { first = tt; second = tt; third = tt }
+few-here s seen (F.Start x) here h = record { first = tt; second = tt; third = tt }
+few-here s seen (F.Elem i m xs) here h = record { first = tt; second = tt; third = tt }
+few-here s seen (F.Data i m d) here h = record { first = tt; second = tt; third = tt }
+few-here s seen (F.Item i es (S.Own (O.Func t ls))) here h = record { first = tt; second = tt; third = h i es t ls refl }
+few-here s seen (F.Item i es (S.Own (O.Table t))) here h = record { first = tt; second = tt; third = tt }
+few-here s seen (F.Item i es (S.Own (O.Mem l))) here h = record { first = tt; second = tt; third = tt }
+few-here s seen (F.Item i es (S.Own (O.Global t c))) here h = record { first = tt; second = tt; third = tt }
+few-here s seen (F.Item i es (S.Imported n x)) here h = record { first = tt; second = tt; third = tt }
+few-here s seen (F.Item i es (S.TableOf w xs)) here h = record { first = tt; second = tt; third = tt }
+few-here s seen (F.Item i es (S.MemOf w d)) here h = record { first = tt; second = tt; third = tt }
