@@ -1,0 +1,125 @@
+-- What stays as it was where later words are written: the scope, the locals, the labels, the numbers of uses. And what one more entry brings.
+use Prim.Native.Nat.{ℕ, zero, suc, _+_, _-_, _*_, _≤_, _<_, min}
+use mathlib.Core.Path.{_≡_, refl, sym, _∙_, ap, fun-ext}
+use mathlib.Core.List.{List, [], _∷_, _++_, tail, append-assoc, append-nil}
+use mathlib.Core.Option.{Option, none, some}
+use lib.ListN.{length, getD, replicate}
+use native.Mathlib.Omega.{arith}
+use native.Mathlib.Numerals.{add-one}
+use Rattle.definition.specs.Syntax.{Bytes, Identifier, Space, FuncType, code}
+use Rattle.definition.specs.Types.{Uses}
+use Rattle.definition.specs.Names.{Namespace, Scope}
+use Rattle.definition.specs.Basic.{sameBytes}
+use Rattle.token.specs.Views.{idOf}
+use Rattle.token.specs.declared.text.Part.{Part}
+use Rattle.space.specs.Area.{entry, entryWords, names, labels}
+use Rattle.space.specs.Kept.{Kept}
+use Rattle.space.proofs.Kept.{kept-word}
+use Rattle.space.proofs.Walk.{entry-written}
+use Rattle.signatures.specs.Table.{typesIn}
+use Rattle.signatures.proofs.Types as Signatures
+use Rattle.names.specs.Register.{base, tableOf}
+use Rattle.names.proofs.Items.{base-low}
+use Rattle.names.proofs.Tables.{code-small, words-kept}
+use Rattle.scope.specs.Scope.{scopeIn, Recalled, localsIn, labelsIn}
+use Rattle.scope.specs.declared.Locals.{Locals}
+
+-- ## Words that are kept
+
+module _ (s w w′ : List ℕ) (m : ℕ) (k : Kept m w w′) where
+  pub entry-kept : (i : ℕ) → i + 1 < m → entry s w′ i ≡ entry s w i
+  unfolding entry
+  entry-kept i h = rw (kept-word k i (omega arith), kept-word k (i + 1) h)
+
+  pub names-kept : (n b : ℕ) → b + 3 * n ≤ m → names n s w′ b ≡ names n s w b
+  unfolding names
+  names-kept zero b h = refl
+  names-kept (suc n) b h = rw (entry-kept b (omega arith), names-kept n (b + 3) (omega arith))
+
+  -- the labels below a place
+  pub labels-kept : (n : ℕ) → 11920 + 3 * n ≤ m → labelsIn s w′ n ≡ labelsIn s w n
+  unfolding labelsIn labels
+  labels-kept zero h = refl
+  labels-kept (suc n) h = rw (entry-kept (11920 + 3 * n) (omega arith), labels-kept n (omega arith))
+
+  pub types-kept : 5897 ≤ m → typesIn s w′ ≡ typesIn s w
+  unfolding typesIn
+  types-kept h = rw (kept-word k 5896 (omega arith)) (Signatures.table-kept (min (getD w 5896 0) 256) s {w = w} {w′ = w′} 520 m (omega arith) k)
+
+  table-kept : 11280 ≤ m → (j : Space) → tableOf j s w′ ≡ tableOf j s w
+  unfolding tableOf
+  table-kept h j =
+      rw (kept-word k (5897 + code j) (omega (arith, code-small j))) (names-kept (min (getD w (5897 + code j) 0) 256) (base j) (omega (arith, base-low j)))
+
+module _ (s w w′ : List ℕ) where
+  pub scope-kept : Kept 11280 w w′ → scopeIn s w′ ≡ scopeIn s w
+  unfolding scopeIn
+  scope-kept k = rw (types-kept s w w′ 11280 k (omega arith)) (ap (λ (f : Space → Namespace Identifier). record { eq = sameBytes; names = f; allTypes = typesIn s w }) (fun-ext (table-kept s w w′ 11280 k (omega arith))))
+
+  pub locals-kept : (l : Locals) → Kept 11920 w w′ → l .count ≤ 128 → localsIn s w′ l ≡ localsIn s w l
+  unfolding localsIn
+  locals-kept l k h = rw (names-kept s w w′ 11920 k (l .count) 11536 (omega arith))
+
+-- ## Uses
+
+module _ (w : List ℕ) (ts : List FuncType) where
+  -- of two lists the first, the second, and both
+  pub recalled-left : (us vs : Uses) → Recalled w ts (us ++ vs) → Recalled w ts us
+  unfolding Recalled
+  recalled-left [] vs h = tt
+  recalled-left ((r, t) ∷ us) vs h = (h .0, h .1, recalled-left us vs (h .2))
+
+  pub recalled-right : (us vs : Uses) → Recalled w ts (us ++ vs) → Recalled w ts vs
+  unfolding Recalled
+  recalled-right [] vs h = h
+  recalled-right ((r, t) ∷ us) vs h = recalled-right us vs (h .2)
+
+  pub recalled-append : (us vs : Uses) → Recalled w ts us → Recalled w ts vs → Recalled w ts (us ++ vs)
+  unfolding Recalled
+  recalled-append [] vs h g = g
+  recalled-append ((r, t) ∷ us) vs h g = (h .0, h .1, recalled-append us vs (h .2) g)
+
+  pub recalled-kept : (w′ : List ℕ) (m : ℕ) (us : Uses) → Kept m w w′ → 5896 ≤ m → Recalled w ts us → Recalled w′ ts us
+  unfolding Recalled
+  recalled-kept w′ m [] k h u = tt
+  recalled-kept w′ m ((r, t) ∷ us) k h u =
+      let low = u .0 in (low, kept-word k (1800 + r) (omega arith) ∙ u .1, recalled-kept w′ m us k h (u .2))
+
+-- and with the types, whose count stands in word 5896
+pub recalled-scope : (s w w′ : List ℕ) (us : Uses) → Kept 11280 w w′ → Recalled w (typesIn s w) us → Recalled w′ (typesIn s w′) us
+recalled-scope s w w′ us k u = rw (types-kept s w w′ 11280 k (omega arith)) (recalled-kept w (typesIn s w) w′ 11280 us k (omega arith) u)
+
+-- ## One more entry
+
+-- a block opens: its label is the innermost
+pub labels-open : (s w : List ℕ) (k : ℕ) (p : Part) (r : ℕ) → 11920 + 3 * k + 2 < length w → labelsIn s (entryWords s w (11920 + 3 * k) p r) (k + 1) ≡ idOf s p ∷ labelsIn s w k
+unfolding labelsIn labels
+labels-open s w k p r h =
+    let i = 11920 + 3 * k in
+    rw (add-one, entry-written s w i p r h) (ap (λ (l : Namespace Identifier). idOf s p ∷ l) (labels-kept s w (entryWords s w i p r) i (words-kept s w i p r i (omega arith)) k (omega arith)))
+
+-- a block closes
+pub labels-close : (s w : List ℕ) (k : ℕ) → tail (labelsIn s w k) ≡ labelsIn s w (k - 1)
+unfolding labelsIn labels
+labels-close s w zero = refl
+labels-close s w (suc k) = (let e : suc k - 1 ≡ k = omega arith in rw e)
+
+-- the last name, after the others
+names-snoc : (n : ℕ) (s w : List ℕ) (b : ℕ) → names (suc n) s w b ≡ names n s w b ++ (entry s w (b + 3 * n) ∷ [])
+unfolding names
+names-snoc zero s w b = (let e : b + 3 * 0 ≡ b = omega arith in rw e)
+names-snoc (suc n) s w b = (let e : b + 3 + 3 * n ≡ b + 3 * suc n = omega arith in ap (λ (l : Namespace Identifier). entry s w b ∷ l) (names-snoc n s w (b + 3) ∙ rw e))
+
+-- no entry yet
+pub locals-none : (s w : List ℕ) (n : ℕ) → localsIn s w (record { nameless = n; count = 0 }) ≡ replicate n none
+unfolding localsIn names
+locals-none s w n = append-nil (replicate n none)
+
+-- one local more
+pub locals-more : (s w : List ℕ) (l : Locals) (p : Part) (r : ℕ) → 11536 + 3 * l .count + 2 < length w
+    → localsIn s (entryWords s w (11536 + 3 * l .count) p r) (record { nameless = l .nameless; count = l .count + 1 }) ≡ localsIn s w l ++ (idOf s p ∷ [])
+unfolding localsIn
+locals-more s w l p r h =
+    let i = 11536 + 3 * l .count in
+    let a : names (l .count) s (entryWords s w i p r) 11536 ≡ names (l .count) s w 11536 = names-kept s w (entryWords s w i p r) i (words-kept s w i p r i (omega arith)) (l .count) 11536 (omega arith) in
+    rw (add-one, names-snoc (l .count) s (entryWords s w i p r) 11536, a, entry-written s w i p r h) (sym (append-assoc (replicate (l .nameless) none) (names (l .count) s w 11536) (idOf s p ∷ [])))

@@ -1,0 +1,99 @@
+-- The number of a local: the nameless places come first.
+use Prim.Native.Nat.{ℕ, zero, suc, _+_, _*_, _≤_, _<_}
+use mathlib.Core.Path.{_≡_, refl, sym, _∙_, ap}
+use mathlib.Core.Bool.{Bool, true, false}
+use mathlib.Core.List.{List, [], _∷_, _++_}
+use mathlib.Core.Option.{Option, none, some}
+use mir.Syntax.{w32}
+use mir.Val.{Fits}
+use lib.ListN.{length, replicate}
+use native.Mathlib.Omega.{arith}
+use Rattle.definition.specs.Basic.{if_then_else_, ok, refused, _>>=_, sameBytes, firstAt, later}
+use Rattle.definition.specs.Syntax.{Identifier}
+use Rattle.definition.specs.Names.{Namespace, carries, find, numberIn, localNo}
+use Rattle.token.specs.Views.{partOf, indexOf}
+use Rattle.token.specs.declared.text.Part.{Part}
+use Rattle.token.specs.declared.index.Index.{Index}
+use Rattle.token.specs.declared.index.Index.the-variants as X
+use Rattle.space.specs.Area.{entry, names, found}
+use Rattle.space.specs.declared.table.Found.{Found}
+use Rattle.space.specs.declared.table.Found.the-variants as F
+use Rattle.space.proofs.Walk.{shifted}
+use Rattle.scope.specs.Scope.{scopeIn, localsIn, FewLocals}
+use Rattle.scope.specs.declared.Locals.{Locals}
+
+-- ## Nameless places carry no name
+
+later-shifted : (k : ℕ) (o : Option ℕ) → later (shifted k o) ≡ shifted (suc k) o
+unfolding shifted
+later-shifted k none = refl
+later-shifted k (some n) = (let d : k + n + 1 ≡ suc k + n = omega arith in rw d)
+
+none-shifted : (o : Option ℕ) → o ≡ shifted 0 o
+unfolding shifted
+none-shifted none = refl
+none-shifted (some n) = (let d : 0 + n ≡ n = omega arith in rw d)
+
+-- a name after them is found so many places on
+pub find-after : (k : ℕ) (name : Identifier) (ns : Namespace Identifier) → find sameBytes name (replicate k none ++ ns) ≡ shifted k (find sameBytes name ns)
+unfolding find firstAt
+find-after zero name ns = none-shifted (firstAt (carries sameBytes name) ns)
+find-after (suc k) name ns = rw (find-after k name ns) (later-shifted k (firstAt (carries sameBytes name) ns))
+
+-- a place among the entries is below their count
+abbrev within : ℕ → Option ℕ → Type 0
+within n none = Unit {0}
+within n (some k) = k < n
+
+entries-low : (name : Identifier) (s w : List ℕ) (n b : ℕ) → within n (find sameBytes name (names n s w b))
+unfolding find firstAt names
+entries-low name s w zero b = tt
+entries-low name s w (suc n) b = go (carries sameBytes name (entry s w b)) (find sameBytes name (names n s w (b + 3))) (entries-low name s w n (b + 3))
+  where
+    go : (t : Bool) (o : Option ℕ) → within n o → within (suc n) (if t then some 0 else later o)
+    go true o h = omega arith
+    go false none h = tt
+    go false (some k) h = omega arith
+
+-- ## The answers
+
+module _ (s w : List ℕ) (l : Locals) (few : FewLocals l) where
+  -- the entries lie in the area
+  pub local-table : 16384 ≤ length w → 11536 + 3 * l .count ≤ length w
+  local-table h = omega (arith, few .named)
+
+  module _ (name : List ℕ) (q : Found) (k : ℕ) (told : find sameBytes name (names (l .count) s w 11536) ≡ found q) (e : q ≡ F.At k) where
+    entry-low : k < l .count
+    entry-low = rw (told, e) at (entries-low name s w (l .count) 11536)
+
+    -- a place among the entries is a u32
+    pub local-entry : Fits w32 k
+    local-entry = record { fits = omega (arith, few .named, entry-low) }
+
+    -- and so is the place among all locals
+    pub local-place : Fits w32 (l .nameless + k)
+    local-place = record { fits = omega (arith, few .nameless, few .named, entry-low) }
+
+module _ (s w : List ℕ) (l : Locals) (r : ℕ) (x : Index) where
+  -- an absent index is 0
+  pub local-absent : x ≡ X.Absent → localNo (scopeIn s w) (localsIn s w l) r (indexOf s x) ≡ ok (record { local-no = 0 })
+  unfolding localNo numberIn _>>=_
+  local-absent d = rw d
+
+  -- a number is itself
+  pub local-number : (n : ℕ) → x ≡ X.Number n → localNo (scopeIn s w) (localsIn s w l) r (indexOf s x) ≡ ok (record { local-no = n })
+  unfolding localNo numberIn _>>=_
+  local-number n d = rw d
+
+  module _ (p : Part) (d : x ≡ X.Named p) (name : List ℕ) (b : name ≡ partOf s p) (q : Found) (told : find sameBytes name (names (l .count) s w 11536) ≡ found q) where
+    -- a name that is there
+    pub local-found : (k : ℕ) → q ≡ F.At k → localNo (scopeIn s w) (localsIn s w l) r (indexOf s x) ≡ ok (record { local-no = l .nameless + k })
+    unfolding localNo scopeIn localsIn numberIn _>>=_ shifted
+    local-found k e = rw (d, ← b, find-after (l .nameless) name (names (l .count) s w 11536), told, e)
+
+    -- a name that is not
+    pub local-none : q ≡ F.Nothing → localNo (scopeIn s w) (localsIn s w l) r (indexOf s x) ≡ refused 14 r
+    unfolding localNo scopeIn localsIn numberIn _>>=_ shifted
+    local-none e = rw (d, ← b, find-after (l .nameless) name (names (l .count) s w 11536), told, e)
+
+pub ruleset locals = (local-absent, local-number, local-found, local-none)
