@@ -1,13 +1,13 @@
 -- The locals of a function: no identifier comes twice among the parameters and the locals, and nameless places change nothing of that.
-use Prim.Native.Nat.{ℕ, zero, suc, _+_, _*_, _≤_, _<_}
-use mathlib.Core.Path.{_≡_, refl, sym, _∙_, ap}
+use Prim.Native.Nat.{ℕ, zero, suc, _+_, _≤_}
+use mathlib.Core.Path.{_≡_, refl, _∙_}
 use mathlib.Core.Bool.{Bool, true, false, _&&_, not}
-use mathlib.Core.List.{List, [], _∷_, _++_, map, append-assoc, append-nil}
+use mathlib.Core.List.{List, [], _∷_, _++_, append-assoc, append-nil}
 use mathlib.Core.Option.{Option, none, some}
 use lib.ListN.{length, replicate}
 use native.Mathlib.Omega.{arith}
-use Rattle.definition.specs.Basic.{if_then_else_, Answer, ok, refused, sameBytes, firstAt, later, isSome, at}
-use Rattle.definition.specs.Syntax.{Bytes, Identifier}
+use Rattle.definition.specs.Basic.{ok, refused, sameBytes, firstAt, later, isSome, at}
+use Rattle.definition.specs.Syntax.{Identifier}
 use Rattle.definition.specs.Token.{param}
 use Rattle.definition.specs.Types.{isInline}
 use Rattle.definition.specs.Names.{Namespace, carries, find, taken, distinct, paramCount, paramNames, localsOf, distinctLocals}
@@ -15,15 +15,13 @@ use Rattle.typeuse.specs.Views.{elements, listOf, useOf}
 use Rattle.typeuse.specs.declared.List as Code
 use Rattle.typeuse.specs.declared.TypeUse.{TypeUse}
 use Rattle.space.specs.Area.{names}
-use Rattle.space.specs.Kept.{Kept}
 use Rattle.space.proofs.Kept.{kept-then}
 use Rattle.signatures.specs.Table.{typesIn}
 use Rattle.signatures.proofs.Bounds.{params-few}
 use Rattle.binary.specs.Views.{typeNoOf}
 use Rattle.binary.specs.declared.instructions.TypeNo.{TypeNo}
-use Rattle.scope.specs.Scope.{scopeIn, localsIn, FewLocals}
-use Rattle.scope.specs.declared.Locals.{Locals}
-use Rattle.frames.specs.Locals.{idsAt, idsOf, nameless, Mores, Clashes, PutsAll, Sets, Unset, SetsLocals}
+use Rattle.scope.specs.Scope.{scopeIn, localsIn}
+use Rattle.frames.specs.Locals.{idsAt, idsOf, nameless, Mores, Clashes, PutsAll, SetsLocals}
 use Rattle.frames.specs.declared.locals.EntriesAt.{EntriesAt}
 use Rattle.frames.specs.declared.locals.EntriesAt.the-variants as E
 use Rattle.frames.specs.declared.locals.LocalsAt.{LocalsAt}

@@ -1,19 +1,16 @@
 -- Entries of locals: one more, and those of a list.
 use Prim.Native.Nat.{ℕ, zero, suc, _+_, _-_, _*_, _≤_, _<_}
 use mathlib.Core.Path.{_≡_, refl, sym, _∙_, ap}
-use mathlib.Core.Bool.{Bool, true, false, _&&_, not}
-use mathlib.Core.List.{List, [], _∷_, _++_, map, append-assoc, append-nil}
-use mathlib.Core.Option.{Option, none, some}
-use mir.Syntax.{w32}
-use mir.Val.{Fits}
-use lib.ListN.{length, length-append, length-map}
+use mathlib.Core.Bool.{Bool, true, false, not}
+use mathlib.Core.List.{List, [], _∷_, _++_, append-assoc, append-nil}
+use mathlib.Core.Option.{none}
+use lib.ListN.{length, length-map}
 use native.Mathlib.Omega.{arith}
 use native.Mathlib.Nat.{add-zero}
 use Rattle.definition.specs.Basic.{sameBytes}
-use Rattle.definition.specs.Syntax.{Bytes, Identifier}
-use Rattle.definition.specs.Reader.{Step, got, fault}
+use Rattle.definition.specs.Syntax.{Bytes}
 use Rattle.definition.specs.Token.{param}
-use Rattle.definition.specs.Names.{Namespace, taken, distinct}
+use Rattle.definition.specs.Names.{taken, distinct}
 use Rattle.token.specs.Views.{idOf}
 use Rattle.token.specs.declared.text.Part.{Part}
 use Rattle.typeuse.specs.Views.{localAt, elements}
@@ -24,8 +21,8 @@ use Rattle.space.specs.Area.{entry, entryWords, names}
 use Rattle.space.specs.Kept.{Kept}
 use Rattle.space.proofs.Kept.{kept-same, kept-then}
 use Rattle.space.proofs.Walk.{entry-written}
-use Rattle.names.proofs.Tables.{words-length, words-kept, names-low, names-snoc}
-use Rattle.frames.specs.Locals.{idsAt, Clash, More, PutsOne, Mores, Clashes, PutsAll}
+use Rattle.names.proofs.Tables.{words-kept, names-low, names-snoc}
+use Rattle.frames.specs.Locals.{idsAt, Clash, More, PutsOne, PutsAll}
 use Rattle.frames.specs.declared.locals.EntriesAt.{EntriesAt}
 use Rattle.frames.specs.declared.locals.EntriesAt.the-variants as E
 

@@ -1,2 +1,3 @@
-pub mod Entries
+pub mod Blocks
 pub mod Distinct
+pub mod Entries
