@@ -1,0 +1,41 @@
+use Rattle.entries.proofs.Turns.{depth-to, depth-not}
+use borrow.Author.Needs.{needs}
+use Rattle.entries.proofs.indices.emit_label.Statement.{statement}
+use Rattle.entries.proofs.indices.emit_label.Tie as tie
+
+depth-of-requires : tie.Need-depth-of-requires
+depth-of-requires c κs = search needs
+
+enum-known-n : tie.Need-enum-known-n
+enum-known-n c = search needs
+
+cast-put-u : tie.Need-cast-put-u
+cast-put-u c = search needs
+
+put-u-requires : tie.Need-put-u-requires
+put-u-requires c κs = search needs
+
+enum-known-n-2 : tie.Need-enum-known-n-2
+enum-known-n-2 c = search needs
+
+same-length : tie.Need-same-length
+same-length c = search needs
+
+returns : tie.Need-returns
+returns c = search (depth-to, depth-not) depth 12
+
+returns-2 : tie.Need-returns-2
+returns-2 c = search (depth-to, depth-not) depth 12
+
+pub emit-label-spec : {M : Type 1} → statement M
+emit-label-spec =
+    tie.close
+    (tie.spec
+    depth-of-requires
+    enum-known-n
+    cast-put-u
+    put-u-requires
+    enum-known-n-2
+    same-length
+    returns
+    returns-2)
