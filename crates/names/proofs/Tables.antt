@@ -47,7 +47,7 @@ module _ (s w : List ℕ) (at : ℕ) (p : Part) (r : ℕ) where
       kept-then (kept-then (kept-set n at (min (p .at) (length s)) w h) (kept-set n (at + 1) (p .len) x (omega arith))) (kept-set n (at + 2) r (set x (at + 1) (p .len)) (omega arith))
 
   -- a table that ends before the entry, or begins after it
-  names-low : (n b : ℕ) → b + 3 * n ≤ at → names n s (entryWords s w at p r) b ≡ names n s w b
+  pub names-low : (n b : ℕ) → b + 3 * n ≤ at → names n s (entryWords s w at p r) b ≡ names n s w b
   unfolding names entry
   names-low zero b h = refl
   names-low (suc n) b h =
@@ -62,7 +62,7 @@ module _ (s w : List ℕ) (at : ℕ) (p : Part) (r : ℕ) where
       names-high n (b + 3) (omega arith))
 
 -- the last name, after the others
-names-snoc : (n : ℕ) (s w : List ℕ) (b : ℕ) → names (suc n) s w b ≡ names n s w b ++ (entry s w (b + 3 * n) ∷ [])
+pub names-snoc : (n : ℕ) (s w : List ℕ) (b : ℕ) → names (suc n) s w b ≡ names n s w b ++ (entry s w (b + 3 * n) ∷ [])
 unfolding names
 names-snoc zero s w b = (let e : b + 3 * 0 ≡ b = omega arith in rw e)
 names-snoc (suc n) s w b = (let e : b + 3 + 3 * n ≡ b + 3 * suc n = omega arith in ap (λ (l : Namespace Identifier). entry s w b ∷ l) (names-snoc n s w (b + 3) ∙ rw e))

@@ -18,7 +18,7 @@ ghost use Rattle.space.specs.Area.{names};
 ghost use Rattle.names.specs.Register.{base, Fit, registerIn, registered, brought, sourceItems, nameless};
 
 // An identifier that is there already.
-fn is_taken(s: &[u8], work: &[u32], base: usize, count: usize, id: Part) -> bool
+pub fn is_taken(s: &[u8], work: &[u32], base: usize, count: usize, id: Part) -> bool
     requires { ⌜ base + 3 * count ≤ length (now work) ⌝ }
     ensures { λ r. ⌜ r ≡ Names.taken sameBytes (idOf (now (s .entry)) id) (names count (now (s .entry)) (now (work .entry)) base) ⌝ }
 {

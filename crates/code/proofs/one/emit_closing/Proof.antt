@@ -1,0 +1,37 @@
+use Rattle.code.proofs.Instructions.{closing-to, closing-not}
+use borrow.Author.Needs.{needs}
+use Rattle.code.proofs.one.emit_closing.Statement.{statement}
+use Rattle.code.proofs.one.emit_closing.Tie as tie
+
+closes-requires : tie.Need-closes-requires
+closes-requires c κs = search needs
+
+enum-told : tie.Need-enum-told
+enum-told c = search needs
+
+put-instruction-requires : tie.Need-put-instruction-requires
+put-instruction-requires c κs = search needs
+
+enum-known-n : tie.Need-enum-known-n
+enum-known-n c = search needs
+
+same-length : tie.Need-same-length
+same-length c = search needs
+
+returns : tie.Need-returns
+returns c = search (closing-to, closing-not) depth 12
+
+returns-2 : tie.Need-returns-2
+returns-2 c = search (closing-to, closing-not) depth 12
+
+pub emit-closing-spec : {M : Type 1} → statement M
+emit-closing-spec =
+    tie.close
+    (tie.spec
+    closes-requires
+    enum-told
+    put-instruction-requires
+    enum-known-n
+    same-length
+    returns
+    returns-2)
