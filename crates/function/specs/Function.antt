@@ -1,0 +1,82 @@
+-- A function's entry in the code section, by the work area.
+use Prim.Native.Nat.{ℕ, _+_, _-_}
+use mathlib.Core.Path.{_≡_}
+use mathlib.Core.List.{List, [], _∷_, _++_}
+use mathlib.Core.Option.{Option, none, some}
+use lib.ListN.{length}
+use Rattle.definition.specs.Basic.{Answer, ok, refused}
+use Rattle.definition.specs.Syntax as Syntax
+use Rattle.definition.specs.Syntax.{Bytes, Identifier, Op, Item}
+use Rattle.definition.specs.Token as Token
+use Rattle.definition.specs.Names.{Namespace, Scope, body, resolve}
+use Rattle.definition.specs.Binary.{vec, run, runs, expr, sized, func-code}
+use Rattle.typeuse.specs.Views.{listOf, useOf}
+use Rattle.typeuse.specs.declared.List as Code
+use Rattle.typeuse.specs.declared.TypeUse.{TypeUse}
+use Rattle.emit.specs.Put.{past}
+use Rattle.space.specs.Kept.{Kept}
+use Rattle.binary.specs.Locals.{localTypes}
+use Rattle.binary.specs.Emits.{Emits}
+use Rattle.binary.specs.declared.Emitted.{Emitted}
+use Rattle.binary.specs.declared.Emitted.the-variants as E
+use Rattle.walk.specs.Walk.{bodyFrom}
+use Rattle.scope.specs.Scope.{scopeIn, localsIn}
+use Rattle.scope.specs.declared.Locals.{Locals}
+
+-- the code of a function among its entries
+unfoldable pub codeOf : Item → Bytes
+codeOf (Syntax.typeI t) = []
+codeOf (Syntax.importI n d) = []
+codeOf (Syntax.funcI n ls os) = func-code ls os
+codeOf (Syntax.tableI t) = []
+codeOf (Syntax.memI l) = []
+codeOf (Syntax.globalI t o) = []
+codeOf (Syntax.exportI n k x) = []
+codeOf (Syntax.startI x) = []
+codeOf (Syntax.elemI m ns) = []
+codeOf (Syntax.dataI m d) = []
+
+-- an own function whose body begins at `here`; `r` is its record
+unfoldable pub funcField : Bytes → ℕ → TypeUse → Code.List → ℕ → Syntax.Field Identifier
+funcField s r t ls here = Syntax.ownF none (Syntax.ownFunc (useOf s t) (listOf Token.param s ls)) (bodyFrom (4096 - (r + 1)) 0 s here)
+
+-- the body, resolved
+unfoldable pub bodyAnswer : Bytes → List ℕ → ℕ → ℕ → Locals → Answer (List Op)
+bodyAnswer s w r here l = body (scopeIn s w) (localsIn s w l) [] (r + 1) (bodyFrom (4096 - (r + 1)) 0 s here)
+
+-- locals in runs, and then the instructions
+unfoldable pub codeBytes : Bytes → Code.List → List Op → Bytes
+codeBytes s ls os = vec run (runs (localTypes s (ls .at) (ls .count))) ++ expr os
+
+-- the same after its length
+unfoldable pub sizedBytes : Bytes → Code.List → List Op → Bytes
+sizedBytes s ls os = sized (codeBytes s ls os)
+
+-- it is emitted, and only labels are written into the work area
+pub record EmitsCode (bytes : List Op → Bytes) (a : Answer (List Op)) (w old : List ℕ) (at : ℕ) (r : Emitted) (w′ new : List ℕ) : Type 0 where
+  pub emits : Emits bytes a old at r new
+  pub kept : Kept 11920 w w′
+
+-- the value of an answer, and how long its bytes are
+pub record Measured (bytes : List Op → Bytes) (a : Answer (List Op)) (n : ℕ) : Type 0 where
+  pub value : List Op
+  pub is : a ≡ ok value
+  pub long : n ≡ past 0 (length (bytes value))
+
+-- it is measured
+abbrev pub MeasuredBy : (List Op → Bytes) → Answer (List Op) → Emitted → Type 0
+MeasuredBy bytes a (E.To n) = Measured bytes a n
+MeasuredBy bytes a (E.Refused n q) = a ≡ refused n q
+
+pub record MeasuresCode (bytes : List Op → Bytes) (a : Answer (List Op)) (w : List ℕ) (r : Emitted) (w′ : List ℕ) : Type 0 where
+  pub says : MeasuredBy bytes a r
+  pub kept : Kept 11920 w w′
+
+-- the whole entry: the locals are written too
+abbrev pub AreaBy : Emitted → List ℕ → List ℕ → Type 0
+AreaBy (E.To o) w w′ = Kept 11536 w w′
+AreaBy (E.Refused n r) w w′ = length w′ ≡ length w
+
+pub record EmitsFunc (s w : List ℕ) (r : ℕ) (t : TypeUse) (ls : Code.List) (here : ℕ) (old : List ℕ) (at : ℕ) (q : Emitted) (w′ new : List ℕ) : Type 0 where
+  pub emits : Emits codeOf (resolve (scopeIn s w) r (funcField s r t ls here)) old at q new
+  pub area : AreaBy q w w′

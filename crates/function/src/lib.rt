@@ -1,0 +1,66 @@
+// A function's entry in the code section: its locals in runs and its body, after their length.
+use binary::Emitted;
+use frames::LocalsAt;
+use scope::Locals;
+use scope::TypeAt;
+use typeuse::List;
+use typeuse::TypeUse;
+ghost use Prim.Native.Nat.{_+_, _-_, _≤_, _<_};
+ghost use mathlib.Core.List.{_++_};
+ghost use lib.ListN.{length};
+ghost use Rattle.definition.specs.Token as Token;
+ghost use Rattle.definition.specs.Types as Types;
+ghost use Rattle.typeuse.specs.Views.{listOf, useOf};
+ghost use Rattle.signatures.specs.Table.{typesIn};
+ghost use Rattle.scope.specs.Scope.{Recalled, FewLocals};
+ghost use Rattle.walk.specs.Walk.{bodyFrom};
+ghost use Rattle.function.specs.Function.{bodyAnswer, codeBytes, sizedBytes, EmitsCode, MeasuresCode, EmitsFunc};
+
+// The locals and the body.
+fn emit_code(s: &[u8], work: &mut [u32], out: &mut [u8], at: usize, ls: List, here: usize, rec: u32, l: Locals) -> Emitted
+    requires { ⌜ (length (now s) ≤ 65536) × (16384 ≤ length (now work)) × FewLocals l × (rec < 4096) × Recalled (now work) (typesIn (now s) (now work)) (Types.bodyUses (rec + 1) (bodyFrom (4096 - (rec + 1)) 0 (now s) here)) ⌝ }
+    ensures { λ r. ⌜ EmitsCode (codeBytes (now (s .entry)) ls) (bodyAnswer (now (s .entry)) (now (work .entry)) rec here l) (now (work .entry)) (now (out .entry)) at r (now (work .exit)) (now (out .exit)) ⌝ }
+{
+    let a = binary::put_runs(out, at, s, ls);
+    match code::emit_body(s, work, out, a, here, rec + 1, l) {
+        Emitted::To(b) => Emitted::To(emit::put(out, b, 0x0B)),
+        Emitted::Refused(n, q) => Emitted::Refused(n, q),
+    }
+}
+
+// How long they are.
+fn measure_code(s: &[u8], work: &mut [u32], ls: List, here: usize, rec: u32, l: Locals) -> Emitted
+    requires { ⌜ (length (now s) ≤ 65536) × (16384 ≤ length (now work)) × FewLocals l × (rec < 4096) × Recalled (now work) (typesIn (now s) (now work)) (Types.bodyUses (rec + 1) (bodyFrom (4096 - (rec + 1)) 0 (now s) here)) ⌝ }
+    ensures { λ r. ⌜ MeasuresCode (codeBytes (now (s .entry)) ls) (bodyAnswer (now (s .entry)) (now (work .entry)) rec here l) (now (work .entry)) r (now (work .exit)) ⌝ }
+{
+    let mut none = [0u8; 1];
+    emit_code(s, work, &mut none[0..0], 0, ls, here, rec, l)
+}
+
+// Both, after their length.
+fn emit_sized(s: &[u8], work: &mut [u32], out: &mut [u8], at: usize, ls: List, here: usize, rec: u32, l: Locals) -> Emitted
+    requires { ⌜ (length (now s) ≤ 65536) × (16384 ≤ length (now work)) × FewLocals l × (rec < 4096) × Recalled (now work) (typesIn (now s) (now work)) (Types.bodyUses (rec + 1) (bodyFrom (4096 - (rec + 1)) 0 (now s) here)) ⌝ }
+    ensures { λ r. ⌜ EmitsCode (sizedBytes (now (s .entry)) ls) (bodyAnswer (now (s .entry)) (now (work .entry)) rec here l) (now (work .entry)) (now (out .entry)) at r (now (work .exit)) (now (out .exit)) ⌝ }
+{
+    match measure_code(s, work, ls, here, rec, l) {
+        Emitted::To(n) => {
+            let a = leb::put_u(out, at, n as u64);
+            emit_code(s, work, out, a, ls, here, rec, l)
+        }
+        Emitted::Refused(n, q) => Emitted::Refused(n, q),
+    }
+}
+
+// The entry of a function: its type, its locals, its body.
+pub fn emit_func(s: &[u8], work: &mut [u32], out: &mut [u8], at: usize, t: TypeUse, ls: List, here: usize, rec: u32) -> Emitted
+    requires { ⌜ (length (now s) ≤ 65536) × (16384 ≤ length (now work)) × (rec < 4096) × Recalled (now work) (typesIn (now s) (now work)) (Types.usedAt rec (Types.useOf (useOf (now s) t)) ++ Types.bodyUses (rec + 1) (bodyFrom (4096 - (rec + 1)) 0 (now s) here)) × (length (useOf (now s) t .params) ≤ 64) × (length (listOf Token.param (now s) ls) ≤ 64) ⌝ }
+    ensures { λ r. ⌜ EmitsFunc (now (s .entry)) (now (work .entry)) rec t ls here (now (out .entry)) at r (now (work .exit)) (now (out .exit)) ⌝ }
+{
+    match scope::type_no(s, work, t, rec) {
+        TypeAt::To(n) => match frames::set_locals(s, work, n, t, ls, rec) {
+            LocalsAt::Set(l) => emit_sized(s, work, out, at, ls, here, rec, l),
+            LocalsAt::Refused(e, q) => Emitted::Refused(e, q),
+        },
+        TypeAt::Refused(e, q) => Emitted::Refused(e, q),
+    }
+}
