@@ -1,7 +1,7 @@
 // The labels of the open blocks, the outermost at word 11920.
 use instr::Instr;
 use token::Part;
-ghost use Prim.Native.Nat.{_+_, _≤_, _<_};
+ghost use Prim.Native.Nat.{_≤_, _<_};
 ghost use lib.ListN.{length};
 ghost use Rattle.frames.specs.Blocks.{Opened, Room, Entered};
 
