@@ -52,7 +52,7 @@ module _ (s w : List ℕ) (rec opcode : ℕ) (t : Syntax.TypeUse Identifier) (y 
 
   pub opens-to : (b : BlockType) (r : ℕ) → y ≡ B.To b → Put old at (instruction (opOf s opcode (M.Block b))) r new → Opens (E.To r)
   unfolding instrOp _>>=_
-  opens-to b r d p = wrote instruction (instrOp (scopeIn s w) [] [] rec (Syntax.opens opcode none t)) old at new (opOf s opcode (M.Block b)) r (rw (told, d)) p
+  opens-to b r d p = wrote instruction (instrOp (scopeIn s w) [] [] rec (Syntax.opens opcode none t)) old at new (opOf s opcode (M.Block b)) r p (rw (told, d))
 
   pub opens-not : (n q : ℕ) → y ≡ B.Refused n q → Opens (E.Refused n q)
   unfolding instrOp _>>=_
@@ -63,7 +63,7 @@ module _ (s w : List ℕ) (rec opcode : ℕ) (t : Syntax.TypeUse Identifier) (y 
 module _ (s w : List ℕ) (k rec opcode : ℕ) (l : Option Identifier) (y : Closed) (told : closes (scopeIn s w) rec l (labelsIn s w k) ≡ closedAnswer y) (old : List ℕ) (at : ℕ) (new : List ℕ) where
   pub closing-to : (r : ℕ) → y ≡ C.Yes → Put old at (instruction (opOf s opcode M.Nothing)) r new → Emits instruction (closingOp s w k rec opcode l) old at (E.To r) new
   unfolding closingOp _>>=_
-  closing-to r d p = wrote instruction (closingOp s w k rec opcode l) old at new (opOf s opcode M.Nothing) r (rw (told, d)) p
+  closing-to r d p = wrote instruction (closingOp s w k rec opcode l) old at new (opOf s opcode M.Nothing) r p (rw (told, d))
 
   pub closing-not : (n q : ℕ) → y ≡ C.Refused n q → Emits instruction (closingOp s w k rec opcode l) old at (E.Refused n q) new
   unfolding closingOp _>>=_
@@ -82,7 +82,7 @@ module _ (s w : List ℕ) (rec : ℕ) (x : Syntax.Index Identifier) (t : Syntax.
   module _ (table : ℕ) (d : y ≡ R.To table) (z : TypeAt) (says : typeNo (scopeIn s w) rec t ≡ typeAnswer z) where
     pub indirect-to : (n : TypeNo) (r : ℕ) → z ≡ T.To n → Put old at (instruction (opOf s 0x11 (M.Indirect n table))) r new → Indirect (E.To r)
     unfolding instrOp _>>=_
-    indirect-to n r e p = wrote instruction (instrOp (scopeIn s w) [] [] rec (Syntax.indirect x t)) old at new (opOf s 0x11 (M.Indirect n table)) r (rw (told, d, says, e)) p
+    indirect-to n r e p = wrote instruction (instrOp (scopeIn s w) [] [] rec (Syntax.indirect x t)) old at new (opOf s 0x11 (M.Indirect n table)) r p (rw (told, d, says, e))
 
     pub indirect-not : (n q : ℕ) → z ≡ T.Refused n q → Indirect (E.Refused n q)
     unfolding instrOp _>>=_

@@ -130,7 +130,7 @@ module _ (s w : List ℕ) (l : Locals) (k rec : ℕ) (p : Plain) (y : ImmAt)
 
   pub plain-to : (i : Imm) (r : ℕ) (new : List ℕ) → y ≡ I.To i → Put old at (instruction (opOf s (p .opcode) i)) r new → Says (E.To r) new
   unfolding plainOp _>>=_
-  plain-to i r new d e = wrote instruction (plainOp (scopeIn s w) (localsIn s w l) (labelsIn s w k) rec (plainIs s p)) old at new (opOf s (p .opcode) i) r (rw (told, d)) e
+  plain-to i r new d e = wrote instruction (plainOp (scopeIn s w) (localsIn s w l) (labelsIn s w k) rec (plainIs s p)) old at new (opOf s (p .opcode) i) r e (rw (told, d))
 
   pub plain-not : (n q : ℕ) (new : List ℕ) → y ≡ I.Refused n q → Says (E.Refused n q) new
   unfolding plainOp _>>=_

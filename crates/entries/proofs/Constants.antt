@@ -126,7 +126,7 @@ module _ (s w : List ℕ) (rec : ℕ) (c : Plain) (y : ImmAt) (told : immediate 
 
   pub const-to : (i : Imm) (r : ℕ) (new : List ℕ) → y ≡ I.To i → Put old at (expr (opOf s (c .opcode) i ∷ [])) r new → Const (E.To r) new
   unfolding constOp plainOp constBytes _>>=_
-  const-to i r new d p = wrote constBytes (constOp (scopeIn s w) rec (plainIs s c)) old at new (opOf s (c .opcode) i) r (rw (told, d)) p
+  const-to i r new d p = wrote constBytes (constOp (scopeIn s w) rec (plainIs s c)) old at new (opOf s (c .opcode) i) r p (rw (told, d))
 
   pub const-not : (n r : ℕ) (new : List ℕ) → y ≡ I.Refused n r → Const (E.Refused n r) new
   unfolding constOp plainOp _>>=_
@@ -154,11 +154,11 @@ module _ (s w : List ℕ) (rec opcode : ℕ) (xs : List (Syntax.Index Identifier
   table-to e r new d p =
       let v : Wrote imm (immediate (scopeIn s w) [] [] rec (Syntax.labels xs x)) a o e b = was-wrote imm (immediate (scopeIn s w) [] [] rec (Syntax.labels xs x)) a o b q e told d in
       wrote constBytes (constOp (scopeIn s w) rec (record { opcode = opcode; operand = Syntax.labels xs x })) old at new (record { opcode = opcode; imm = v .value }) r
-          (bind-ok (immediate (scopeIn s w) [] [] rec (Syntax.labels xs x)) (v .value) _ _ (v .is) refl)
           (put-then (put-is (put-cons first (v .put)) (sym (append-nil (opcode ∷ imm (v .value))))) p)
+          (bind-ok (immediate (scopeIn s w) [] [] rec (Syntax.labels xs x)) (v .value) _ _ (v .is) refl)
 
   pub table-not : (n r : ℕ) → q ≡ E.Refused n r → Table (E.Refused n r) b
   unfolding constOp plainOp labelsIn Area.labels
   table-not n r d =
       halts constBytes (constOp (scopeIn s w) rec (record { opcode = opcode; operand = Syntax.labels xs x })) old at b n r
-          (bind-not (immediate (scopeIn s w) [] [] rec (Syntax.labels xs x)) n r _ _ (has-halted imm (immediate (scopeIn s w) [] [] rec (Syntax.labels xs x)) a o b q n r told d) refl)
+          (bind-not (immediate (scopeIn s w) [] [] rec (Syntax.labels xs x)) n r _ (has-halted imm (immediate (scopeIn s w) [] [] rec (Syntax.labels xs x)) a o b q n r told d))

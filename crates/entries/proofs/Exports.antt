@@ -36,7 +36,7 @@ module _ (Γ : Scope Identifier) (rec : ℕ) (n : Bytes) (k : Space) (x : Syntax
 
   pub export-to : (m r : ℕ) → y ≡ R.To m → Put old at (sized n ++ (code k ∷ u m)) r new → Export (E.To r)
   unfolding resolve entryOf entries _>>=_
-  export-to m r d p = wrote entryOf (resolve Γ rec (Syntax.exportF n k x)) old at new (Syntax.exportI n k m) r (rw (told, d)) p
+  export-to m r d p = wrote entryOf (resolve Γ rec (Syntax.exportF n k x)) old at new (Syntax.exportI n k m) r p (rw (told, d))
 
   pub export-not : (m r : ℕ) → y ≡ R.Refused m r → Export (E.Refused m r)
   unfolding resolve _>>=_

@@ -39,7 +39,7 @@ module _ (Γ : Scope Identifier) (rec : ℕ) (t : Syntax.TypeUse Identifier) (y 
 
   pub func-to : (n : TypeNo) (r : ℕ) → y ≡ T.To n → Put old at (0x00 ∷ u (typeNoOf n .type-no)) r new → Func (E.To r)
   unfolding externNo externType _>>=_
-  func-to n r d p = wrote externType (externNo Γ rec (Syntax.func t)) old at new (Syntax.func (typeNoOf n)) r (rw (told, d)) p
+  func-to n r d p = wrote externType (externNo Γ rec (Syntax.func t)) old at new (Syntax.func (typeNoOf n)) r p (rw (told, d))
 
   pub func-not : (n r : ℕ) → y ≡ T.Refused n r → Func (E.Refused n r)
   unfolding externNo _>>=_
@@ -62,15 +62,15 @@ module _ (s : Bytes) (x : Extern) where
 
     pub extern-table : (t : TableType) (r : ℕ) → x ≡ X.Table t → Put old at (0x01 ∷ tableType (tableTypeIs t)) r new → Extern′ (E.To r)
     unfolding externNo externType
-    extern-table t r d p = wrote externType (externNo Γ rec (externIs s x)) old at new (Syntax.table (tableTypeIs t)) r (rw d) p
+    extern-table t r d p = wrote externType (externNo Γ rec (externIs s x)) old at new (Syntax.table (tableTypeIs t)) r p (rw d)
 
     pub extern-mem : (l : Limits) (r : ℕ) → x ≡ X.Mem l → Put old at (0x02 ∷ limits (limitsIs l)) r new → Extern′ (E.To r)
     unfolding externNo externType
-    extern-mem l r d p = wrote externType (externNo Γ rec (externIs s x)) old at new (Syntax.mem (limitsIs l)) r (rw d) p
+    extern-mem l r d p = wrote externType (externNo Γ rec (externIs s x)) old at new (Syntax.mem (limitsIs l)) r p (rw d)
 
     pub extern-global : (t : GlobalType) (r : ℕ) → x ≡ X.Global t → Put old at (0x03 ∷ globalType (globalTypeIs t)) r new → Extern′ (E.To r)
     unfolding externNo externType
-    extern-global t r d p = wrote externType (externNo Γ rec (externIs s x)) old at new (Syntax.global (globalTypeIs t)) r (rw d) p
+    extern-global t r d p = wrote externType (externNo Γ rec (externIs s x)) old at new (Syntax.global (globalTypeIs t)) r p (rw d)
 
 pub ruleset externs = (extern-func, extern-table, extern-mem, extern-global)
 

@@ -133,14 +133,14 @@ module _ (Γ : Scope Identifier) (rec : ℕ) (x : Syntax.Index Identifier) (c : 
 module _ (Γ : Scope Identifier) (s : Bytes) (rec : ℕ) (m : Code.Mode) (old : List ℕ) (at : ℕ) (new : List ℕ) where
   pub elem-passive : (r : ℕ) → m ≡ M.Passive → Put old at (1 ∷ 0 ∷ []) r new → Emits elemMode (Names.modeOf Γ (tableNo Γ) rec (modeOf s m)) old at (E.To r) new
   unfolding elemMode Names.modeOf
-  elem-passive r d p = wrote elemMode (Names.modeOf Γ (tableNo Γ) rec (modeOf s m)) old at new passive r (rw d) p
+  elem-passive r d p = wrote elemMode (Names.modeOf Γ (tableNo Γ) rec (modeOf s m)) old at new passive r p (rw d)
 
   pub elem-active : (x : Index) (c : Plain) (q : Emitted) → m ≡ M.Active x c → Emits elemMode (Names.modeOf Γ (tableNo Γ) rec (active (indexOf s x) (plainIs s c))) old at q new → Emits elemMode (Names.modeOf Γ (tableNo Γ) rec (modeOf s m)) old at q new
   elem-active x c q d w = rw d w
 
   pub data-passive : (r : ℕ) → m ≡ M.Passive → Put old at (1 ∷ []) r new → Emits dataMode (Names.modeOf Γ (itemNo Γ mems) rec (modeOf s m)) old at (E.To r) new
   unfolding dataMode Names.modeOf
-  data-passive r d p = wrote dataMode (Names.modeOf Γ (itemNo Γ mems) rec (modeOf s m)) old at new passive r (rw d) p
+  data-passive r d p = wrote dataMode (Names.modeOf Γ (itemNo Γ mems) rec (modeOf s m)) old at new passive r p (rw d)
 
   pub data-active : (x : Index) (c : Plain) (q : Emitted) → m ≡ M.Active x c → Emits dataMode (Names.modeOf Γ (itemNo Γ mems) rec (active (indexOf s x) (plainIs s c))) old at q new → Emits dataMode (Names.modeOf Γ (itemNo Γ mems) rec (modeOf s m)) old at q new
   data-active x c q d w = rw d w

@@ -74,7 +74,7 @@ module _ {A : Type 0} {f : Syntax.Index Identifier → Answer A} {g : A → Byte
   Ended r new = Emits (concatMap g) (each f (elements present s at count)) old place (E.To r) new
 
   none-left : elements present s here left ≡ [] → Ended o out
-  none-left e = wrote (concatMap g) (each f (elements present s at count)) old place out (v .done) o (v .same ∙ rw e (each-none f (v .done))) (v .so-far)
+  none-left e = wrote (concatMap g) (each f (elements present s at count)) old place out (v .done) o (v .so-far) (v .same ∙ rw e (each-none f (v .done)))
 
   pub each-done : left ≤ 0 → Ended o out
   each-done h = none-left (elements-none present s here left h)
@@ -123,7 +123,7 @@ module _ {A : Type 0} (f : Syntax.Index Identifier → Answer A) (g : A → Byte
 
 module _ (a : Answer ℕ) (y : Resolved) (told : a ≡ resolved y) where
   pub number-to : (old : List ℕ) (at n r : ℕ) (new : List ℕ) → y ≡ R.To n → Put old at (u n) r new → Emits u a old at (E.To r) new
-  number-to old at n r new d p = wrote u a old at new n r (told ∙ ap resolved d) p
+  number-to old at n r new d p = wrote u a old at new n r p (told ∙ ap resolved d)
 
   pub number-not : (old : List ℕ) (at n r : ℕ) (new : List ℕ) → y ≡ R.Refused n r → Emits u a old at (E.Refused n r) new
   number-not old at n r new d = halts u a old at new n r (told ∙ ap resolved d)
@@ -131,7 +131,7 @@ module _ (a : Answer ℕ) (y : Resolved) (told : a ≡ resolved y) where
 module _ (a : Answer Depth) (y : DepthAt) (told : a ≡ depthAnswer y) where
   pub depth-to : (old : List ℕ) (at : ℕ) (d : Code.Depth) (r : ℕ) (new : List ℕ) → y ≡ D.To d → Put old at (u (View.depthOf d .depth)) r new → Emits depthBytes a old at (E.To r) new
   unfolding depthBytes
-  depth-to old at d r new e p = wrote depthBytes a old at new (View.depthOf d) r (told ∙ ap depthAnswer e) p
+  depth-to old at d r new e p = wrote depthBytes a old at new (View.depthOf d) r p (told ∙ ap depthAnswer e)
 
   pub depth-not : (old : List ℕ) (at n r : ℕ) (new : List ℕ) → y ≡ D.Refused n r → Emits depthBytes a old at (E.Refused n r) new
   depth-not old at n r new e = halts depthBytes a old at new n r (told ∙ ap depthAnswer e)
