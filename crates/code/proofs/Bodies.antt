@@ -147,7 +147,7 @@ module _ {s w₀ : List ℕ} {l : Locals} {rec place : ℕ} {old : List ℕ} {at
   empty : bodyFrom (4096 - r) k s here ≡ [] → EmitsBody s w₀ l rec place old at (E.To o) w out
   empty e = record {
     emits = wrote (concatMap instruction) (body (scopeIn s w₀) (localsIn s w₀ l) [] rec (bodyFrom (4096 - rec) 0 s place)) old at out (v .done) o
-      (v .same ∙ rw e (body-none (scopeIn s w₀) (localsIn s w₀ l) (labelsIn s w k) r (v .done))) (v .so-far);
+      (v .so-far) (v .same ∙ rw e (body-none (scopeIn s w₀) (localsIn s w₀ l) (labelsIn s w k) r (v .done)));
     kept = v .kept;
   }
 
