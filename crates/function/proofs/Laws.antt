@@ -36,7 +36,8 @@ use Rattle.frames.specs.Locals.{SetsLocals, Sets, Unset}
 use Rattle.frames.specs.declared.locals.LocalsAt.{LocalsAt}
 use Rattle.frames.specs.declared.locals.LocalsAt.the-variants as L
 use Rattle.code.specs.Body.{EmitsBody}
-use Rattle.function.specs.Function.{codeOf, funcField, bodyAnswer, codeBytes, sizedBytes, EmitsCode, Measured, MeasuredBy, MeasuresCode, AreaBy, EmitsFunc}
+use Rattle.function.specs.Function.{codeOf, funcField, bodyAnswer, codeBytes, sizedBytes, EmitsCode, Measured, MeasuredBy, MeasuresCode, AreaBy, typedAnswer, EmitsTyped, EmitsFunc}
+use Rattle.binary.specs.declared.instructions.TypeNo as Number
 
 -- ## The locals and the body
 
@@ -97,53 +98,60 @@ module _ (s w : List ℕ) (ls : Code.List) (r here : ℕ) (l : Locals) (f : FewL
 
 -- ## The whole entry
 
-module _ (s w : List ℕ) (r : ℕ) (t : TypeUse) (ls : Code.List) (here : ℕ) (q : TypeAt) (told : typeNo (scopeIn s w) r (useOf s t) ≡ typeAnswer q) where
-  pub func-no-type : (old : List ℕ) (at n z : ℕ) → q ≡ T.Refused n z → EmitsFunc s w r t ls here old at (E.Refused n z) w old
-  unfolding Emits resolve ownItem funcField _>>=_
-  func-no-type old at n z d = record { emits = rw (told, d) refl; area = refl }
+module _ (s w : List ℕ) (r : ℕ) (n : TypeNo) (t : TypeUse) (ls : Code.List) (here : ℕ) (x : LocalsAt) (w₁ : List ℕ)
+    (h : SetsLocals s w r (localsOf (typesIn s w) n (useOf s t) (listOf Token.param s ls)) x w₁) where
+  unset : (e z : ℕ) → x ≡ L.Refused e z → Unset s w r (localsOf (typesIn s w) n (useOf s t) (listOf Token.param s ls)) e z w₁
+  unfolding SetsLocals
+  unset e z i = rw i at h
 
-  module _ (n : _) (d : q ≡ T.To n) (x : LocalsAt) (w₁ : List ℕ)
-      (h : SetsLocals s w r (localsOf (typesIn s w) (typeNoOf n) (useOf s t) (listOf Token.param s ls)) x w₁) where
-    unset : (e z : ℕ) → x ≡ L.Refused e z → Unset s w r (localsOf (typesIn s w) (typeNoOf n) (useOf s t) (listOf Token.param s ls)) e z w₁
+  -- an identifier comes twice
+  pub typed-not : (old : List ℕ) (at e z : ℕ) → x ≡ L.Refused e z → EmitsTyped s w r n t ls here old at (E.Refused e z) w₁ old
+  unfolding Emits typedAnswer _>>=_
+  typed-not old at e z i = let y = unset e z i in let g = y .says in record { emits = rw g refl; area = y .long }
+
+  module _ (l : Locals) (i : x ≡ L.Set l) where
+    set : Sets s w r (localsOf (typesIn s w) n (useOf s t) (listOf Token.param s ls)) l w₁
     unfolding SetsLocals
-    unset e z i = rw i at h
+    set = rw i at h
 
-    pub func-no-locals : (old : List ℕ) (at e z : ℕ) → x ≡ L.Refused e z → EmitsFunc s w r t ls here old at (E.Refused e z) w₁ old
-    unfolding Emits resolve ownItem funcField _>>=_ scopeIn
-    func-no-locals old at e z i = let y = unset e z i in let g = y .says in record { emits = rw (told, d, g) refl; area = y .long }
+    pub typed-few : FewLocals l
+    typed-few = set .few
 
-    module _ (l : Locals) (i : x ≡ L.Set l) where
-      set : Sets s w r (localsOf (typesIn s w) (typeNoOf n) (useOf s t) (listOf Token.param s ls)) l w₁
-      unfolding SetsLocals
-      set = rw i at h
+    pub typed-long : 16384 ≤ length w → 16384 ≤ length w₁
+    typed-long g = rw (set .kept .long) g
 
-      pub func-few : FewLocals l
-      func-few = set .few
+    pub typed-uses : (us : Types.Uses) → Recalled w (typesIn s w) us → Recalled w₁ (typesIn s w₁) us
+    typed-uses us g = recalled-scope s w w₁ us (kept-less 11280 11536 (omega arith) (set .kept)) g
 
-      pub func-long : 16384 ≤ length w → 16384 ≤ length w₁
-      func-long g = rw (set .kept .long) g
+    body-set : body (scopeIn s w) (localsOf (typesIn s w) n (useOf s t) (listOf Token.param s ls)) [] (r + 1) (bodyFrom (4096 - (r + 1)) 0 s here) ≡ bodyAnswer s w₁ r here l
+    unfolding bodyAnswer
+    body-set =
+        let a : scopeIn s w₁ ≡ scopeIn s w = scope-kept s w w₁ (kept-less 11280 11536 (omega arith) (set .kept)) in
+        let b = set .locals in
+        rw (a, b)
 
-      pub func-uses : (us vs : Types.Uses) → Recalled w (typesIn s w) (us ++ vs) → Recalled w₁ (typesIn s w₁) vs
-      func-uses us vs g = recalled-scope s w w₁ vs (kept-less 11280 11536 (omega arith) (set .kept)) (recalled-right w (typesIn s w) us vs g)
+    -- the locals are set, and the code is emitted
+    pub typed-to : (old : List ℕ) (at : ℕ) (z : Emitted) (w₂ new : List ℕ) → EmitsCode (sizedBytes s ls) (bodyAnswer s w₁ r here l) w₁ old at z w₂ new → EmitsTyped s w r n t ls here old at z w₂ new
+    unfolding Emits typedAnswer _>>=_ codeOf func-code sizedBytes codeBytes
+    typed-to old at (E.To o) w₂ new y =
+        let g = set .distinct in
+        let e = body-set ∙ y .emits .is in
+        record {
+          emits = record { value = Syntax.funcI n (localTypes s (ls .at) (ls .count)) (y .emits .value); is = rw (g, e) refl; put = y .emits .put };
+          area = kept-then (set .kept) (kept-less 11536 11920 (omega arith) (y .kept));
+        }
+    typed-to old at (E.Refused e z) w₂ new y =
+        let g = set .distinct in
+        let i = body-set ∙ y .emits in
+        record { emits = rw (g, i) refl; area = y .kept .long ∙ set .kept .long }
 
-      body-set : body (scopeIn s w) (localsOf (typesIn s w) (typeNoOf n) (useOf s t) (listOf Token.param s ls)) [] (r + 1) (bodyFrom (4096 - (r + 1)) 0 s here) ≡ bodyAnswer s w₁ r here l
-      unfolding bodyAnswer
-      body-set =
-          let a : scopeIn s w₁ ≡ scopeIn s w = scope-kept s w w₁ (kept-less 11280 11536 (omega arith) (set .kept)) in
-          let b = set .locals in
-          rw (a, b)
+module _ (s w : List ℕ) (r : ℕ) (t : TypeUse) (ls : Code.List) (here : ℕ) (q : TypeAt) (told : typeNo (scopeIn s w) r (useOf s t) ≡ typeAnswer q) where
+  pub func-not : (old : List ℕ) (at n z : ℕ) → q ≡ T.Refused n z → EmitsFunc s w r t ls here old at (E.Refused n z) w old
+  unfolding Emits resolve ownItem funcField _>>=_
+  func-not old at n z d = record { emits = rw (told, d) refl; area = refl }
 
-      -- the function's locals are set, and its code is emitted
-      pub func-set : (old : List ℕ) (at : ℕ) (z : Emitted) (w₂ new : List ℕ) → EmitsCode (sizedBytes s ls) (bodyAnswer s w₁ r here l) w₁ old at z w₂ new → EmitsFunc s w r t ls here old at z w₂ new
-      unfolding Emits resolve ownItem funcField _>>=_ codeOf func-code sizedBytes codeBytes scopeIn
-      func-set old at (E.To o) w₂ new y =
-          let g = set .distinct in
-          let e = body-set ∙ y .emits .is in
-          record {
-            emits = record { value = Syntax.funcI (typeNoOf n) (localTypes s (ls .at) (ls .count)) (y .emits .value); is = rw (told, d, g, e) refl; put = y .emits .put };
-            area = kept-then (set .kept) (kept-less 11536 11920 (omega arith) (y .kept));
-          }
-      func-set old at (E.Refused e z) w₂ new y =
-          let g = set .distinct in
-          let i = body-set ∙ y .emits in
-          record { emits = rw (told, d, g, i) refl; area = y .kept .long ∙ set .kept .long }
+  pub func-to : (n : Number.TypeNo) (old : List ℕ) (at : ℕ) (z : Emitted) (w′ new : List ℕ) → q ≡ T.To n → EmitsTyped s w r (typeNoOf n) t ls here old at z w′ new → EmitsFunc s w r t ls here old at z w′ new
+  func-to n old at z w′ new d y = record { emits = rw same (y .emits); area = y .area }
+    where
+      same : resolve (scopeIn s w) r (funcField s r t ls here) ≡ typedAnswer s w r (typeNoOf n) t ls here
+      same = unfold resolve ownItem funcField typedAnswer _>>=_ scopeIn in rw (told, d) refl

@@ -4,11 +4,12 @@ use mathlib.Core.Path.{_≡_}
 use mathlib.Core.List.{List, [], _∷_, _++_}
 use mathlib.Core.Option.{Option, none, some}
 use lib.ListN.{length}
-use Rattle.definition.specs.Basic.{Answer, ok, refused}
+use Rattle.definition.specs.Basic.{Answer, ok, refused, _>>=_}
 use Rattle.definition.specs.Syntax as Syntax
 use Rattle.definition.specs.Syntax.{Bytes, Identifier, Op, Item}
 use Rattle.definition.specs.Token as Token
-use Rattle.definition.specs.Names.{Namespace, Scope, body, resolve}
+use Rattle.definition.specs.Names.{Namespace, Scope, localsOf, distinctLocals, body, resolve}
+use Rattle.signatures.specs.Table.{typesIn}
 use Rattle.definition.specs.Binary.{vec, run, runs, expr, sized, func-code}
 use Rattle.typeuse.specs.Views.{listOf, useOf}
 use Rattle.typeuse.specs.declared.List as Code
@@ -76,6 +77,17 @@ pub record MeasuresCode (bytes : List Op → Bytes) (a : Answer (List Op)) (w : 
 abbrev pub AreaBy : Emitted → List ℕ → List ℕ → Type 0
 AreaBy (E.To o) w w′ = Kept 11536 w w′
 AreaBy (E.Refused n r) w w′ = length w′ ≡ length w
+
+-- what is left once the type's number is known
+unfoldable pub typedAnswer : Bytes → List ℕ → ℕ → Syntax.TypeNo → TypeUse → Code.List → ℕ → Answer Item
+typedAnswer s w r n t ls here =
+    distinctLocals (scopeIn s w) r (localsOf (typesIn s w) n (useOf s t) (listOf Token.param s ls)) >>= λ _.
+    body (scopeIn s w) (localsOf (typesIn s w) n (useOf s t) (listOf Token.param s ls)) [] (r + 1) (bodyFrom (4096 - (r + 1)) 0 s here) >>= λ os.
+    ok (Syntax.funcI n (localTypes s (ls .at) (ls .count)) os)
+
+pub record EmitsTyped (s w : List ℕ) (r : ℕ) (n : Syntax.TypeNo) (t : TypeUse) (ls : Code.List) (here : ℕ) (old : List ℕ) (at : ℕ) (q : Emitted) (w′ new : List ℕ) : Type 0 where
+  pub emits : Emits codeOf (typedAnswer s w r n t ls here) old at q new
+  pub area : AreaBy q w w′
 
 pub record EmitsFunc (s w : List ℕ) (r : ℕ) (t : TypeUse) (ls : Code.List) (here : ℕ) (old : List ℕ) (at : ℕ) (q : Emitted) (w′ new : List ℕ) : Type 0 where
   pub emits : Emits codeOf (resolve (scopeIn s w) r (funcField s r t ls here)) old at q new

@@ -1,5 +1,6 @@
 // A function's entry in the code section: its locals in runs and its body, after their length.
 use binary::Emitted;
+use binary::TypeNo;
 use frames::LocalsAt;
 use scope::Locals;
 use scope::TypeAt;
@@ -11,10 +12,11 @@ ghost use lib.ListN.{length};
 ghost use Rattle.definition.specs.Token as Token;
 ghost use Rattle.definition.specs.Types as Types;
 ghost use Rattle.typeuse.specs.Views.{listOf, useOf};
+ghost use Rattle.binary.specs.Views.{typeNoOf};
 ghost use Rattle.signatures.specs.Table.{typesIn};
 ghost use Rattle.scope.specs.Scope.{Recalled, FewLocals};
 ghost use Rattle.walk.specs.Walk.{bodyFrom};
-ghost use Rattle.function.specs.Function.{bodyAnswer, codeBytes, sizedBytes, EmitsCode, MeasuresCode, EmitsFunc};
+ghost use Rattle.function.specs.Function.{bodyAnswer, codeBytes, sizedBytes, EmitsCode, MeasuresCode, EmitsTyped, EmitsFunc};
 
 // The locals and the body.
 fn emit_code(s: &[u8], work: &mut [u32], out: &mut [u8], at: usize, ls: List, here: usize, rec: u32, l: Locals) -> Emitted
@@ -51,16 +53,24 @@ fn emit_sized(s: &[u8], work: &mut [u32], out: &mut [u8], at: usize, ls: List, h
     }
 }
 
+// The entry of a function whose type's number is known: its locals, and then its code.
+fn emit_typed(s: &[u8], work: &mut [u32], out: &mut [u8], at: usize, n: TypeNo, t: TypeUse, ls: List, here: usize, rec: u32) -> Emitted
+    requires { ⌜ (length (now s) ≤ 65536) × (16384 ≤ length (now work)) × (rec < 4096) × Recalled (now work) (typesIn (now s) (now work)) (Types.bodyUses (rec + 1) (bodyFrom (4096 - (rec + 1)) 0 (now s) here)) × (length (useOf (now s) t .params) ≤ 64) × (length (listOf Token.param (now s) ls) ≤ 64) ⌝ }
+    ensures { λ r. ⌜ EmitsTyped (now (s .entry)) (now (work .entry)) rec (typeNoOf n) t ls here (now (out .entry)) at r (now (work .exit)) (now (out .exit)) ⌝ }
+{
+    match frames::set_locals(s, work, n, t, ls, rec) {
+        LocalsAt::Set(l) => emit_sized(s, work, out, at, ls, here, rec, l),
+        LocalsAt::Refused(e, q) => Emitted::Refused(e, q),
+    }
+}
+
 // The entry of a function: its type, its locals, its body.
 pub fn emit_func(s: &[u8], work: &mut [u32], out: &mut [u8], at: usize, t: TypeUse, ls: List, here: usize, rec: u32) -> Emitted
     requires { ⌜ (length (now s) ≤ 65536) × (16384 ≤ length (now work)) × (rec < 4096) × Recalled (now work) (typesIn (now s) (now work)) (Types.usedAt rec (Types.useOf (useOf (now s) t)) ++ Types.bodyUses (rec + 1) (bodyFrom (4096 - (rec + 1)) 0 (now s) here)) × (length (useOf (now s) t .params) ≤ 64) × (length (listOf Token.param (now s) ls) ≤ 64) ⌝ }
     ensures { λ r. ⌜ EmitsFunc (now (s .entry)) (now (work .entry)) rec t ls here (now (out .entry)) at r (now (work .exit)) (now (out .exit)) ⌝ }
 {
     match scope::type_no(s, work, t, rec) {
-        TypeAt::To(n) => match frames::set_locals(s, work, n, t, ls, rec) {
-            LocalsAt::Set(l) => emit_sized(s, work, out, at, ls, here, rec, l),
-            LocalsAt::Refused(e, q) => Emitted::Refused(e, q),
-        },
+        TypeAt::To(n) => emit_typed(s, work, out, at, n, t, ls, here, rec),
         TypeAt::Refused(e, q) => Emitted::Refused(e, q),
     }
 }
