@@ -1,36 +1,28 @@
 -- What is known of every type use of a record's fields is known of those of its entries; and its functions are small.
 use Prim.Native.Nat.{ℕ, _+_, _-_, _≤_}
 use mathlib.Core.Path.{_≡_, refl}
-use mathlib.Core.Bool.{Bool}
 use mathlib.Core.List.{List, [], _∷_, _++_, map}
-use mathlib.Core.Option.{Option, none, some}
 use lib.ListN.{length}
-use Rattle.definition.specs.Basic.{if_then_else_}
-use Rattle.definition.specs.Syntax as Syntax
 use Rattle.definition.specs.Syntax.{Bytes, Identifier, Space, FuncType, number, Field, exportF}
 use Rattle.definition.specs.Token as Token
-use Rattle.definition.specs.Spaces.{sourceSpace}
 use Rattle.definition.specs.Read.{fieldBody, sourceBody, ownBody}
-use Rattle.definition.specs.Deinline.{Numbered, fieldsOf, sourceFields}
+use Rattle.definition.specs.Deinline.{fieldsOf, sourceFields}
 use Rattle.definition.specs.Types as Types
 use Rattle.definition.specs.Types.{Uses, usedAt, fieldUses, ownUses, uses}
 use Rattle.token.specs.declared.text.Part.{Part}
 use Rattle.typeuse.specs.Views.{listOf, useOf}
 use Rattle.typeuse.specs.declared.List as Code
 use Rattle.typeuse.specs.declared.TypeUse.{TypeUse}
-use Rattle.sources.specs.Views.{countOf, externIs, sourceOf}
+use Rattle.sources.specs.Views.{externIs}
 use Rattle.sources.specs.declared.seen.Seen.{Seen}
-use Rattle.sources.specs.declared.import.Extern.{Extern}
 use Rattle.sources.specs.declared.source.Own.{Own}
 use Rattle.sources.specs.declared.source.Own.the-variants as O
-use Rattle.sources.specs.declared.source.Source.{Source}
 use Rattle.sources.specs.declared.source.Source.the-variants as S
 use Rattle.fields.specs.Views.{fieldOf}
 use Rattle.fields.specs.declared.field.Field as Read
 use Rattle.fields.specs.declared.field.Field.the-variants as F
-use Rattle.walk.specs.Walk.{bodyFrom, Visited, fieldsHere}
+use Rattle.walk.specs.Walk.{bodyFrom, fieldsHere}
 use Rattle.walk.specs.declared.Cursor.{Cursor}
-use Rattle.scope.specs.Scope.{Recalled}
 use Rattle.content.specs.Entry.{usesOf, FewIn, three}
 use Rattle.content.specs.declared.entry.Three.{Three}
 
