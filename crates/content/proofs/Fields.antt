@@ -267,9 +267,9 @@ module _ (Γ : Scope Identifier) (s : Bytes) (r : ℕ) where
   -- an inline table's segment has the table's number, and so for a memory
   table-three : (es : Code.List) (i : Option Identifier) (w : Bool) (xs : Code.List) (n : ℕ)
       → entriesOf Γ (map (λ x. (r, x)) (map (λ e. exportF e Syntax.tables (number n)) (listOf Token.string s es)
-        ++ (elemF none (active (number n) (zeroOffset w)) (listOf Token.present s xs)
-        ∷ ownF i (ownTable (record { element = 0x70; limits = exactly w (length (listOf Token.present s xs)) })) []
-        ∷ [])))
+      ++ (elemF none (active (number n) (zeroOffset w)) (listOf Token.present s xs)
+      ∷ ownF i (ownTable (record { element = 0x70; limits = exactly w (length (listOf Token.present s xs)) })) []
+      ∷ [])))
       ≡ threeIn Γ s r (threeOf (E.Exports es K.Tables n) (E.InlineElem w n xs) (E.InlineTable w xs))
   unfolding entryIn answerOf resolve ownItem entries tagged
   table-three es i w xs n =
@@ -278,9 +278,9 @@ module _ (Γ : Scope Identifier) (s : Bytes) (r : ℕ) where
 
   mem-three : (es : Code.List) (i : Option Identifier) (w : Bool) (d : Part) (n : ℕ)
       → entriesOf Γ (map (λ x. (r, x)) (map (λ e. exportF e Syntax.mems (number n)) (listOf Token.string s es)
-        ++ (dataF none (active (number n) (zeroOffset w)) (partOf s d)
-        ∷ ownF i (ownMem (exactly w (pages (length (partOf s d))))) []
-        ∷ [])))
+      ++ (dataF none (active (number n) (zeroOffset w)) (partOf s d)
+      ∷ ownF i (ownMem (exactly w (pages (length (partOf s d))))) []
+      ∷ [])))
       ≡ threeIn Γ s r (threeOf (E.Exports es K.Mems n) (E.InlineData w n d) (E.InlineMem w d))
   unfolding entryIn answerOf resolve ownItem entries tagged
   mem-three es i w d n =

@@ -1,6 +1,6 @@
 // The bytes of an entry: each is resolved, put, and counted.
-use binary::Emitted;
 use crate::entry::Entry;
+use binary::Emitted;
 use entries::Ends;
 use scope::TypeAt;
 use token::IndexAt;
@@ -107,21 +107,56 @@ fn emit_other(out: &mut [u8], at: usize, s: &[u8], work: &[u32], e: Entry, rec: 
 {
     match e {
         Entry::Nothing => EndsAt::Ends(at, 0),
-        Entry::Type(params, results) => EndsAt::Ends(entries::put_func_type(out, at, s, params, results), 1),
-        Entry::Import(name, what) => one_end(entries::emit_import(out, at, s, work, name, what, rec)),
+        Entry::Type(params, results) => EndsAt::Ends(
+            entries::put_func_type(out, at, s, params, results),
+            1,
+        ),
+        Entry::Import(name, what) => one_end(entries::emit_import(
+            out,
+            at,
+            s,
+            work,
+            name,
+            what,
+            rec,
+        )),
         Entry::Func(t) => one_end(emit_type_no(out, at, s, work, t, rec)),
         Entry::Table(t) => EndsAt::Ends(binary::put_table_type(out, at, t), 1),
-        Entry::InlineTable(is64, funcs) => EndsAt::Ends(put_inline_table(out, at, s, is64, funcs), 1),
+        Entry::InlineTable(is64, funcs) => EndsAt::Ends(
+            put_inline_table(out, at, s, is64, funcs),
+            1,
+        ),
         Entry::Mem(l) => EndsAt::Ends(binary::put_limits(out, at, l), 1),
         Entry::InlineMem(is64, bytes) => EndsAt::Ends(put_inline_mem(out, at, s, is64, bytes), 1),
         Entry::Global(t, c) => one_end(entries::emit_global(out, at, s, work, t, c, rec)),
-        Entry::Export(name, k, x) => one_end(entries::emit_export(out, at, s, work, name, k, x, rec)),
+        Entry::Export(name, k, x) => one_end(entries::emit_export(
+            out,
+            at,
+            s,
+            work,
+            name,
+            k,
+            x,
+            rec,
+        )),
         Entry::Exports(es, k, n) => all_ends(entries::put_exports(out, at, s, es, k, n)),
         Entry::Start(x) => one_end(entries::emit_start(out, at, s, work, x, rec)),
         Entry::Elem(mode, funcs) => one_end(entries::emit_elem(out, at, s, work, mode, funcs, rec)),
-        Entry::InlineElem(is64, n, funcs) => one_end(entries::emit_inline_elem(out, at, s, work, is64, n, funcs, rec)),
+        Entry::InlineElem(is64, n, funcs) => one_end(entries::emit_inline_elem(
+            out,
+            at,
+            s,
+            work,
+            is64,
+            n,
+            funcs,
+            rec,
+        )),
         Entry::Code(_, _, _) => EndsAt::Ends(at, 0),
         Entry::Data(mode, bytes) => one_end(entries::emit_data(out, at, s, work, mode, bytes, rec)),
-        Entry::InlineData(is64, n, bytes) => EndsAt::Ends(entries::put_inline_data(out, at, s, is64, n, bytes), 1),
+        Entry::InlineData(is64, n, bytes) => EndsAt::Ends(
+            entries::put_inline_data(out, at, s, is64, n, bytes),
+            1,
+        ),
     }
 }

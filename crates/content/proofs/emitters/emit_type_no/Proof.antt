@@ -19,10 +19,10 @@ same-length : tie.Need-same-length
 same-length c = search needs
 
 returns : tie.Need-returns
-returns c = search (type-to, type-not) depth 8
+returns c = search type-to
 
 returns-2 : tie.Need-returns-2
-returns-2 c = search (type-to, type-not) depth 8
+returns-2 c = search type-not
 
 pub emit-type-no-spec : {M : Type 1} → statement M
 emit-type-no-spec =

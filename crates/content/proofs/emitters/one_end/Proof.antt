@@ -1,4 +1,3 @@
-use mathlib.Core.Path.{refl}
 use Rattle.content.proofs.Pieces.{is-end}
 use borrow.Author.Needs.{needs}
 use Rattle.content.proofs.emitters.one_end.Statement.{statement}
@@ -11,10 +10,10 @@ enum-known-r-2 : tie.Need-enum-known-r-2
 enum-known-r-2 c = search needs
 
 returns : tie.Need-returns
-returns c = search (is-end, refl) depth 8
+returns c = search is-end
 
 returns-2 : tie.Need-returns-2
-returns-2 c = search (is-end, refl) depth 8
+returns-2 c = search is-end
 
 pub one-end-spec : {M : Type 1} → statement M
 one-end-spec = tie.close (tie.spec enum-known-r enum-known-r-2 returns returns-2)
