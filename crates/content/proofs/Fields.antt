@@ -1,11 +1,10 @@
 -- The fields of one record resolve to the entries that the code makes of it.
-use Prim.Native.Nat.{ℕ, _+_, _-_, _≤_}
+use Prim.Native.Nat.{ℕ, _+_, _-_}
 use mathlib.Core.Path.{_≡_, refl, sym, _∙_, ap}
 use mathlib.Core.Bool.{Bool}
 use mathlib.Core.List.{List, [], _∷_, _++_, map, map-append, append-assoc, append-nil}
-use mathlib.Core.Option.{Option, none, some}
+use mathlib.Core.Option.{Option, none}
 use lib.ListN.{length}
-use native.Mathlib.Omega.{arith}
 use Rattle.definition.specs.Basic.{if_then_else_, Answer, ok, refused, _>>=_, each, concatMap}
 use Rattle.definition.specs.Syntax as Syntax
 use Rattle.definition.specs.Syntax.{Bytes, Identifier, Space, ExternType, Index, number, active, Plain, Instr, TypeUse, TypeNo, Item, Field, typeF, importF, ownF, exportF, startF, elemF, dataF}
@@ -16,7 +15,7 @@ use Rattle.definition.specs.Read.{fieldBody, sourceBody, ownBody}
 use Rattle.definition.specs.Deinline.{Numbered, exactly, pages, zeroOffset, fieldsOf, sourceFields}
 use Rattle.definition.specs.Names.{Scope, numberIn, itemNo, typeNo, externNo, constOp, ownItem, resolve, resolveAll}
 use Rattle.definition.specs.Names as Names
-use Rattle.definition.specs.Binary.{entries, funcType}
+use Rattle.definition.specs.Binary.{entries}
 use Rattle.token.specs.Views.{partOf, idOf, indexOf, spaceOf}
 use Rattle.token.specs.declared.text.Part.{Part}
 use Rattle.token.specs.declared.index.Space as Kind
@@ -28,24 +27,21 @@ use Rattle.sources.specs.declared.import.ImportName.{ImportName}
 use Rattle.fields.specs.declared.segment.Mode as Segment
 use Rattle.typeuse.specs.Views.{listOf, useOf}
 use Rattle.typeuse.specs.declared.List as Code
-use Rattle.sources.specs.Views.{countOf, nameOf, externIs, ownOf, sourceOf}
+use Rattle.sources.specs.Views.{countOf, nameOf, externIs, ownOf}
 use Rattle.sources.specs.declared.import.Extern.{Extern}
 use Rattle.sources.specs.declared.import.Extern.the-variants as X
-use Rattle.sources.specs.declared.seen.Seen.{Seen}
 use Rattle.sources.specs.declared.source.Own.{Own}
 use Rattle.sources.specs.declared.source.Own.the-variants as O
-use Rattle.sources.specs.declared.source.Source.{Source}
 use Rattle.sources.specs.declared.source.Source.the-variants as S
 use Rattle.fields.specs.Views.{modeOf, fieldOf}
 use Rattle.fields.specs.declared.field.Field as Read
 use Rattle.fields.specs.declared.field.Field.the-variants as F
-use Rattle.walk.specs.Walk.{bodyFrom, bodyIn, Visited, fieldsHere}
+use Rattle.walk.specs.Walk.{bodyFrom, bodyIn, fieldsHere}
 use Rattle.walk.specs.declared.Cursor.{Cursor}
 use Rattle.entries.specs.Entry.{entryOf, exportEntries}
-use Rattle.content.specs.Entry.{oneOf, typeBytes, codeOf, funcField, answerOf, Entries, entriesOf, tagged, both, entryIn, threeIn, threeOf, three, sourceThree, ownThree, exportsOf, externSpaceOf, ownSpaceOf}
+use Rattle.content.specs.Entry.{oneOf, typeBytes, codeOf, funcField, answerOf, Entries, entriesOf, tagged, both, entryIn, threeIn, threeOf, three, ownThree, externSpaceOf, ownSpaceOf}
 use Rattle.content.specs.declared.entry.Entry.{Entry}
 use Rattle.content.specs.declared.entry.Entry.the-variants as E
-use Rattle.content.specs.declared.entry.Three.{Three}
 
 -- ## Lists of fields
 
@@ -271,9 +267,9 @@ module _ (Γ : Scope Identifier) (s : Bytes) (r : ℕ) where
   -- an inline table's segment has the table's number, and so for a memory
   table-three : (es : Code.List) (i : Option Identifier) (w : Bool) (xs : Code.List) (n : ℕ)
       → entriesOf Γ (map (λ x. (r, x)) (map (λ e. exportF e Syntax.tables (number n)) (listOf Token.string s es)
-        ++ (elemF none (active (number n) (zeroOffset w)) (listOf Token.present s xs)
-        ∷ ownF i (ownTable (record { element = 0x70; limits = exactly w (length (listOf Token.present s xs)) })) []
-        ∷ [])))
+      ++ (elemF none (active (number n) (zeroOffset w)) (listOf Token.present s xs)
+      ∷ ownF i (ownTable (record { element = 0x70; limits = exactly w (length (listOf Token.present s xs)) })) []
+      ∷ [])))
       ≡ threeIn Γ s r (threeOf (E.Exports es K.Tables n) (E.InlineElem w n xs) (E.InlineTable w xs))
   unfolding entryIn answerOf resolve ownItem entries tagged
   table-three es i w xs n =
@@ -282,9 +278,9 @@ module _ (Γ : Scope Identifier) (s : Bytes) (r : ℕ) where
 
   mem-three : (es : Code.List) (i : Option Identifier) (w : Bool) (d : Part) (n : ℕ)
       → entriesOf Γ (map (λ x. (r, x)) (map (λ e. exportF e Syntax.mems (number n)) (listOf Token.string s es)
-        ++ (dataF none (active (number n) (zeroOffset w)) (partOf s d)
-        ∷ ownF i (ownMem (exactly w (pages (length (partOf s d))))) []
-        ∷ [])))
+      ++ (dataF none (active (number n) (zeroOffset w)) (partOf s d)
+      ∷ ownF i (ownMem (exactly w (pages (length (partOf s d))))) []
+      ∷ [])))
       ≡ threeIn Γ s r (threeOf (E.Exports es K.Mems n) (E.InlineData w n d) (E.InlineMem w d))
   unfolding entryIn answerOf resolve ownItem entries tagged
   mem-three es i w d n =

@@ -1,34 +1,27 @@
 -- What is known of every type use of a record's fields is known of those of its entries; and its functions are small.
-use Prim.Native.Nat.{ℕ, _+_, _-_, _≤_}
+use Prim.Native.Nat.{ℕ, _+_, _-_, _≤_, _<_}
 use mathlib.Core.Path.{_≡_, refl}
-use mathlib.Core.Bool.{Bool}
 use mathlib.Core.List.{List, [], _∷_, _++_, map}
-use mathlib.Core.Option.{Option, none, some}
-use lib.ListN.{length}
-use Rattle.definition.specs.Basic.{if_then_else_}
-use Rattle.definition.specs.Syntax as Syntax
+use lib.ListN.{length, getD}
 use Rattle.definition.specs.Syntax.{Bytes, Identifier, Space, FuncType, number, Field, exportF}
 use Rattle.definition.specs.Token as Token
-use Rattle.definition.specs.Spaces.{sourceSpace}
 use Rattle.definition.specs.Read.{fieldBody, sourceBody, ownBody}
-use Rattle.definition.specs.Deinline.{Numbered, fieldsOf, sourceFields}
+use Rattle.definition.specs.Deinline.{fieldsOf, sourceFields}
 use Rattle.definition.specs.Types as Types
-use Rattle.definition.specs.Types.{Uses, usedAt, fieldUses, ownUses, uses}
+use Rattle.definition.specs.Types.{Uses, typeNumber, usedAt, fieldUses, ownUses, uses}
 use Rattle.token.specs.declared.text.Part.{Part}
 use Rattle.typeuse.specs.Views.{listOf, useOf}
 use Rattle.typeuse.specs.declared.List as Code
 use Rattle.typeuse.specs.declared.TypeUse.{TypeUse}
-use Rattle.sources.specs.Views.{countOf, externIs, sourceOf}
+use Rattle.sources.specs.Views.{externIs}
 use Rattle.sources.specs.declared.seen.Seen.{Seen}
-use Rattle.sources.specs.declared.import.Extern.{Extern}
 use Rattle.sources.specs.declared.source.Own.{Own}
 use Rattle.sources.specs.declared.source.Own.the-variants as O
-use Rattle.sources.specs.declared.source.Source.{Source}
 use Rattle.sources.specs.declared.source.Source.the-variants as S
 use Rattle.fields.specs.Views.{fieldOf}
 use Rattle.fields.specs.declared.field.Field as Read
 use Rattle.fields.specs.declared.field.Field.the-variants as F
-use Rattle.walk.specs.Walk.{bodyFrom, Visited, fieldsHere}
+use Rattle.walk.specs.Walk.{bodyFrom, fieldsHere}
 use Rattle.walk.specs.declared.Cursor.{Cursor}
 use Rattle.scope.specs.Scope.{Recalled}
 use Rattle.content.specs.Entry.{usesOf, FewIn, three}
@@ -113,3 +106,38 @@ few-here s seen (F.Item i es (S.Own (O.Global t c))) here h = record { first = t
 few-here s seen (F.Item i es (S.Imported n x)) here h = record { first = tt; second = tt; third = tt }
 few-here s seen (F.Item i es (S.TableOf w xs)) here h = record { first = tt; second = tt; third = tt }
 few-here s seen (F.Item i es (S.MemOf w d)) here h = record { first = tt; second = tt; third = tt }
+
+-- ## Numbers in the work area
+
+-- a use's number stands in the word of its record
+unfoldable pub Told : List ℕ → List FuncType → ℕ → FuncType → Type 0
+Told w ts r t = (r < 4096) × (getD w (1800 + r) 0 ≡ typeNumber t ts)
+
+pub told-all : (w : List ℕ) (ts : List FuncType) (us : Uses) → Recalled w ts us → All (Told w ts) us
+unfolding Recalled Told
+told-all w ts [] a = tt
+told-all w ts ((r, t) ∷ us) a = ((a .0, a .1), told-all w ts us (a .2))
+
+pub all-told : (w : List ℕ) (ts : List FuncType) (us : Uses) → All (Told w ts) us → Recalled w ts us
+unfolding Recalled Told
+all-told w ts [] a = tt
+all-told w ts ((r, t) ∷ us) a = (a .0 .0, a .0 .1, all-told w ts us (a .1))
+
+pub record RecalledThree (w : List ℕ) (ts : List FuncType) (s : Bytes) (r : ℕ) (t : Three) : Type 0 where
+  pub first : Recalled w ts (usesOf s r (t .first))
+  pub second : Recalled w ts (usesOf s r (t .second))
+  pub third : Recalled w ts (usesOf s r (t .third))
+
+-- the numbers of a record's uses are those of its entries
+pub recalled-here : (w : List ℕ) (ts : List FuncType) (s : Bytes) (c next : Cursor) (f : Read.Field) (here : ℕ)
+    → Recalled w ts (uses (fieldsHere c s (record { field = fieldOf s f; head-end = here; next = next }))) → RecalledThree w ts s (c .rec) (three f (c .seen) here)
+recalled-here w ts s c next f here a =
+    let v : AllThree (Told w ts) s (c .rec) (three f (c .seen) here) = uses-here (Told w ts) s c next f here (told-all w ts _ a) in
+    record { first = all-told w ts _ (v .first); second = all-told w ts _ (v .second); third = all-told w ts _ (v .third) }
+
+-- of two lists of uses, each
+pub recalled-first : (w : List ℕ) (ts : List FuncType) (us vs : Uses) → Recalled w ts (us ++ vs) → Recalled w ts us
+recalled-first w ts us vs a = all-told w ts us (all-first (Told w ts) us vs (told-all w ts (us ++ vs) a))
+
+pub recalled-rest : (w : List ℕ) (ts : List FuncType) (us vs : Uses) → Recalled w ts (us ++ vs) → Recalled w ts vs
+recalled-rest w ts us vs a = all-told w ts vs (all-rest (Told w ts) us vs (told-all w ts (us ++ vs) a))

@@ -75,7 +75,11 @@ pub struct Three {
 fn together(first: Entry, second: Entry, third: Entry) -> Three
     ensures { λ r. ⌜ r ≡ threeOf first second third ⌝ }
 {
-    Three { first, second, third }
+    Three {
+        first,
+        second,
+        third,
+    }
 }
 
 // A field of one entry.
@@ -132,9 +136,21 @@ fn source_entries(exports: List, x: Source, seen: Seen, here: usize) -> Three
 {
     match x {
         Source::Own(o) => own_entries(exports_of(exports, own_space(o), seen), o, here),
-        Source::Imported(n, e) => together(exports_of(exports, extern_space(e), seen), Entry::Import(n, e), Entry::Nothing),
-        Source::TableOf(w, xs) => together(exports_of(exports, Space::Tables, seen), Entry::InlineElem(w, sources::seen::count_of(seen, Space::Tables), xs), Entry::InlineTable(w, xs)),
-        Source::MemOf(w, d) => together(exports_of(exports, Space::Mems, seen), Entry::InlineData(w, sources::seen::count_of(seen, Space::Mems), d), Entry::InlineMem(w, d)),
+        Source::Imported(n, e) => together(
+            exports_of(exports, extern_space(e), seen),
+            Entry::Import(n, e),
+            Entry::Nothing,
+        ),
+        Source::TableOf(w, xs) => together(
+            exports_of(exports, Space::Tables, seen),
+            Entry::InlineElem(w, sources::seen::count_of(seen, Space::Tables), xs),
+            Entry::InlineTable(w, xs),
+        ),
+        Source::MemOf(w, d) => together(
+            exports_of(exports, Space::Mems, seen),
+            Entry::InlineData(w, sources::seen::count_of(seen, Space::Mems), d),
+            Entry::InlineMem(w, d),
+        ),
     }
 }
 

@@ -1,59 +1,43 @@
-use mathlib.Core.Path.{refl}
 use Rattle.content.proofs.Threes.{is-own}
 use borrow.Author.Needs.{needs}
 use Rattle.content.proofs.entry.own_entries.Statement.{statement}
 use Rattle.content.proofs.entry.own_entries.Tie as tie
-use Rattle.content.proofs.entry.own_entries.Reads as reads
-use Rattle.content.proofs.entry.own_entries.Lts as lts
-use Rattle.content.proofs.entry.together.Reads as together-reads
 
--- src/entry.rt:122:19
 enum-known-o : tie.Need-enum-known-o
 enum-known-o c = search needs
 
--- src/entry.rt:122:29
 together-requires : tie.Need-together-requires
 together-requires c κs = search needs
 
--- src/entry.rt:123:20
 enum-known-o-2 : tie.Need-enum-known-o-2
 enum-known-o-2 c = search needs
 
--- src/entry.rt:123:26
 together-requires-2 : tie.Need-together-requires-2
 together-requires-2 c κs = search needs
 
--- src/entry.rt:124:18
 enum-known-o-3 : tie.Need-enum-known-o-3
 enum-known-o-3 c = search needs
 
--- src/entry.rt:124:24
 together-requires-3 : tie.Need-together-requires-3
 together-requires-3 c κs = search needs
 
--- src/entry.rt:125:21
 enum-known-o-4 : tie.Need-enum-known-o-4
 enum-known-o-4 c = search needs
 
--- src/entry.rt:125:30
 together-requires-4 : tie.Need-together-requires-4
 together-requires-4 c κs = search needs
 
--- src/entry.rt:118:1
 returns : tie.Need-returns
-returns c = search (is-own, refl) depth 8
+returns c = search is-own
 
--- src/entry.rt:118:1
 returns-2 : tie.Need-returns-2
-returns-2 c = search (is-own, refl) depth 8
+returns-2 c = search is-own
 
--- src/entry.rt:118:1
 returns-3 : tie.Need-returns-3
-returns-3 c = search (is-own, refl) depth 8
+returns-3 c = search is-own
 
--- src/entry.rt:118:1
 returns-4 : tie.Need-returns-4
-returns-4 c = search (is-own, refl) depth 8
+returns-4 c = search is-own
 
 pub own-entries-spec : {M : Type 1} → statement M
 own-entries-spec =

@@ -1,146 +1,109 @@
-use mathlib.Core.Path.{refl}
 use Rattle.content.proofs.Threes.{is-section}
 use borrow.Author.Needs.{needs}
 use Rattle.content.proofs.entry.section_of.Statement.{statement}
 use Rattle.content.proofs.entry.section_of.Tie as tie
-use Rattle.content.proofs.entry.section_of.Reads as reads
-use Rattle.content.proofs.entry.section_of.Lts as lts
 
--- src/entry.rt:48:27
 enum-told : tie.Need-enum-told
 enum-told c = search needs
 
--- src/entry.rt:49:30
 enum-told-2 : tie.Need-enum-told-2
 enum-told-2 c = search needs
 
--- src/entry.rt:50:32
 enum-told-3 : tie.Need-enum-told-3
 enum-told-3 c = search needs
 
--- src/entry.rt:51:27
 enum-told-4 : tie.Need-enum-told-4
 enum-told-4 c = search needs
 
--- src/entry.rt:52:28
 enum-told-5 : tie.Need-enum-told-5
 enum-told-5 c = search needs
 
--- src/entry.rt:53:37
 enum-told-6 : tie.Need-enum-told-6
 enum-told-6 c = search needs
 
--- src/entry.rt:54:26
 enum-told-7 : tie.Need-enum-told-7
 enum-told-7 c = search needs
 
--- src/entry.rt:55:35
 enum-told-8 : tie.Need-enum-told-8
 enum-told-8 c = search needs
 
--- src/entry.rt:56:32
 enum-told-9 : tie.Need-enum-told-9
 enum-told-9 c = search needs
 
--- src/entry.rt:57:35
 enum-told-10 : tie.Need-enum-told-10
 enum-told-10 c = search needs
 
--- src/entry.rt:58:36
 enum-told-11 : tie.Need-enum-told-11
 enum-told-11 c = search needs
 
--- src/entry.rt:59:28
 enum-told-12 : tie.Need-enum-told-12
 enum-told-12 c = search needs
 
--- src/entry.rt:60:30
 enum-told-13 : tie.Need-enum-told-13
 enum-told-13 c = search needs
 
--- src/entry.rt:61:39
 enum-told-14 : tie.Need-enum-told-14
 enum-told-14 c = search needs
 
--- src/entry.rt:62:33
 enum-told-15 : tie.Need-enum-told-15
 enum-told-15 c = search needs
 
--- src/entry.rt:63:30
 enum-told-16 : tie.Need-enum-told-16
 enum-told-16 c = search needs
 
--- src/entry.rt:64:39
 enum-told-17 : tie.Need-enum-told-17
 enum-told-17 c = search needs
 
--- src/entry.rt:44:1
 returns : tie.Need-returns
-returns c = search (is-section, refl) depth 8
+returns c = search is-section
 
--- src/entry.rt:44:1
 returns-2 : tie.Need-returns-2
-returns-2 c = search (is-section, refl) depth 8
+returns-2 c = search is-section
 
--- src/entry.rt:44:1
 returns-3 : tie.Need-returns-3
-returns-3 c = search (is-section, refl) depth 8
+returns-3 c = search is-section
 
--- src/entry.rt:44:1
 returns-4 : tie.Need-returns-4
-returns-4 c = search (is-section, refl) depth 8
+returns-4 c = search is-section
 
--- src/entry.rt:44:1
 returns-5 : tie.Need-returns-5
-returns-5 c = search (is-section, refl) depth 8
+returns-5 c = search is-section
 
--- src/entry.rt:44:1
 returns-6 : tie.Need-returns-6
-returns-6 c = search (is-section, refl) depth 8
+returns-6 c = search is-section
 
--- src/entry.rt:44:1
 returns-7 : tie.Need-returns-7
-returns-7 c = search (is-section, refl) depth 8
+returns-7 c = search is-section
 
--- src/entry.rt:44:1
 returns-8 : tie.Need-returns-8
-returns-8 c = search (is-section, refl) depth 8
+returns-8 c = search is-section
 
--- src/entry.rt:44:1
 returns-9 : tie.Need-returns-9
-returns-9 c = search (is-section, refl) depth 8
+returns-9 c = search is-section
 
--- src/entry.rt:44:1
 returns-10 : tie.Need-returns-10
-returns-10 c = search (is-section, refl) depth 8
+returns-10 c = search is-section
 
--- src/entry.rt:44:1
 returns-11 : tie.Need-returns-11
-returns-11 c = search (is-section, refl) depth 8
+returns-11 c = search is-section
 
--- src/entry.rt:44:1
 returns-12 : tie.Need-returns-12
-returns-12 c = search (is-section, refl) depth 8
+returns-12 c = search is-section
 
--- src/entry.rt:44:1
 returns-13 : tie.Need-returns-13
-returns-13 c = search (is-section, refl) depth 8
+returns-13 c = search is-section
 
--- src/entry.rt:44:1
 returns-14 : tie.Need-returns-14
-returns-14 c = search (is-section, refl) depth 8
+returns-14 c = search is-section
 
--- src/entry.rt:44:1
 returns-15 : tie.Need-returns-15
-returns-15 c = search (is-section, refl) depth 8
+returns-15 c = search is-section
 
--- src/entry.rt:44:1
 returns-16 : tie.Need-returns-16
-returns-16 c = search (is-section, refl) depth 8
+returns-16 c = search is-section
 
--- src/entry.rt:44:1
 returns-17 : tie.Need-returns-17
-returns-17 c = search (is-section, refl) depth 8
+returns-17 c = search is-section
 
 pub section-of-spec : {M : Type 1} → statement M
 section-of-spec =

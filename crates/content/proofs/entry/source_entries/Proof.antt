@@ -2,92 +2,64 @@ use Rattle.content.proofs.Threes.{source-own, source-imported, source-t
 use borrow.Author.Needs.{needs}
 use Rattle.content.proofs.entry.source_entries.Statement.{statement}
 use Rattle.content.proofs.entry.source_entries.Tie as tie
-use Rattle.content.proofs.entry.source_entries.Reads as reads
-use Rattle.content.proofs.entry.source_entries.Lts as lts
-use Rattle.content.proofs.entry.exports_of.Reads as exports-of-reads
-use Rattle.content.proofs.entry.extern_space.Reads as extern-space-reads
-use Rattle.content.proofs.entry.own_entries.Reads as own-entries-reads
-use Rattle.content.proofs.entry.own_space.Reads as own-space-reads
-use Rattle.content.proofs.entry.together.Reads as together-reads
-use Rattle.sources.proofs.seen.count_of.Reads as count-of-reads
 
--- src/entry.rt:134:21
 enum-known-x : tie.Need-enum-known-x
 enum-known-x c = search needs
 
--- src/entry.rt:134:59
 own-space-requires : tie.Need-own-space-requires
 own-space-requires c κs = search needs
 
--- src/entry.rt:134:39
 exports-of-requires : tie.Need-exports-of-requires
 exports-of-requires c κs = search needs
 
--- src/entry.rt:134:27
 own-entries-requires : tie.Need-own-entries-requires
 own-entries-requires c κs = search needs
 
--- src/entry.rt:135:26
 enum-known-x-2 : tie.Need-enum-known-x-2
 enum-known-x-2 c = search needs
 
--- src/entry.rt:135:64
 extern-space-requires : tie.Need-extern-space-requires
 extern-space-requires c κs = search needs
 
--- src/entry.rt:135:44
 exports-of-requires-2 : tie.Need-exports-of-requires-2
 exports-of-requires-2 c κs = search needs
 
--- src/entry.rt:135:35
 together-requires : tie.Need-together-requires
 together-requires c κs = search needs
 
--- src/entry.rt:136:25
 enum-known-x-3 : tie.Need-enum-known-x-3
 enum-known-x-3 c = search needs
 
--- src/entry.rt:136:44
 exports-of-requires-3 : tie.Need-exports-of-requires-3
 exports-of-requires-3 c κs = search needs
 
--- src/entry.rt:136:107
 count-of-requires : tie.Need-count-of-requires
 count-of-requires c κs = search needs
 
--- src/entry.rt:136:35
 together-requires-2 : tie.Need-together-requires-2
 together-requires-2 c κs = search needs
 
--- src/entry.rt:137:23
 enum-known-x-4 : tie.Need-enum-known-x-4
 enum-known-x-4 c = search needs
 
--- src/entry.rt:137:41
 exports-of-requires-4 : tie.Need-exports-of-requires-4
 exports-of-requires-4 c κs = search needs
 
--- src/entry.rt:137:102
 count-of-requires-2 : tie.Need-count-of-requires-2
 count-of-requires-2 c κs = search needs
 
--- src/entry.rt:137:32
 together-requires-3 : tie.Need-together-requires-3
 together-requires-3 c κs = search needs
 
--- src/entry.rt:130:1
 returns : tie.Need-returns
 returns c = search (source-own, source-imported, source-table, source-mem) depth 8
 
--- src/entry.rt:130:1
 returns-2 : tie.Need-returns-2
 returns-2 c = search (source-own, source-imported, source-table, source-mem) depth 8
 
--- src/entry.rt:130:1
 returns-3 : tie.Need-returns-3
 returns-3 c = search (source-own, source-imported, source-table, source-mem) depth 8
 
--- src/entry.rt:130:1
 returns-4 : tie.Need-returns-4
 returns-4 c = search (source-own, source-imported, source-table, source-mem) depth 8
 
