@@ -39,7 +39,8 @@ use Rattle.fields.specs.declared.field.Field.the-variants as F
 use Rattle.walk.specs.Walk.{bodyFrom, bodyIn, fieldsHere}
 use Rattle.walk.specs.declared.Cursor.{Cursor}
 use Rattle.entries.specs.Entry.{entryOf, exportEntries}
-use Rattle.content.specs.Entry.{oneOf, typeBytes, codeOf, funcField, answerOf, Entries, entriesOf, tagged, both, entryIn, threeIn, threeOf, three, ownThree, externSpaceOf, ownSpaceOf}
+use Rattle.content.specs.Entry.{oneOf, typeBytes, answerOf, Entries, entriesOf, tagged, both, entryIn, threeIn, threeOf, three, ownThree, externSpaceOf, ownSpaceOf}
+use Rattle.function.specs.Function.{codeOf, funcField}
 use Rattle.content.specs.declared.entry.Entry.{Entry}
 use Rattle.content.specs.declared.entry.Entry.the-variants as E
 

@@ -13,7 +13,7 @@ use Rattle.definition.specs.Deinline.{Numbered, exactly, pages, zeroOffset}
 use Rattle.definition.specs.Types as Types
 use Rattle.definition.specs.Types.{Uses, usedAt}
 use Rattle.definition.specs.Names.{Scope, typeNo, resolve, resolveAll}
-use Rattle.definition.specs.Binary.{u, funcType, limits, tableType, func-code, entries}
+use Rattle.definition.specs.Binary.{u, funcType, limits, tableType, entries}
 use Rattle.token.specs.Views.{partOf, indexOf, spaceOf}
 use Rattle.coretypes.specs.Views.{limitsIs, tableTypeIs, globalTypeIs}
 use Rattle.typeuse.specs.Views.{listOf, useOf}
@@ -36,6 +36,7 @@ use Rattle.fields.specs.declared.field.Field.{Field}
 use Rattle.fields.specs.declared.field.Field.the-variants as F
 use Rattle.walk.specs.Walk.{bodyFrom}
 use Rattle.entries.specs.Entry.{entryOf, exportEntries}
+use Rattle.function.specs.Function.{codeOf, funcField}
 use Rattle.content.specs.declared.entry.Entry.{Entry}
 use Rattle.content.specs.declared.entry.Entry.the-variants as E
 use Rattle.content.specs.declared.entry.Three.{Three}
@@ -66,25 +67,9 @@ unfoldable pub oneOf : {A : Type 0} → (A → Bytes) → Answer A → Answer (L
 oneOf bytes (ok a) = ok (bytes a ∷ [])
 oneOf bytes (refused n r) = refused n r
 
--- a function's type, and its code
+-- a function's type
 unfoldable pub typeBytes : Syntax.TypeNo → Bytes
 typeBytes n = u (n .type-no)
-
-abbrev pub codeOf : Item → Bytes
-codeOf (Syntax.typeI t) = []
-codeOf (Syntax.importI n d) = []
-codeOf (Syntax.funcI n ls os) = func-code ls os
-codeOf (Syntax.tableI t) = []
-codeOf (Syntax.memI l) = []
-codeOf (Syntax.globalI t o) = []
-codeOf (Syntax.exportI n k x) = []
-codeOf (Syntax.startI x) = []
-codeOf (Syntax.elemI m ns) = []
-codeOf (Syntax.dataI m d) = []
-
--- an own function whose body begins at `here`; `r` is its record
-unfoldable pub funcField : Bytes → ℕ → TypeUse → Code.List → ℕ → Syntax.Field Identifier
-funcField s r t ls here = Syntax.ownF none (Syntax.ownFunc (useOf s t) (listOf Token.param s ls)) (bodyFrom (4096 - (r + 1)) 0 s here)
 
 unfoldable pub answerOf : Scope Identifier → Bytes → ℕ → Entry → Answer (List Bytes)
 answerOf Γ s r E.Nothing = ok []

@@ -31,7 +31,7 @@ pub enum EndsAt {
 }
 
 // One entry, where there is one.
-fn one_end(r: Emitted) -> EndsAt
+pub fn one_end(r: Emitted) -> EndsAt
     ensures { λ q. ⌜ q ≡ oneEnd r ⌝ }
 {
     match r {
@@ -101,7 +101,7 @@ fn put_inline_mem(out: &mut [u8], at: usize, s: &[u8], is64: bool, bytes: Part) 
 }
 
 // An entry that needs no place of its own in the work area: any but a function's code.
-fn emit_other(out: &mut [u8], at: usize, s: &[u8], work: &[u32], e: Entry, rec: u32) -> EndsAt
+pub fn emit_other(out: &mut [u8], at: usize, s: &[u8], work: &[u32], e: Entry, rec: u32) -> EndsAt
     requires { ⌜ (16384 ≤ length (now work)) × Recalled (now work) (typesIn (now s) (now work)) (usesOf (now s) rec e) ⌝ }
     ensures { λ r. ⌜ Answers (otherAnswer (scopeIn (now (s .entry)) (now (work .entry))) (now (s .entry)) rec e) (now (out .entry)) at r (now (out .exit)) ⌝ }
 {

@@ -132,7 +132,7 @@ module _ (s w : List ℕ) (r : ℕ) (n : TypeNo) (t : TypeUse) (ls : Code.List) 
 
     -- the locals are set, and the code is emitted
     pub typed-to : (old : List ℕ) (at : ℕ) (z : Emitted) (w₂ new : List ℕ) → EmitsCode (sizedBytes s ls) (bodyAnswer s w₁ r here l) w₁ old at z w₂ new → EmitsTyped s w r n t ls here old at z w₂ new
-    unfolding Emits typedAnswer _>>=_ codeOf func-code sizedBytes codeBytes
+    unfolding Emits typedAnswer _>>=_ func-code sizedBytes codeBytes
     typed-to old at (E.To o) w₂ new y =
         let g = set .distinct in
         let e = body-set ∙ y .emits .is in

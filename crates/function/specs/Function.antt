@@ -25,7 +25,7 @@ use Rattle.scope.specs.Scope.{scopeIn, localsIn}
 use Rattle.scope.specs.declared.Locals.{Locals}
 
 -- the code of a function among its entries
-unfoldable pub codeOf : Item → Bytes
+abbrev pub codeOf : Item → Bytes
 codeOf (Syntax.typeI t) = []
 codeOf (Syntax.importI n d) = []
 codeOf (Syntax.funcI n ls os) = func-code ls os
