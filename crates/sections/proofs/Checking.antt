@@ -9,11 +9,18 @@ use Rattle.definition.specs.Binary.{joined}
 use native.Mathlib.Omega.{arith}
 use Rattle.emit.specs.Put.{Put, past}
 use Rattle.space.specs.Kept.{Kept}
-use Rattle.space.proofs.Kept.{kept-less}
-use Rattle.scope.proofs.Frames.{recalled-scope}
+use Rattle.space.proofs.Kept.{kept-less, kept-then}
+use Rattle.scope.specs.Scope.{scopeIn}
+use Rattle.scope.proofs.Frames.{recalled-scope, scope-kept}
 use Rattle.content.specs.declared.entry.Entry.{Entry}
-use Rattle.content.specs.Entry.{Entries, tagged, both, usesOf}
-use Rattle.sections.specs.Tally.{added, tallies, noTally, Twelve, Tallied, ChecksBy, Checks, Ready, AreaBy, ChecksIn}
+use Rattle.content.specs.Entry.{Entries, tagged, both, usesOf, sectionNo, answerOf, entryIn, threeIn}
+use Rattle.content.specs.Listed.{Listed, Answers}
+use Rattle.content.specs.declared.entry.Entry.the-variants as E
+use Rattle.content.specs.declared.entry.Three.{Three}
+use Rattle.content.specs.declared.emitters.EndsAt.{EndsAt}
+use Rattle.content.specs.declared.emitters.EndsAt.the-variants as A
+use Rattle.sections.specs.Emit.{EmitsEntry}
+use Rattle.sections.specs.Tally.{added, tallies, noTally, Twelve, Tallied, ChecksBy, Checks, Ready, ReadyThree, AreaBy, ChecksIn}
 use Rattle.sections.specs.declared.tally.Tally.{Tally}
 use Rattle.sections.specs.declared.tally.Verdict.{Verdict}
 use Rattle.sections.specs.declared.tally.Verdict.the-variants as V′
@@ -98,3 +105,98 @@ module _ {a : Answer Entries} {t : Tally} {w : List ℕ} {r : Checked} {w′ : L
 
 pub ready-kept : (s w w′ : List ℕ) (r : ℕ) (e : Entry) → Kept 11536 w w′ → Ready s w r e → Ready s w′ r e
 ready-kept s w w′ r e k h = record { recalled = recalled-scope s w w′ (usesOf s r e) (kept-less 11280 11536 (omega arith) k) (h .recalled); few = h .few }
+
+-- ## An entry
+
+section-small : (e : Entry) → sectionNo e < 12
+section-small E.Nothing = omega arith
+section-small (E.Type ps rs) = omega arith
+section-small (E.Import n x) = omega arith
+section-small (E.Func t) = omega arith
+section-small (E.Table t) = omega arith
+section-small (E.InlineTable w xs) = omega arith
+section-small (E.Mem l) = omega arith
+section-small (E.InlineMem w d) = omega arith
+section-small (E.Global t c) = omega arith
+section-small (E.Export n k x) = omega arith
+section-small (E.Exports es k n) = omega arith
+section-small (E.Start x) = omega arith
+section-small (E.Elem m xs) = omega arith
+section-small (E.InlineElem w n xs) = omega arith
+section-small (E.Code t ls here) = omega arith
+section-small (E.Data m d) = omega arith
+section-small (E.InlineData w n d) = omega arith
+
+pub section-below : (e : Entry) (k : ℕ) → k ≡ sectionNo e → k < 12
+section-below e k d = rw d (section-small e)
+
+module _ (s w : List ℕ) (r : ℕ) (e : Entry) (t : Tally) (old : List ℕ) (q : EndsAt) (w′ new : List ℕ) (h : EmitsEntry s w r e old 0 q w′ new) where
+  pub entry-fine : (k to n : ℕ) (t′ : Tally) → Twelve t → q ≡ A.Ends to n → k ≡ sectionNo e → t′ ≡ added t k to n
+      → ChecksIn (entryIn (scopeIn s w) s r e) t w (record { tally = t′; verdict = V′.Fine }) w′
+  unfolding Answers entryIn
+  entry-fine k to n t′ y d g z =
+      let a : Listed (answerOf (scopeIn s w) s r e) old 0 to n new = (let b = h .answers in rw d at b) in
+      let b : Kept 11536 w w′ = (let c = h .area in rw d at c) in
+      rw z (checks-fine _ t _ w w′ (rw g (tallied-one t (sectionNo e) to n (answerOf (scopeIn s w) s r e) (a .entries) old new (section-small e) y (a .is) (a .put) (a .number))) b)
+
+  pub entry-not : (n z : ℕ) → q ≡ A.Refused n z → ChecksIn (entryIn (scopeIn s w) s r e) t w (record { tally = t; verdict = V′.Refused n z }) w′
+  unfolding Answers entryIn
+  entry-not n z d = checks-not _ t t w w′ n z (refused-one (sectionNo e) n z (answerOf (scopeIn s w) s r e) (let b = h .answers in rw d at b)) (let c = h .area in rw d at c)
+
+-- ## One entry after another
+
+module _ (A B : Answer Entries) (t : Tally) (w : List ℕ) (a : Checked) (w₁ : List ℕ) (x : ChecksIn A t w a w₁) where
+  then-by : (b : Tally) (v : Verdict) (w₂ : List ℕ) → a .verdict ≡ V′.Fine → ChecksIn B (a .tally) w₁ (record { tally = b; verdict = v }) w₂ → ChecksIn (both A B) t w (record { tally = b; verdict = v }) w₂
+  unfolding Checks
+  then-by b V′.Fine w₂ d y = checks-fine (both A B) t b w w₂ (tallied-both A B t (a .tally) b (was-fine x d) (y .says)) (kept-then (fine-kept x d) (y .area))
+  then-by b (V′.Refused n q) w₂ d y = checks-not (both A B) t b w w₂ n q (refused-second A B t (a .tally) n q (was-fine x d) (y .says)) (y .area ∙ fine-kept x d .long)
+
+  stops-by : (b : Tally) (n q : ℕ) → a .verdict ≡ V′.Refused n q → ChecksIn (both A B) t w (record { tally = b; verdict = V′.Refused n q }) w₁
+  stops-by b n q d = checks-not (both A B) t b w w₁ n q (refused-first A B n q (was-not x n q d)) (not-long x n q d)
+
+-- the scope after what was written
+scope-same : (s w w′ : List ℕ) → Kept 11536 w w′ → scopeIn s w′ ≡ scopeIn s w
+scope-same s w w′ k = scope-kept s w w′ (kept-less 11280 11536 (omega arith) k)
+
+module _ (s w : List ℕ) (r : ℕ) (t : Tally) (e : Entry) (a : Checked) (w₁ : List ℕ) (x : ChecksIn (entryIn (scopeIn s w) s r e) t w a w₁) (v : Verdict) (g : v ≡ a .verdict) where
+  pub after-ready : (f : Entry) → v ≡ V′.Fine → Ready s w r f → Ready s w₁ r f
+  after-ready f d h = ready-kept s w w₁ r f (fine-kept x (sym g ∙ d)) h
+
+  pub after-twelve : v ≡ V′.Fine → Twelve t → Twelve (a .tally)
+  after-twelve d h = tallied-twelve (was-fine x (sym g ∙ d)) h
+
+  -- two entries
+  pub two-then : (f : Entry) (z : Checked) (w₂ : List ℕ) → v ≡ V′.Fine → ChecksIn (entryIn (scopeIn s w₁) s r f) (a .tally) w₁ z w₂
+      → ChecksIn (both (entryIn (scopeIn s w) s r e) (entryIn (scopeIn s w) s r f)) t w z w₂
+  two-then f z w₂ d y =
+      then-by (entryIn (scopeIn s w) s r e) (entryIn (scopeIn s w) s r f) t w a w₁ x (z .tally) (z .verdict) w₂ (sym g ∙ d)
+      (let k = scope-same s w w₁ (fine-kept x (sym g ∙ d)) in rw k at y)
+
+  pub two-not : (f : Entry) (n q : ℕ) → v ≡ V′.Refused n q → ChecksIn (both (entryIn (scopeIn s w) s r e) (entryIn (scopeIn s w) s r f)) t w (record { tally = a .tally; verdict = V′.Refused n q }) w₁
+  two-not f n q d = stops-by (entryIn (scopeIn s w) s r e) (entryIn (scopeIn s w) s r f) t w a w₁ x (a .tally) n q (sym g ∙ d)
+
+module _ (s w : List ℕ) (r : ℕ) (t : Tally) (y : Three) (a : Checked) (w₁ : List ℕ) (x : ChecksIn (entryIn (scopeIn s w) s r (y .first)) t w a w₁) (v : Verdict) (g : v ≡ a .verdict) where
+  -- all three
+  pub three-then : (z : Checked) (w₂ : List ℕ) → v ≡ V′.Fine
+      → ChecksIn (both (entryIn (scopeIn s w₁) s r (y .second)) (entryIn (scopeIn s w₁) s r (y .third))) (a .tally) w₁ z w₂ → ChecksIn (threeIn (scopeIn s w) s r y) t w z w₂
+  unfolding threeIn
+  three-then z w₂ d h =
+      then-by (entryIn (scopeIn s w) s r (y .first)) (both (entryIn (scopeIn s w) s r (y .second)) (entryIn (scopeIn s w) s r (y .third))) t w a w₁ x (z .tally) (z .verdict) w₂ (sym g ∙ d)
+      (let k = scope-same s w w₁ (fine-kept x (sym g ∙ d)) in rw k at h)
+
+  pub three-not : (n q : ℕ) → v ≡ V′.Refused n q → ChecksIn (threeIn (scopeIn s w) s r y) t w (record { tally = a .tally; verdict = V′.Refused n q }) w₁
+  unfolding threeIn
+  three-not n q d = stops-by (entryIn (scopeIn s w) s r (y .first)) (both (entryIn (scopeIn s w) s r (y .second)) (entryIn (scopeIn s w) s r (y .third))) t w a w₁ x (a .tally) n q (sym g ∙ d)
+
+module _ (s w : List ℕ) (r : ℕ) (y : Three) (h : ReadyThree s w r y) where
+  pub three-first : Ready s w r (y .first)
+  three-first = h .first
+
+  pub three-second : Ready s w r (y .second)
+  three-second = h .second
+
+  pub three-third : Ready s w r (y .third)
+  three-third = h .third
+
+pub long-after : (a : Answer Entries) (t : Tally) (w : List ℕ) (r : Checked) (w′ : List ℕ) → ChecksIn a t w r w′ → 16384 ≤ length w → 16384 ≤ length w′
+long-after a t w r w′ v h = rw (area-long v) h

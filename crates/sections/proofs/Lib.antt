@@ -1,3 +1,4 @@
 pub mod Tallies
 pub mod Checking
 pub mod Sweep
+pub mod Emitting

@@ -17,19 +17,20 @@ use Rattle.walk.specs.Walk.{begin, visitIn, visitOf, fieldsHere, fieldsAhead, f
 use Rattle.walk.specs.declared.Cursor.{Cursor}
 use Rattle.walk.specs.declared.Met.{Met}
 use Rattle.walk.specs.declared.What.the-variants as W
-use Rattle.walk.proofs.Steps.{visit-done, visit-fields, visit-ahead, ahead-kept}
+use Rattle.walk.proofs.Steps.{visit-done, visit-fields, visit-ahead, ahead-kept, visit-func-few, visit-few}
 use Rattle.types.proofs.Fields.{uses-append}
 use Rattle.scope.specs.Scope.{scopeIn, Recalled}
-use Rattle.scope.proofs.Frames.{scope-kept, recalled-left, recalled-right}
+use Rattle.scope.proofs.Frames.{scope-kept, recalled-left, recalled-right, recalled-scope}
 use Rattle.content.specs.Entry.{Entries, entriesOf, both, threeIn, three}
 use Rattle.content.specs.declared.entry.Three.{Three}
 use Rattle.content.proofs.Fields.{entries-append, entries-here}
-use Rattle.sections.specs.Tally.{tallies, noTally, Twelve, Tallied, ChecksIn}
+use Rattle.content.proofs.Uses.{recalled-here, few-here}
+use Rattle.sections.specs.Tally.{tallies, noTally, Twelve, Tallied, ReadyThree, ChecksIn}
 use Rattle.sections.specs.declared.tally.Tally.{Tally}
 use Rattle.sections.specs.declared.tally.Verdict.the-variants as V′
 use Rattle.sections.specs.declared.tally.Checked.{Checked}
 use Rattle.sections.proofs.Tallies.{tallies-append, tallies-twelve}
-use Rattle.sections.proofs.Checking.{was-fine, fine-kept, was-not, area-long}
+use Rattle.sections.proofs.Checking.{was-fine, fine-kept, was-not, area-long, checks-fine, checks-not}
 
 -- some entries before an answer's
 onto : (xs ys : Entries) (a b : Answer Entries) → a ≡ ok ys → both (ok xs) (both a b) ≡ both (ok (xs ++ ys)) b
@@ -103,6 +104,18 @@ module _ (s w₀ w : List ℕ) (c : Cursor) (t : Tally) (v : Sweeping s w₀ w c
       pub sweep-uses : Recalled w₀ (typesIn s w₀) (uses (fieldsHere c s (record { field = fieldOf s f; head-end = here; next = m .next })))
       sweep-uses = recalled-left w₀ (typesIn s w₀) _ (uses (fieldsAhead (m .next) s)) (rw uses-are at (v .recalled))
 
+      -- this field's entries are ready
+      pub sweep-ready : ReadyThree s w (c .rec) x
+      sweep-ready =
+          let k = kept-less 11280 11536 (omega arith) (v .kept) in
+          let a = recalled-here w₀ (typesIn s w₀) s c (m .next) f here sweep-uses in
+          let b = few-here s (c .seen) f here (λ i es t ls e. visit-func-few s c m told f here is i es t ls e) in
+          rw d (record {
+            first = record { recalled = recalled-scope s w₀ w _ k (a .first); few = b .first };
+            second = record { recalled = recalled-scope s w₀ w _ k (a .second); few = b .second };
+            third = record { recalled = recalled-scope s w₀ w _ k (a .third); few = b .third };
+          })
+
       module _ (r : Checked) (w′ : List ℕ) (h : ChecksIn (threeIn (scopeIn s w) s (c .rec) x) t w r w′) where
         -- a field that is fine
         pub sweep-again : r .verdict ≡ V′.Fine → Sweeping s w₀ w′ (m .next) (r .tally)
@@ -125,3 +138,14 @@ module _ (s w₀ w : List ℕ) (c : Cursor) (t : Tally) (v : Sweeping s w₀ w c
 
         pub sweep-length : length w′ ≡ length w₀
         sweep-length = area-long h ∙ v .kept .long
+
+-- ## What the code answers
+
+module _ (s w₀ w : List ℕ) (c : Cursor) (t : Tally) (v : Sweeping s w₀ w c t) (m : Met) (told : visitIn (c .left) c s ≡ visitOf s m) where
+  pub swept : m .what ≡ W.Done → ChecksIn (entriesOf (scopeIn s w₀) (fieldsIn s)) noTally w₀ (record { tally = t; verdict = V′.Fine }) w
+  swept is = checks-fine _ noTally t w₀ w (sweep-done s w₀ w c t v m told is) (v .kept)
+
+  pub stopped : (f : Code.Field) (here : ℕ) (is : m .what ≡ W.Field f here) (x : Three) (d : x ≡ three f (c .seen) here) (r : Checked) (w′ : List ℕ)
+      (h : ChecksIn (threeIn (scopeIn s w) s (c .rec) x) t w r w′) (n q : ℕ) → r .verdict ≡ V′.Refused n q
+      → ChecksIn (entriesOf (scopeIn s w₀) (fieldsIn s)) noTally w₀ (record { tally = r .tally; verdict = V′.Refused n q }) w′
+  stopped f here is x d r w′ h n q e = checks-not _ noTally (r .tally) w₀ w′ n q (sweep-stops s w₀ w c t v m told f here is x d r w′ h n q e) (sweep-length s w₀ w c t v m told f here is x d r w′ h)

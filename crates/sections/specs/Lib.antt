@@ -1,2 +1,3 @@
 pub mod Tally
 pub mod Content
+pub mod Emit

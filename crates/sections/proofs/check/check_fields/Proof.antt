@@ -1,0 +1,82 @@
+use Rattle.sections.proofs.Sweep.{Sweeping, sweep-begin, sweep-long, sweep-ahead, sweep-twelve, sweep-ready, sweep-again, sweep-length, swept, stopped}
+use Rattle.walk.proofs.Steps.{visit-less, visit-few}
+use borrow.Author.Needs.{needs}
+use Rattle.sections.proofs.check.check_fields.Statement.{statement}
+use Rattle.sections.proofs.check.check_fields.Tie as tie
+
+abbrev Inv-loop : tie.InvT-loop
+Inv-loop s work₀ c₀ t₀ work c t = Sweeping s work₀ work c t
+
+abbrev μ-loop : tie.MeasureT-loop
+μ-loop s work₀ c₀ t₀ work c t = c .left
+
+start-requires : tie.Need-start-requires Inv-loop μ-loop
+start-requires c κs = search needs
+
+no-tally-requires : tie.Need-no-tally-requires Inv-loop μ-loop
+no-tally-requires c κs = search needs
+
+loop-holds : tie.Need-loop-holds Inv-loop μ-loop
+loop-holds c = search sweep-begin
+
+visit-requires : tie.Need-visit-requires Inv-loop μ-loop
+visit-requires c κs = search sweep-ahead
+
+enum-known-what : tie.Need-enum-known-what Inv-loop μ-loop
+enum-known-what c = search needs
+
+entries-of-requires : tie.Need-entries-of-requires Inv-loop μ-loop
+entries-of-requires c κs = search needs
+
+check-three-requires : tie.Need-check-three-requires Inv-loop μ-loop
+check-three-requires c κs = (search needs, search sweep-long, search visit-few, search sweep-ready, search sweep-twelve)
+
+enum-told : tie.Need-enum-told Inv-loop μ-loop
+enum-told c = search needs
+
+loop-less : tie.Need-loop-less Inv-loop μ-loop
+loop-less c = search visit-less
+
+loop-again : tie.Need-loop-again Inv-loop μ-loop
+loop-again c = search sweep-again
+
+enum-known-v : tie.Need-enum-known-v Inv-loop μ-loop
+enum-known-v c = search needs
+
+same-length : tie.Need-same-length Inv-loop μ-loop
+same-length c = search sweep-length
+
+returns : tie.Need-returns Inv-loop μ-loop
+returns c = search stopped
+
+enum-told-2 : tie.Need-enum-told-2 Inv-loop μ-loop
+enum-told-2 c = search needs
+
+same-length-2 : tie.Need-same-length-2 Inv-loop μ-loop
+same-length-2 c = search needs
+
+returns-2 : tie.Need-returns-2 Inv-loop μ-loop
+returns-2 c = search swept
+
+pub check-fields-spec : {M : Type 1} → statement M
+check-fields-spec =
+    tie.close
+    (tie.spec
+    Inv-loop
+    μ-loop
+    start-requires
+    no-tally-requires
+    loop-holds
+    visit-requires
+    enum-known-what
+    entries-of-requires
+    check-three-requires
+    enum-told
+    loop-less
+    loop-again
+    enum-known-v
+    same-length
+    returns
+    enum-told-2
+    same-length-2
+    returns-2)

@@ -1,0 +1,41 @@
+use Rattle.sections.proofs.Checking.{after-ready, after-twelve, long-after, three-then, three-not, three-first, three-second, three-third}
+use borrow.Author.Needs.{needs}
+use Rattle.sections.proofs.check.check_three.Statement.{statement}
+use Rattle.sections.proofs.check.check_three.Tie as tie
+
+check-entry-requires : tie.Need-check-entry-requires
+check-entry-requires c κs = (search needs, search needs, search needs, search three-first, search needs)
+
+enum-told : tie.Need-enum-told
+enum-told c = search needs
+
+check-two-requires : tie.Need-check-two-requires
+check-two-requires c κs = (search needs, search long-after, search needs, search (after-ready, three-second), search (after-ready, three-third), search after-twelve)
+
+enum-known-v : tie.Need-enum-known-v
+enum-known-v c = search needs
+
+same-length : tie.Need-same-length
+same-length c = search needs
+
+returns : tie.Need-returns
+returns c = search three-then
+
+same-length-2 : tie.Need-same-length-2
+same-length-2 c = search needs
+
+returns-2 : tie.Need-returns-2
+returns-2 c = search three-not
+
+pub check-three-spec : {M : Type 1} → statement M
+check-three-spec =
+    tie.close
+    (tie.spec
+    check-entry-requires
+    enum-told
+    check-two-requires
+    enum-known-v
+    same-length
+    returns
+    same-length-2
+    returns-2)
