@@ -1,0 +1,7 @@
+pub mod Full
+pub mod Lengths
+pub mod Counting
+pub mod Tables
+pub mod Emitting
+pub mod Fields
+pub mod Sections

@@ -1,0 +1,280 @@
+-- A section: its entries, its content, its head; and all of them.
+use Prim.Native.Nat.{ℕ, zero, suc, _+_, _-_, _*_, _^_, _≤_, _<_, min, max}
+use mathlib.Core.Path.{_≡_, refl, sym, _∙_, ap}
+use mathlib.Core.Bool.{Bool, true, false}
+use mathlib.Core.List.{List, [], _∷_, _++_, map, append-assoc, append-nil}
+use lib.Dec.{eqb}
+use lib.ListN.{length, drop, getD, length-append}
+use native.Mathlib.Decide.{decLe}
+use native.Mathlib.Omega.{arith}
+use borrow.Author.Tests.{eq-eqb, ne-eqb}
+use Rattle.definition.specs.Basic.{if_then_else_, Answer, ok, refused, concatMap, _>>=_}
+use Rattle.definition.specs.Syntax.{Bytes, FuncType, Item, typeI}
+use Rattle.definition.specs.Names.{resolveAll}
+use Rattle.definition.specs.Binary.{u, sized, funcType, entries, inSection, joined, content, sectionOf, section, preamble, sections, module′}
+use Rattle.emit.specs.Put.{Put, past}
+use Rattle.emit.proofs.Laws.{put-none, put-then, put-cons, put-is, put-skip}
+use Rattle.space.specs.Kept.{Kept}
+use Rattle.space.proofs.Kept.{kept-same, kept-then, kept-less}
+use Rattle.signatures.specs.Table.{typesIn}
+use Rattle.walk.specs.Walk.{begin, fieldsIn}
+use Rattle.walk.proofs.Steps.{ahead-kept}
+use Rattle.scope.specs.Scope.{scopeIn}
+use Rattle.content.specs.Entry.{Entries, entriesOf}
+use Rattle.sections.specs.Tally.{tallies, noTally}
+use Rattle.sections.specs.Content.{Fine, kept, bytesIn, typeEntries}
+use Rattle.sections.specs.declared.tally.Tally.{Tally}
+use Rattle.module.specs.Length.{Counted, contentLen, moduleLen, sectionsFrom}
+use Rattle.module.specs.Added.{typeBytes}
+use Rattle.module.specs.Write.{Writes, Writable, Counts, allEntries, addedIn, keptItems, moduleItems}
+use Rattle.module.proofs.Full.{in-append, joined-append, good-items}
+use Rattle.module.proofs.Lengths.{size-of, count-of, content-long, module-is, module-long}
+use Rattle.module.proofs.Emitting.{scope-same, types-same, recalled-same}
+
+-- ## The added types
+
+types-first : (ts : List FuncType) → typeBytes ts ≡ joined (inSection 1 (typeEntries ts))
+unfolding typeBytes typeEntries inSection joined concatMap
+types-first [] = refl
+types-first (t ∷ ts) = ap (λ (z : Bytes). funcType t ++ z) (types-first ts)
+
+types-other : (k : ℕ) (ts : List FuncType) → eqb k 1 ≡ false → [] ≡ joined (inSection k (typeEntries ts))
+unfolding typeEntries inSection joined concatMap
+types-other k [] e = refl
+types-other k (t ∷ ts) e = rw e (types-other k ts e)
+
+module _ (k declared : ℕ) (s w old : List ℕ) (at : ℕ) where
+  pub added-put : (r : ℕ) (new : Bytes) → k ≡ 1 → Put old at (typeBytes (drop declared (typesIn s w))) r new → Put old at (addedIn k declared s w) r new
+  unfolding addedIn
+  added-put r new h p = rw h (put-is p (types-first (drop declared (typesIn s w))))
+
+  pub added-none : (k ≡ 1 → ⊥) → length old * 1 < 2 ^ 63 → Put old at (addedIn k declared s w) at old
+  unfolding addedIn
+  added-none h g = put-skip g (types-other k (drop declared (typesIn s w)) (ne-eqb k 1 h))
+
+-- ## The work area
+
+-- all entries are as they were
+pub all-same : (declared : ℕ) (s w w′ : List ℕ) → Kept 11536 w w′ → allEntries declared s w′ ≡ allEntries declared s w
+unfolding allEntries
+all-same declared s w w′ k = rw (scope-same s w w′ k, types-same s w w′ k) refl
+
+pub writable-same : (s w w′ : List ℕ) → Kept 11536 w w′ → Writable s w → Writable s w′
+writable-same s w w′ k v =
+    let d = scope-same s w w′ k in
+    record {
+      stream = v .stream;
+      room = rw (k .long) (v .room);
+      ahead = ahead-kept s w w′ begin (kept-less 520 11536 (omega arith) k) (v .ahead);
+      recalled = recalled-same s w w′ _ k (v .recalled);
+      fine = rw d (v .fine);
+    }
+
+-- ## The content
+
+module _ (k declared : ℕ) (s w w′ old : List ℕ) (at : ℕ) where
+  pub area-room : (bs new : Bytes) (a : ℕ) → Writable s w → Writes bs old at a new w w′ → 16384 ≤ length w′
+  area-room bs new a v p = rw (p .area .long) (v .room)
+
+  -- those of the fields, and those of the added types
+  pub entries-put : (mid new : Bytes) (a b : ℕ) → Writes (bytesIn k (entriesOf (scopeIn s w) (fieldsIn s))) old at a mid w w′ → Put mid a (addedIn k declared s w′) b new
+      → Writes (joined (inSection k (allEntries declared s w))) old at b new w w′
+  unfolding allEntries bytesIn addedIn
+  entries-put mid new a b p q =
+      let d = types-same s w w′ (p .area) in
+      let es = kept (entriesOf (scopeIn s w) (fieldsIn s)) in
+      let ts = typeEntries (drop declared (typesIn s w)) in
+      let q′ : Put mid a (joined (inSection k ts)) b new = put-is q (rw d refl) in
+      record {
+        put = put-is (put-then (p .put) q′) (sym (joined-append (inSection k es) (inSection k ts)) ∙ ap joined (sym (in-append k es ts)));
+        area = p .area;
+      }
+
+  pub content-start : (r : ℕ) (new : Bytes) → k ≡ 8 → Writes (joined (inSection k (allEntries declared s w))) old at r new w w′
+      → Writes (content k (inSection k (allEntries declared s w))) old at r new w w′
+  unfolding content
+  content-start r new h p = rw (eq-eqb k 8 h) p
+
+-- where the count saturates, so does the place
+over : (at x y l r q : ℕ) → r ≡ past at x → q ≡ past r y → 2 ^ 63 ≤ y → q ≡ past at (l + y)
+unfolding past
+over at x y l r q e f h = omega arith
+
+counted-put : (es : List Bytes) {a b c : Bytes} {n at r q : ℕ} → length es ≤ length (joined es) → n ≡ past 0 (length es) → Put a at (u n) r b → Put b r (joined es) q c
+    → Put a at (u (length es) ++ joined es) q c
+unfolding past
+counted-put es {a} {b} {c} {n} {at} {r} {q} s m x y = go (decLe (2 ^ 63) (length es))
+  where
+    go : Dec (2 ^ 63 ≤ length es) → Put a at (u (length es) ++ joined es) q c
+    go (no h) = let e : n ≡ length es = omega (arith, m) in rw (← e) (put-then x y)
+    go (yes h) = record {
+      place = rw (length-append (u (length es)) (joined es)) (over at (length (u n)) (length (joined es)) (length (u (length es))) r q (x .place) (y .place) (omega arith));
+      bytes = λ g. absurd (omega (arith, length-append (u (length es)) (joined es)));
+      long = y .long ∙ x .long;
+      short = x .short;
+    }
+
+module _ (k declared : ℕ) (s w w′ old : List ℕ) (at : ℕ) where
+  pub content-counted : (n r q : ℕ) (mid new : Bytes) → (k ≡ 8 → ⊥) → Counts n k (allEntries declared s w) → Put old at (u n) r mid
+      → Writes (joined (inSection k (allEntries declared s w))) mid r q new w w′ → Writes (content k (inSection k (allEntries declared s w))) old at q new w w′
+  unfolding content
+  content-counted n r q mid new h c x p = rw (ne-eqb k 8 h) (record {
+    put = counted-put (inSection k (allEntries declared s w)) (c .few) (c .number) x (p .put);
+    area = p .area;
+  })
+
+-- ## One section
+
+suc-plus : (m n : ℕ) → suc m + n ≡ suc (m + n)
+suc-plus m n = omega arith
+
+-- bytes after the number of their section and their length, where it may have saturated
+headed-put : (k : ℕ) {a b c bs : Bytes} {n at r q : ℕ} → n ≡ past 0 (length bs) → Put a at (k ∷ u n) r b → Put b r bs q c → Put a at (k ∷ sized bs) q c
+unfolding past sized
+headed-put k {a} {b} {c} {bs} {n} {at} {r} {q} m x y = go (decLe (2 ^ 63) (length bs))
+  where
+    go : Dec (2 ^ 63 ≤ length bs) → Put a at (k ∷ u (length bs) ++ bs) q c
+    go (no h) = let e : n ≡ length bs = omega (arith, m) in rw (← e) (put-then x y)
+    go (yes h) = record {
+      place = rw (length-append (u (length bs)) bs) (over at (suc (length (u n))) (length bs) (suc (length (u (length bs)))) r q (x .place) (y .place) (omega arith) ∙ ap (past at) (suc-plus (length (u (length bs))) (length bs)));
+      bytes = λ g. absurd (omega (arith, length-append (u (length bs)) bs));
+      long = y .long ∙ x .long;
+      short = x .short;
+    }
+
+past-none : past 0 0 ≡ 0
+unfolding past
+past-none = omega arith
+
+past-some : (n : ℕ) → past 0 (suc n) ≡ 0 → ⊥
+unfolding past
+past-some n e = omega arith
+
+module _ (t : Tally) (es : Entries) (c : Counted t es) (k : ℕ) (h : k < 12) where
+  pub counts-are : Counts (getD (t .counts) k 0) k es
+  counts-are = record { number = count-of c k h; few = c .good .each k }
+
+  pub section-none : (old : Bytes) (at : ℕ) (w : List ℕ) → getD (t .counts) k 0 ≡ 0 → length old * 1 < 2 ^ 63 → Writes (section es k) old at at old w w
+  unfolding section
+  section-none old at w z g = go (inSection k es) (count-of c k h)
+    where
+      go : (bs : List Bytes) → getD (t .counts) k 0 ≡ past 0 (length bs) → Writes (sectionOf k bs) old at at old w w
+      go [] e = record { put = put-none at (omega arith); area = kept-same 11536 w }
+      go (b ∷ bs) e = absurd (past-some (length bs) (sym e ∙ z))
+
+  pub section-some : (n a q : ℕ) (old mid new : Bytes) (at : ℕ) (w w′ : List ℕ) → (getD (t .counts) k 0 ≡ 0 → ⊥) → n ≡ contentLen k (getD (t .sizes) k 0) (getD (t .counts) k 0)
+      → Put old at (k ∷ u n) a mid → Writes (content k (inSection k es)) mid a q new w w′ → Writes (section es k) old at q new w w′
+  unfolding section
+  section-some n a q old mid new at w w′ z d x p =
+      go (inSection k es) (count-of c k h) (d ∙ content-long k _ _ (inSection k es) (c .good .each k) (size-of c k h) (count-of c k h)) (p .put)
+    where
+      go : (bs : List Bytes) → getD (t .counts) k 0 ≡ past 0 (length bs) → n ≡ past 0 (length (content k bs)) → Put mid a (content k bs) q new → Writes (sectionOf k bs) old at q new w w′
+      go [] e m y = absurd (z (e ∙ past-none))
+      go (b ∷ bs) e m y = record { put = headed-put k m x y; area = p .area }
+
+-- ## All sections
+
+-- those before section k are put
+pub record Sectioning (t : Tally) (declared : ℕ) (s w₀ old : List ℕ) (at left k o : ℕ) (out w : List ℕ) : Type 0 where
+  pub sum : left + k ≡ 12
+  pub writable : Writable s w
+  pub counted : Counted t (allEntries declared s w)
+  pub area : Kept 11536 w₀ w
+  pub done : Bytes
+  pub so-far : Put old at done o out
+  pub same : done ++ sectionsFrom left k (allEntries declared s w) ≡ sectionsFrom 11 1 (allEntries declared s w₀)
+
+pub sections-begin : (t : Tally) (declared : ℕ) (s w old : List ℕ) (at : ℕ) → Writable s w → Counted t (allEntries declared s w) → length old * 1 < 2 ^ 63
+    → Sectioning t declared s w old at 11 1 at old w
+sections-begin t declared s w old at v c h = record {
+  sum = omega arith;
+  writable = v;
+  counted = c;
+  area = kept-same 11536 w;
+  done = [];
+  so-far = put-none at (omega arith);
+  same = refl;
+}
+
+module _ (t : Tally) (declared : ℕ) (s w₀ old : List ℕ) (at left k o : ℕ) (out w : List ℕ) (v : Sectioning t declared s w₀ old at left k o out w) where
+  pub sections-again : (r : ℕ) (new w′ : List ℕ) → 0 < left → Writes (section (allEntries declared s w) k) out o r new w w′
+      → Sectioning t declared s w₀ old at (left - 1) (k + 1) r new w′
+  unfolding sectionsFrom
+  sections-again r new w′ h p = go left h (v .sum) (v .same)
+    where
+      go : (n : ℕ) → 0 < n → n + k ≡ 12 → v .done ++ sectionsFrom n k (allEntries declared s w) ≡ sectionsFrom 11 1 (allEntries declared s w₀)
+          → Sectioning t declared s w₀ old at (n - 1) (k + 1) r new w′
+      go zero h d e = absurd (omega arith)
+      go (suc n) h d e =
+          let m : suc n - 1 ≡ n = omega arith in
+          let z = all-same declared s w w′ (p .area) in
+          rw m (record {
+            sum = omega arith;
+            writable = writable-same s w w′ (p .area) (v .writable);
+            counted = rw z (v .counted);
+            area = kept-then (v .area) (p .area);
+            done = v .done ++ section (allEntries declared s w) k;
+            so-far = put-then (v .so-far) (p .put);
+            same = rw z (append-assoc (v .done) (section (allEntries declared s w) k) (sectionsFrom n (k + 1) (allEntries declared s w)) ∙ e);
+          })
+
+  pub sections-done : left ≤ 0 → Writes (sectionsFrom 11 1 (allEntries declared s w₀)) old at o out w₀ w
+  unfolding sectionsFrom
+  sections-done h = go left h (v .same)
+    where
+      go : (n : ℕ) → n ≤ 0 → v .done ++ sectionsFrom n k (allEntries declared s w) ≡ sectionsFrom 11 1 (allEntries declared s w₀)
+          → Writes (sectionsFrom 11 1 (allEntries declared s w₀)) old at o out w₀ w
+      go zero h e = record { put = put-is (v .so-far) (sym (append-nil (v .done)) ∙ e); area = v .area }
+      go (suc n) h e = absurd (omega arith)
+
+  pub sections-long : length out ≡ length old
+  sections-long = v .so-far .long
+
+  pub sections-area : length w ≡ length w₀
+  sections-area = v .area .long
+
+  pub sections-few : 0 < left → k < 12
+  sections-few h = omega (arith, v .sum)
+
+-- ## The module
+
+concat-append : (is js : List Item) → concatMap entries (is ++ js) ≡ concatMap entries is ++ concatMap entries js
+unfolding concatMap
+concat-append [] js = refl
+concat-append (i ∷ is) js = ap (λ (z : Entries). entries i ++ z) (concat-append is js) ∙ sym (append-assoc (entries i) (concatMap entries is) (concatMap entries js))
+
+type-items : (ts : List FuncType) → concatMap entries (map typeI ts) ≡ typeEntries ts
+unfolding concatMap entries typeEntries
+type-items [] = refl
+type-items (t ∷ ts) = ap (λ (z : Entries). (1, funcType t) ∷ z) (type-items ts)
+
+field-items : (declared : ℕ) (s w : List ℕ) → kept (entriesOf (scopeIn s w) (fieldsIn s)) ≡ concatMap entries (keptItems (resolveAll (scopeIn s w) (fieldsIn s)))
+unfolding entriesOf _>>=_
+field-items declared s w = go (resolveAll (scopeIn s w) (fieldsIn s))
+  where
+    go : (a : Answer (List Item)) → kept (a >>= λ is. ok (concatMap entries is)) ≡ concatMap entries (keptItems a)
+    go (ok is) = refl
+    go (refused n r) = unfold concatMap in refl
+
+-- all entries are those of the module's items
+pub items-are : (declared : ℕ) (s w : List ℕ) → allEntries declared s w ≡ concatMap entries (moduleItems declared s w)
+unfolding allEntries moduleItems
+items-are declared s w =
+    let ts = drop declared (typesIn s w) in
+    ap (λ (z : Entries). z ++ typeEntries ts) (field-items declared s w)
+    ∙ ap (λ (z : Entries). concatMap entries (keptItems (resolveAll (scopeIn s w) (fieldsIn s))) ++ z) (sym (type-items ts))
+    ∙ sym (concat-append (keptItems (resolveAll (scopeIn s w) (fieldsIn s))) (map typeI ts))
+
+pub counted-all : (t : Tally) (declared : ℕ) (s w : List ℕ) → t ≡ tallies noTally (allEntries declared s w) → Counted t (allEntries declared s w)
+counted-all t declared s w e = record { tally = e; good = rw (items-are declared s w) (good-items (moduleItems declared s w)) }
+
+pub module-put : (declared : ℕ) (s w w′ old mid new : List ℕ) (a q : ℕ) → Put old 0 preamble a mid → Writes (sectionsFrom 11 1 (allEntries declared s w)) mid a q new w w′
+    → Writes (module′ (moduleItems declared s w)) old 0 q new w w′
+module-put declared s w w′ old mid new a q x p = record {
+  put = put-is (put-then x (p .put)) (ap (λ es. preamble ++ sectionsFrom 11 1 es) (items-are declared s w) ∙ module-is (moduleItems declared s w));
+  area = p .area;
+}
+
+-- what the tally says of the module's length
+pub module-len-is : (t : Tally) (declared : ℕ) (s w : List ℕ) → t ≡ tallies noTally (allEntries declared s w) → moduleLen t ≡ past 0 (length (module′ (moduleItems declared s w)))
+module-len-is t declared s w e = module-long t (moduleItems declared s w) (rw (← items-are declared s w) e)

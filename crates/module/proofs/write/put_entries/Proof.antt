@@ -1,0 +1,23 @@
+use Rattle.module.proofs.Sections.{area-room, entries-put}
+use borrow.Author.Needs.{needs}
+use Rattle.module.proofs.write.put_entries.Statement.{statement}
+use Rattle.module.proofs.write.put_entries.Tie as tie
+
+emit-fields-requires : tie.Need-emit-fields-requires
+emit-fields-requires c κs = search needs
+
+put-added-requires : tie.Need-put-added-requires
+put-added-requires c κs = search area-room
+
+same-length : tie.Need-same-length
+same-length c = search needs
+
+same-length-2 : tie.Need-same-length-2
+same-length-2 c = search needs
+
+returns : tie.Need-returns
+returns c = search entries-put
+
+pub put-entries-spec : {M : Type 1} → statement M
+put-entries-spec =
+    tie.close (tie.spec emit-fields-requires put-added-requires same-length same-length-2 returns)

@@ -1,0 +1,24 @@
+use Rattle.module.proofs.Sections.{counted-all, module-put}
+use borrow.Author.Needs.{needs}
+use Rattle.module.proofs.write.put_module.Statement.{statement}
+use Rattle.module.proofs.write.put_module.Tie as tie
+
+put-preamble-requires : tie.Need-put-preamble-requires
+put-preamble-requires c κs = search needs
+
+put-sections-requires : tie.Need-put-sections-requires
+put-sections-requires c κs = search counted-all
+
+same-length : tie.Need-same-length
+same-length c = search needs
+
+same-length-2 : tie.Need-same-length-2
+same-length-2 c = search needs
+
+returns : tie.Need-returns
+returns c = search module-put
+
+pub put-module-spec : {M : Type 1} → statement M
+put-module-spec =
+    tie.close
+    (tie.spec put-preamble-requires put-sections-requires same-length same-length-2 returns)

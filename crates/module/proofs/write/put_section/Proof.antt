@@ -1,0 +1,53 @@
+use Rattle.module.proofs.Sections.{counts-are, section-none, section-some}
+use borrow.Author.Needs.{needs}
+use Rattle.module.proofs.write.put_section.Statement.{statement}
+use Rattle.module.proofs.write.put_section.Tie as tie
+
+mul-count : tie.Need-mul-count
+mul-count c = search needs
+
+array-read-count : tie.Need-array-read-count
+array-read-count c = search needs
+
+returns : tie.Need-returns
+returns c = search section-none
+
+mul-content-len : tie.Need-mul-content-len
+mul-content-len c = search needs
+
+array-read-content-len : tie.Need-array-read-content-len
+array-read-content-len c = search needs
+
+content-len-requires : tie.Need-content-len-requires
+content-len-requires c κs = search needs
+
+put-head-requires : tie.Need-put-head-requires
+put-head-requires c κs = search needs
+
+put-content-requires : tie.Need-put-content-requires
+put-content-requires c κs = search counts-are
+
+same-length : tie.Need-same-length
+same-length c = search needs
+
+same-length-2 : tie.Need-same-length-2
+same-length-2 c = search needs
+
+returns-2 : tie.Need-returns-2
+returns-2 c = search section-some
+
+pub put-section-spec : {M : Type 1} → statement M
+put-section-spec =
+    tie.close
+    (tie.spec
+    mul-count
+    array-read-count
+    returns
+    mul-content-len
+    array-read-content-len
+    content-len-requires
+    put-head-requires
+    put-content-requires
+    same-length
+    same-length-2
+    returns-2)

@@ -1,0 +1,53 @@
+use borrow.Author.Needs.{needs}
+use Rattle.module.proofs.Sections.{Sectioning, sections-begin, sections-again, sections-done, sections-long, sections-area, sections-few}
+use Rattle.module.proofs.write.put_sections.Statement.{statement}
+use Rattle.module.proofs.write.put_sections.Tie as tie
+
+abbrev Inv-loop : tie.InvT-loop
+Inv-loop t declared s work₀ out₀ at o₀ k₀ left₀ work out o k left = Sectioning t declared s work₀ out₀ at left k o out work
+
+abbrev μ-loop : tie.MeasureT-loop
+μ-loop t declared s work₀ out₀ at o₀ k₀ left₀ work out o k left = left
+
+loop-holds : tie.Need-loop-holds Inv-loop μ-loop
+loop-holds c = search sections-begin
+
+put-section-requires : tie.Need-put-section-requires Inv-loop μ-loop
+put-section-requires c κs = search sections-few
+
+add-k : tie.Need-add-k Inv-loop μ-loop
+add-k c = search needs
+
+sub-left : tie.Need-sub-left Inv-loop μ-loop
+sub-left c = search needs
+
+loop-less : tie.Need-loop-less Inv-loop μ-loop
+loop-less c = search needs
+
+loop-again : tie.Need-loop-again Inv-loop μ-loop
+loop-again c = search sections-again
+
+same-length : tie.Need-same-length Inv-loop μ-loop
+same-length c = search (sections-long, sections-area)
+
+same-length-2 : tie.Need-same-length-2 Inv-loop μ-loop
+same-length-2 c = search (sections-long, sections-area)
+
+returns : tie.Need-returns Inv-loop μ-loop
+returns c = search sections-done
+
+pub put-sections-spec : {M : Type 1} → statement M
+put-sections-spec =
+    tie.close
+    (tie.spec
+    Inv-loop
+    μ-loop
+    loop-holds
+    put-section-requires
+    add-k
+    sub-left
+    loop-less
+    loop-again
+    same-length
+    same-length-2
+    returns)

@@ -1,0 +1,103 @@
+// The bytes of the module. `declared` is the number of types that fields declare, and `t` the tally of all entries.
+use crate::contents::emit_fields;
+use crate::length::content_len;
+use crate::added::put_types;
+use sections::Tally;
+ghost use mathlib.Core.Path.{_≡_};
+ghost use mathlib.Core.List.{_∷_};
+ghost use Prim.Native.Nat.{_≤_, _<_};
+ghost use lib.ListN.{length};
+ghost use Rattle.definition.specs.Binary as Binary;
+ghost use Rattle.emit.specs.Put.{Put};
+ghost use Rattle.sections.specs.Tally.{tallies, noTally};
+ghost use Rattle.module.specs.Length.{Counted, sectionsFrom};
+ghost use Rattle.module.specs.Write.{Writes, Writable, Counts, allEntries, addedIn, moduleItems};
+
+// The magic and the version.
+fn put_preamble(out: &mut [u8], at: usize) -> usize
+    ensures { λ r. ⌜ Put (now (out .entry)) at Binary.preamble r (now (out .exit)) ⌝ }
+{
+    emit::copy(out, at, b"\0asm\x01\0\0\0")
+}
+
+// The added types are entries of section 1.
+fn put_added(k: u8, declared: u32, s: &[u8], work: &[u32], out: &mut [u8], at: usize) -> usize
+    requires { ⌜ 16384 ≤ length (now work) ⌝ }
+    ensures { λ r. ⌜ Put (now (out .entry)) at (addedIn k declared (now (s .entry)) (now (work .entry))) r (now (out .exit)) ⌝ }
+{
+    if k == 1 {
+        return put_types(s, work, out, at, declared);
+    }
+    at
+}
+
+// All entries of a section.
+fn put_entries(k: u8, declared: u32, s: &[u8], work: &mut [u32], out: &mut [u8], at: usize) -> usize
+    requires { ⌜ Writable (now s) (now work) ⌝ }
+    ensures { λ r. ⌜ Writes (Binary.joined (Binary.inSection k (allEntries declared (now (s .entry)) (now (work .entry))))) (now (out .entry)) at r (now (out .exit)) (now (work .entry)) (now (work .exit)) ⌝ }
+{
+    let a = emit_fields(k, s, work, out, at);
+    put_added(k, declared, s, work, out, a)
+}
+
+// The start section holds no count.
+fn put_content(k: u8, count: u64, declared: u32, s: &[u8], work: &mut [u32], out: &mut [u8], at: usize) -> usize
+    requires { ⌜ Writable (now s) (now work) × Counts count k (allEntries declared (now s) (now work)) ⌝ }
+    ensures { λ r. ⌜ Writes (Binary.content k (Binary.inSection k (allEntries declared (now (s .entry)) (now (work .entry))))) (now (out .entry)) at r (now (out .exit)) (now (work .entry)) (now (work .exit)) ⌝ }
+{
+    if k == 8 {
+        return put_entries(k, declared, s, work, out, at);
+    }
+    let a = leb::put_u(out, at, count);
+    put_entries(k, declared, s, work, out, a)
+}
+
+// A section's number and the length of its content.
+fn put_head(k: u8, n: usize, out: &mut [u8], at: usize) -> usize
+    ensures { λ r. ⌜ Put (now (out .entry)) at (k ∷ Binary.u n) r (now (out .exit)) ⌝ }
+{
+    let a = emit::put(out, at, k);
+    leb::put_u(out, a, n as u64)
+}
+
+// An empty section is omitted.
+fn put_section(k: u8, t: Tally, declared: u32, s: &[u8], work: &mut [u32], out: &mut [u8], at: usize) -> usize
+    requires { ⌜ (k < 12) × Writable (now s) (now work) × Counted t (allEntries declared (now s) (now work)) ⌝ }
+    ensures { λ r. ⌜ Writes (Binary.section (allEntries declared (now (s .entry)) (now (work .entry))) k) (now (out .entry)) at r (now (out .exit)) (now (work .entry)) (now (work .exit)) ⌝ }
+{
+    let i = k as usize;
+    let sizes = t.sizes;
+    let counts = t.counts;
+    let count = counts[i];
+    if count == 0 {
+        return at;
+    }
+    let n = content_len(k, sizes[i] as usize, count);
+    let a = put_head(k, n, out, at);
+    put_content(k, count, declared, s, work, out, a)
+}
+
+// Sections 1 to 11 in order.
+fn put_sections(t: Tally, declared: u32, s: &[u8], work: &mut [u32], out: &mut [u8], at: usize) -> usize
+    requires { ⌜ Writable (now s) (now work) × Counted t (allEntries declared (now s) (now work)) ⌝ }
+    ensures { λ r. ⌜ Writes (sectionsFrom 11 1 (allEntries declared (now (s .entry)) (now (work .entry)))) (now (out .entry)) at r (now (out .exit)) (now (work .entry)) (now (work .exit)) ⌝ }
+{
+    let mut o = at;
+    let mut k: u8 = 1;
+    let mut left: u32 = 11;
+    while 0 < left {
+        o = put_section(k, t, declared, s, work, out, o);
+        k += 1;
+        left -= 1;
+    }
+    o
+}
+
+// The module, from the first byte on.
+pub fn put_module(t: Tally, declared: u32, s: &[u8], work: &mut [u32], out: &mut [u8]) -> usize
+    requires { ⌜ Writable (now s) (now work) × (t ≡ tallies noTally (allEntries declared (now s) (now work))) ⌝ }
+    ensures { λ r. ⌜ Writes (Binary.module′ (moduleItems declared (now (s .entry)) (now (work .entry)))) (now (out .entry)) 0 r (now (out .exit)) (now (work .entry)) (now (work .exit)) ⌝ }
+{
+    let a = put_preamble(out, 0);
+    put_sections(t, declared, s, work, out, a)
+}
