@@ -134,10 +134,3 @@ pub recalled-here : (w : List ℕ) (ts : List FuncType) (s : Bytes) (c next : Cu
 recalled-here w ts s c next f here a =
     let v : AllThree (Told w ts) s (c .rec) (three f (c .seen) here) = uses-here (Told w ts) s c next f here (told-all w ts _ a) in
     record { first = all-told w ts _ (v .first); second = all-told w ts _ (v .second); third = all-told w ts _ (v .third) }
-
--- of two lists of uses, each
-pub recalled-first : (w : List ℕ) (ts : List FuncType) (us vs : Uses) → Recalled w ts (us ++ vs) → Recalled w ts us
-recalled-first w ts us vs a = all-told w ts us (all-first (Told w ts) us vs (told-all w ts (us ++ vs) a))
-
-pub recalled-rest : (w : List ℕ) (ts : List FuncType) (us vs : Uses) → Recalled w ts (us ++ vs) → Recalled w ts vs
-recalled-rest w ts us vs a = all-told w ts vs (all-rest (Told w ts) us vs (told-all w ts (us ++ vs) a))

@@ -1,13 +1,11 @@
 -- What a field puts into the sections, entry by entry.
 use Prim.Native.Nat.{ℕ, _+_, _-_, _≤_}
-use mathlib.Core.Path.{_≡_}
-use mathlib.Core.Bool.{Bool}
 use mathlib.Core.List.{List, [], _∷_, _++_, map}
-use mathlib.Core.Option.{Option, none, some}
+use mathlib.Core.Option.{none}
 use lib.ListN.{length}
-use Rattle.definition.specs.Basic.{if_then_else_, Answer, ok, refused, _>>=_, each, concatMap}
+use Rattle.definition.specs.Basic.{Answer, ok, refused, _>>=_, concatMap}
 use Rattle.definition.specs.Syntax as Syntax
-use Rattle.definition.specs.Syntax.{Bytes, Identifier, Space, funcs, tables, mems, globals, number, active, Item}
+use Rattle.definition.specs.Syntax.{Bytes, Identifier, Space, tables, mems, number, active, Item}
 use Rattle.definition.specs.Token as Token
 use Rattle.definition.specs.Deinline.{Numbered, exactly, pages, zeroOffset}
 use Rattle.definition.specs.Types as Types
@@ -18,7 +16,6 @@ use Rattle.token.specs.Views.{partOf, indexOf, spaceOf}
 use Rattle.coretypes.specs.Views.{limitsIs, tableTypeIs, globalTypeIs}
 use Rattle.typeuse.specs.Views.{listOf, useOf}
 use Rattle.typeuse.specs.declared.List as Code
-use Rattle.typeuse.specs.declared.TypeUse.{TypeUse}
 use Rattle.expr.specs.Views.{plainIs}
 use Rattle.sources.specs.Views.{countOf, nameOf, externIs}
 use Rattle.sources.specs.declared.seen.Seen.{Seen}
@@ -28,7 +25,6 @@ use Rattle.sources.specs.declared.source.Own.{Own}
 use Rattle.sources.specs.declared.source.Own.the-variants as O
 use Rattle.sources.specs.declared.source.Source.{Source}
 use Rattle.sources.specs.declared.source.Source.the-variants as S
-use Rattle.token.specs.declared.text.Part.{Part}
 use Rattle.token.specs.declared.index.Space as Kind
 use Rattle.token.specs.declared.index.Space.the-variants as K
 use Rattle.fields.specs.Views.{modeOf}

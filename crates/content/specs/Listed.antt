@@ -11,7 +11,6 @@ use Rattle.emit.specs.Put.{Put}
 use Rattle.binary.specs.declared.Emitted.{Emitted}
 use Rattle.binary.specs.declared.Emitted.the-variants as T
 use Rattle.entries.specs.declared.export.Ends.{Ends}
-use Rattle.space.specs.Kept.{Kept}
 use Rattle.content.specs.Entry.{answerOf}
 use Rattle.content.specs.declared.entry.Entry.{Entry}
 use Rattle.content.specs.declared.entry.Entry.the-variants as E
