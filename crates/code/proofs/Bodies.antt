@@ -147,7 +147,7 @@ module _ {s w₀ : List ℕ} {l : Locals} {rec place : ℕ} {old : List ℕ} {at
   empty : bodyFrom (4096 - r) k s here ≡ [] → EmitsBody s w₀ l rec place old at (E.To o) w out
   empty e = record {
     emits = wrote (concatMap instruction) (body (scopeIn s w₀) (localsIn s w₀ l) [] rec (bodyFrom (4096 - rec) 0 s place)) old at out (v .done) o
-      (v .so-far) (v .same ∙ rw e (body-none (scopeIn s w₀) (localsIn s w₀ l) (labelsIn s w k) r (v .done)));
+        (v .so-far) (v .same ∙ rw e (body-none (scopeIn s w₀) (localsIn s w₀ l) (labelsIn s w k) r (v .done)));
     kept = v .kept;
   }
 
@@ -174,7 +174,7 @@ module _ {s w₀ : List ℕ} {l : Locals} {rec place : ℕ} {old : List ℕ} {at
           so-far = put-is (put-then (v .so-far) (x .put)) (sym (concat-snoc instruction (v .done) (x .op)));
           same = rw (x .blocks) (v .same ∙ m);
           recalled = recalled-scope s w w′ (bodyUses (r + 1) (bodyFrom (4096 - (r + 1)) j s next)) n
-            (recalled-right w (typesIn s w) (usedAt r (instrUses (x .read))) (bodyUses (r + 1) (bodyFrom (4096 - (r + 1)) j s next)) (rw c at (v .recalled)));
+              (recalled-right w (typesIn s w) (usedAt r (instrUses (x .read))) (bodyUses (r + 1) (bodyFrom (4096 - (r + 1)) j s next)) (rw c at (v .recalled)));
           few = x .few;
           low = omega arith;
           kept = kept-then (v .kept) (x .kept);
@@ -196,7 +196,7 @@ module _ {s w₀ : List ℕ} {l : Locals} {rec place : ℕ} {old : List ℕ} {at
         let c : bodyFrom (4096 - r) k s here ≡ x .read ∷ bodyFrom (4096 - (r + 1)) (openAfter (x .read) k) s (x .next) = body-cons s k r here (x .read) (x .next) h (x .reads) in
         record {
           emits = halts (concatMap instruction) (body (scopeIn s w₀) (localsIn s w₀ l) [] rec (bodyFrom (4096 - rec) 0 s place)) old at new n q
-            (v .same ∙ rw c (body-not (scopeIn s w₀) (localsIn s w₀ l) (labelsIn s w k) r (x .read) (bodyFrom (4096 - (r + 1)) (openAfter (x .read) k) s (x .next)) (v .done) n q (first (few .named) (x .read) (refused n q) (x .says))));
+              (v .same ∙ rw c (body-not (scopeIn s w₀) (localsIn s w₀ l) (labelsIn s w k) r (x .read) (bodyFrom (4096 - (r + 1)) (openAfter (x .read) k) s (x .next)) (v .done) n q (first (few .named) (x .read) (refused n q) (x .says))));
           kept = rw (x .area) (v .kept);
         }
 

@@ -143,6 +143,7 @@ module _ (s w : List ℕ) (l : Locals) (k rec : ℕ) (p : Plain) (y : ImmAt)
     where
       same : immediate (scopeIn s w) (localsIn s w l) (labelsIn s w k) rec (operandOf s (p .operand)) ≡ immediate (scopeIn s w) [] (labelsIn s w k) rec (operandOf s (O.Labels xs x))
       same = told ∙ ap (immAnswer s w k rec) d
+
       go : (q : Emitted) → Emits instruction (plainOp (scopeIn s w) [] (labelsIn s w k) rec (record { opcode = p .opcode; operand = operandOf s (O.Labels xs x) })) old at q new → Says q new
       go q e = rw same e
 

@@ -18,7 +18,16 @@ pub enum Turn {
 }
 
 // One record of a body where k blocks are open.
-fn one_record(s: &[u8], work: &mut [u32], out: &mut [u8], at: usize, here: usize, k: u32, l: Locals, rec: u32) -> Turn
+fn one_record(
+    s: &[u8],
+    work: &mut [u32],
+    out: &mut [u8],
+    at: usize,
+    here: usize,
+    k: u32,
+    l: Locals,
+    rec: u32,
+) -> Turn
     requires { ⌜ (length (now s) ≤ 65536) × (16384 ≤ length (now work)) × FewLocals l × (k ≤ 128) × (rec < 4096) × Recalled (now work) (typesIn (now s) (now work)) (Types.bodyUses rec (bodyFrom (4096 - rec) k (now s) here)) ⌝ }
     ensures { λ r. ⌜ Turned (now (s .entry)) (now (work .entry)) l k rec here (now (out .entry)) at r (now (work .exit)) (now (out .exit)) ⌝ }
 {
@@ -36,7 +45,15 @@ fn one_record(s: &[u8], work: &mut [u32], out: &mut [u8], at: usize, here: usize
 }
 
 // The body at a place; its first instruction is this record.
-pub fn emit_body(s: &[u8], work: &mut [u32], out: &mut [u8], at: usize, place: usize, rec: u32, l: Locals) -> Emitted
+pub fn emit_body(
+    s: &[u8],
+    work: &mut [u32],
+    out: &mut [u8],
+    at: usize,
+    place: usize,
+    rec: u32,
+    l: Locals,
+) -> Emitted
     requires { ⌜ (length (now s) ≤ 65536) × (16384 ≤ length (now work)) × FewLocals l × (rec ≤ 4096) × Recalled (now work) (typesIn (now s) (now work)) (Types.bodyUses rec (bodyFrom (4096 - rec) 0 (now s) place)) ⌝ }
     ensures { λ r. ⌜ EmitsBody (now (s .entry)) (now (work .entry)) l rec place (now (out .entry)) at r (now (work .exit)) (now (out .exit)) ⌝ }
 {

@@ -28,7 +28,15 @@ ghost use Rattle.binary.specs.Emits.{Emits};
 ghost use Rattle.code.specs.Code.{closingOp};
 
 // A block, a loop or an if.
-fn emit_opens(s: &[u8], work: &[u32], out: &mut [u8], at: usize, opcode: u8, t: TypeUse, rec: u32) -> Emitted
+fn emit_opens(
+    s: &[u8],
+    work: &[u32],
+    out: &mut [u8],
+    at: usize,
+    opcode: u8,
+    t: TypeUse,
+    rec: u32,
+) -> Emitted
     requires { ⌜ (16384 ≤ length (now work)) × Recalled (now work) (typesIn (now s) (now work)) (Types.usedAt rec (blockUses (useOf (now s) t))) ⌝ }
     ensures { λ r. ⌜ Emits Binary.instruction (Names.instrOp (scopeIn (now (s .entry)) (now (work .entry))) [] [] rec (opens opcode none (useOf (now (s .entry)) t))) (now (out .entry)) at r (now (out .exit)) ⌝ }
 {
@@ -39,7 +47,16 @@ fn emit_opens(s: &[u8], work: &[u32], out: &mut [u8], at: usize, opcode: u8, t: 
 }
 
 // An else or an end: its label, if any, is that of the innermost block.
-fn emit_closing(s: &[u8], work: &[u32], out: &mut [u8], at: usize, k: u32, opcode: u8, label: Part, rec: u32) -> Emitted
+fn emit_closing(
+    s: &[u8],
+    work: &[u32],
+    out: &mut [u8],
+    at: usize,
+    k: u32,
+    opcode: u8,
+    label: Part,
+    rec: u32,
+) -> Emitted
     requires { ⌜ (16384 ≤ length (now work)) × (k ≤ 128) ⌝ }
     ensures { λ r. ⌜ Emits Binary.instruction (closingOp (now (s .entry)) (now (work .entry)) k rec opcode (idOf (now (s .entry)) label)) (now (out .entry)) at r (now (out .exit)) ⌝ }
 {
@@ -50,13 +67,27 @@ fn emit_closing(s: &[u8], work: &[u32], out: &mut [u8], at: usize, k: u32, opcod
 }
 
 // A call_indirect: the table before the type.
-fn emit_indirect(s: &[u8], work: &[u32], out: &mut [u8], at: usize, x: Index, t: TypeUse, rec: u32) -> Emitted
+fn emit_indirect(
+    s: &[u8],
+    work: &[u32],
+    out: &mut [u8],
+    at: usize,
+    x: Index,
+    t: TypeUse,
+    rec: u32,
+) -> Emitted
     requires { ⌜ (16384 ≤ length (now work)) × Recalled (now work) (typesIn (now s) (now work)) (Types.usedAt rec (Types.useOf (useOf (now s) t))) ⌝ }
     ensures { λ r. ⌜ Emits Binary.instruction (Names.instrOp (scopeIn (now (s .entry)) (now (work .entry))) [] [] rec (indirect (indexOf (now (s .entry)) x) (useOf (now (s .entry)) t))) (now (out .entry)) at r (now (out .exit)) ⌝ }
 {
     match scope::item_no(s, work, Space::Tables, x, rec) {
         Resolved::To(table) => match scope::type_no(s, work, t, rec) {
-            TypeAt::To(n) => Emitted::To(binary::put_instruction(out, at, s, 0x11, Imm::Indirect(n, table))),
+            TypeAt::To(n) => Emitted::To(binary::put_instruction(
+                out,
+                at,
+                s,
+                0x11,
+                Imm::Indirect(n, table),
+            )),
             TypeAt::Refused(n, q) => Emitted::Refused(n, q),
         },
         Resolved::Refused(n, q) => Emitted::Refused(n, q),
@@ -64,7 +95,16 @@ fn emit_indirect(s: &[u8], work: &[u32], out: &mut [u8], at: usize, x: Index, t:
 }
 
 // One instruction where k blocks are open.
-pub fn emit_instr(s: &[u8], work: &[u32], out: &mut [u8], at: usize, l: Locals, k: u32, i: Instr, rec: u32) -> Emitted
+pub fn emit_instr(
+    s: &[u8],
+    work: &[u32],
+    out: &mut [u8],
+    at: usize,
+    l: Locals,
+    k: u32,
+    i: Instr,
+    rec: u32,
+) -> Emitted
     requires { ⌜ (16384 ≤ length (now work)) × FewLocals l × (k ≤ 128) × Recalled (now work) (typesIn (now s) (now work)) (Types.usedAt rec (Types.instrUses (instrIs (now s) i))) ⌝ }
     ensures { λ r. ⌜ Emits Binary.instruction (Names.instrOp (scopeIn (now (s .entry)) (now (work .entry))) (localsIn (now (s .entry)) (now (work .entry)) l) (labelsIn (now (s .entry)) (now (work .entry)) k) rec (instrIs (now (s .entry)) i)) (now (out .entry)) at r (now (out .exit)) ⌝ }
 {

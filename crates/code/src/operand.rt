@@ -63,7 +63,17 @@ fn resolve_operand(s: &[u8], work: &[u32], l: Locals, k: u32, operand: Operand, 
 }
 
 // A br_table.
-fn emit_table(s: &[u8], work: &[u32], out: &mut [u8], at: usize, k: u32, opcode: u8, xs: List, x: Index, rec: u32) -> Emitted
+fn emit_table(
+    s: &[u8],
+    work: &[u32],
+    out: &mut [u8],
+    at: usize,
+    k: u32,
+    opcode: u8,
+    xs: List,
+    x: Index,
+    rec: u32,
+) -> Emitted
     requires { ⌜ (16384 ≤ length (now work)) × (k ≤ 128) ⌝ }
     ensures { λ r. ⌜ Emits Binary.instruction (Names.plainOp (scopeIn (now (s .entry)) (now (work .entry))) [] (labelsIn (now (s .entry)) (now (work .entry)) k) rec (record { opcode = opcode; operand = labels (listOf Token.present (now (s .entry)) xs) (indexOf (now (s .entry)) x) })) (now (out .entry)) at r (now (out .exit)) ⌝ }
 {
@@ -71,7 +81,16 @@ fn emit_table(s: &[u8], work: &[u32], out: &mut [u8], at: usize, k: u32, opcode:
     entries::emit_labels(out, a, s, work, k, xs, x, rec)
 }
 
-pub fn emit_plain(s: &[u8], work: &[u32], out: &mut [u8], at: usize, l: Locals, k: u32, p: Plain, rec: u32) -> Emitted
+pub fn emit_plain(
+    s: &[u8],
+    work: &[u32],
+    out: &mut [u8],
+    at: usize,
+    l: Locals,
+    k: u32,
+    p: Plain,
+    rec: u32,
+) -> Emitted
     requires { ⌜ (16384 ≤ length (now work)) × FewLocals l × (k ≤ 128) ⌝ }
     ensures { λ r. ⌜ Emits Binary.instruction (Names.plainOp (scopeIn (now (s .entry)) (now (work .entry))) (localsIn (now (s .entry)) (now (work .entry)) l) (labelsIn (now (s .entry)) (now (work .entry)) k) rec (plainIs (now (s .entry)) p)) (now (out .entry)) at r (now (out .exit)) ⌝ }
 {

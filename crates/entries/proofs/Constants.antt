@@ -139,6 +139,7 @@ module _ (s w : List ℕ) (rec : ℕ) (c : Plain) (y : ImmAt) (told : immediate 
     where
       same : immediate (scopeIn s w) [] [] rec (operandOf s (c .operand)) ≡ immediate (scopeIn s w) [] [] rec (operandOf s (O.Labels xs x))
       same = told ∙ ap (immAt (scopeIn s w) s rec) d
+
       go : (q : Emitted) → Emits constBytes (constOp (scopeIn s w) rec (record { opcode = c .opcode; operand = operandOf s (O.Labels xs x) })) old at q new → Const q new
       go q e = rw same e
 
@@ -154,11 +155,11 @@ module _ (s w : List ℕ) (rec opcode : ℕ) (xs : List (Syntax.Index Identifier
   table-to e r new d p =
       let v : Wrote imm (immediate (scopeIn s w) [] [] rec (Syntax.labels xs x)) a o e b = was-wrote imm (immediate (scopeIn s w) [] [] rec (Syntax.labels xs x)) a o b q e told d in
       wrote constBytes (constOp (scopeIn s w) rec (record { opcode = opcode; operand = Syntax.labels xs x })) old at new (record { opcode = opcode; imm = v .value }) r
-          (put-then (put-is (put-cons first (v .put)) (sym (append-nil (opcode ∷ imm (v .value))))) p)
-          (bind-ok (immediate (scopeIn s w) [] [] rec (Syntax.labels xs x)) (v .value) _ _ (v .is) refl)
+      (put-then (put-is (put-cons first (v .put)) (sym (append-nil (opcode ∷ imm (v .value))))) p)
+      (bind-ok (immediate (scopeIn s w) [] [] rec (Syntax.labels xs x)) (v .value) _ _ (v .is) refl)
 
   pub table-not : (n r : ℕ) → q ≡ E.Refused n r → Table (E.Refused n r) b
   unfolding constOp plainOp labelsIn Area.labels
   table-not n r d =
       halts constBytes (constOp (scopeIn s w) rec (record { opcode = opcode; operand = Syntax.labels xs x })) old at b n r
-          (bind-not (immediate (scopeIn s w) [] [] rec (Syntax.labels xs x)) n r _ (has-halted imm (immediate (scopeIn s w) [] [] rec (Syntax.labels xs x)) a o b q n r told d))
+      (bind-not (immediate (scopeIn s w) [] [] rec (Syntax.labels xs x)) n r _ (has-halted imm (immediate (scopeIn s w) [] [] rec (Syntax.labels xs x)) a o b q n r told d))

@@ -85,7 +85,7 @@ module _ (a : Answer Op) (old : List ℕ) (at o : ℕ) (mid : List ℕ) where
     unfolding atTable constBytes
     with-table e r new d z =
         behind (λ x. 2 ∷ u n ++ expr (x ∷ [])) (atTable (some n)) a old at (0 ∷ []) q e b r new (λ x. refl)
-            (before constBytes (λ x. 2 ∷ u n ++ expr (x ∷ [])) a old at (2 ∷ u n) o mid q b (λ x. refl) p w) d z
+        (before constBytes (λ x. 2 ∷ u n ++ expr (x ∷ [])) a old at (2 ∷ u n) o mid q b (λ x. refl) p w) d z
 
     pub with-table-not : (m r : ℕ) → q ≡ E.Refused m r → Emits (atTable (some n)) a old at (E.Refused m r) b
     with-table-not m r d = halts (atTable (some n)) a old at b m r (has-halted constBytes a mid o b q m r w d)
@@ -102,7 +102,7 @@ module _ {X : Type 0} (Γ : Scope Identifier) (f : ℕ → Syntax.Index Identifi
   unfolding Names.modeOf _>>=_
   mode-on t g q new s e w =
       emits-is bytes (constOp Γ rec c >>= λ o. ok (active t o)) Active old at q new (rw e)
-          (emits-map g bytes (λ o. active t o) (constOp Γ rec c) old at q new s w)
+      (emits-map g bytes (λ o. active t o) (constOp Γ rec c) old at q new s w)
 
   mode-not : (n r : ℕ) (new : List ℕ) → f rec x ≡ refused n r → Emits bytes Active old at (E.Refused n r) new
   unfolding Names.modeOf _>>=_

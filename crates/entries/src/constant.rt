@@ -76,7 +76,16 @@ fn resolve_const(s: &[u8], work: &[u32], operand: Operand, rec: u32) -> ImmAt
 }
 
 // A br_table as a constant.
-fn emit_table_const(out: &mut [u8], at: usize, s: &[u8], work: &[u32], opcode: u8, xs: List, x: Index, rec: u32) -> Emitted
+fn emit_table_const(
+    out: &mut [u8],
+    at: usize,
+    s: &[u8],
+    work: &[u32],
+    opcode: u8,
+    xs: List,
+    x: Index,
+    rec: u32,
+) -> Emitted
     requires { ⌜ 16384 ≤ length (now work) ⌝ }
     ensures { λ r. ⌜ Emits constBytes (Names.constOp (scopeIn (now (s .entry)) (now (work .entry))) rec (record { opcode = opcode; operand = labels (listOf Token.present (now (s .entry)) xs) (indexOf (now (s .entry)) x) })) (now (out .entry)) at r (now (out .exit)) ⌝ }
 {

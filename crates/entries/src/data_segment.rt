@@ -34,7 +34,15 @@ fn put_memory(out: &mut [u8], at: usize, m: u32) -> usize
 }
 
 // The memory and the offset.
-fn emit_on_memory(out: &mut [u8], at: usize, s: &[u8], work: &[u32], m: u32, c: Plain, rec: u32) -> Emitted
+fn emit_on_memory(
+    out: &mut [u8],
+    at: usize,
+    s: &[u8],
+    work: &[u32],
+    m: u32,
+    c: Plain,
+    rec: u32,
+) -> Emitted
     requires { ⌜ 16384 ≤ length (now work) ⌝ }
     ensures { λ r. ⌜ Emits (atMemory m) (Names.constOp (scopeIn (now (s .entry)) (now (work .entry))) rec (plainIs (now (s .entry)) c)) (now (out .entry)) at r (now (out .exit)) ⌝ }
 {
@@ -42,7 +50,15 @@ fn emit_on_memory(out: &mut [u8], at: usize, s: &[u8], work: &[u32], m: u32, c: 
     crate::constant::emit_const(out, a, s, work, c, rec)
 }
 
-fn emit_at_memory(out: &mut [u8], at: usize, s: &[u8], work: &[u32], x: Index, c: Plain, rec: u32) -> Emitted
+fn emit_at_memory(
+    out: &mut [u8],
+    at: usize,
+    s: &[u8],
+    work: &[u32],
+    x: Index,
+    c: Plain,
+    rec: u32,
+) -> Emitted
     requires { ⌜ 16384 ≤ length (now work) ⌝ }
     ensures { λ r. ⌜ Emits dataMode (Names.modeOf (scopeIn (now (s .entry)) (now (work .entry))) (Names.itemNo (scopeIn (now (s .entry)) (now (work .entry))) mems) rec (active (indexOf (now (s .entry)) x) (plainIs (now (s .entry)) c))) (now (out .entry)) at r (now (out .exit)) ⌝ }
 {
@@ -53,7 +69,14 @@ fn emit_at_memory(out: &mut [u8], at: usize, s: &[u8], work: &[u32], x: Index, c
 }
 
 // What stands before the bytes: form 1, or the memory and the offset.
-fn emit_data_mode(out: &mut [u8], at: usize, s: &[u8], work: &[u32], mode: Mode, rec: u32) -> Emitted
+fn emit_data_mode(
+    out: &mut [u8],
+    at: usize,
+    s: &[u8],
+    work: &[u32],
+    mode: Mode,
+    rec: u32,
+) -> Emitted
     requires { ⌜ 16384 ≤ length (now work) ⌝ }
     ensures { λ r. ⌜ Emits dataMode (Names.modeOf (scopeIn (now (s .entry)) (now (work .entry))) (Names.itemNo (scopeIn (now (s .entry)) (now (work .entry))) mems) rec (modeOf (now (s .entry)) mode)) (now (out .entry)) at r (now (out .exit)) ⌝ }
 {
@@ -63,7 +86,15 @@ fn emit_data_mode(out: &mut [u8], at: usize, s: &[u8], work: &[u32], mode: Mode,
     }
 }
 
-pub fn emit_data(out: &mut [u8], at: usize, s: &[u8], work: &[u32], mode: Mode, bytes: Part, rec: u32) -> Emitted
+pub fn emit_data(
+    out: &mut [u8],
+    at: usize,
+    s: &[u8],
+    work: &[u32],
+    mode: Mode,
+    bytes: Part,
+    rec: u32,
+) -> Emitted
     requires { ⌜ 16384 ≤ length (now work) ⌝ }
     ensures { λ r. ⌜ Emits entryOf (Names.resolve (scopeIn (now (s .entry)) (now (work .entry))) rec (dataF none (modeOf (now (s .entry)) mode) (partOf (now (s .entry)) bytes))) (now (out .entry)) at r (now (out .exit)) ⌝ }
 {
@@ -74,7 +105,14 @@ pub fn emit_data(out: &mut [u8], at: usize, s: &[u8], work: &[u32], mode: Mode, 
 }
 
 // The data of an inline memory, which is the memory numbered n.
-pub fn put_inline_data(out: &mut [u8], at: usize, s: &[u8], is64: bool, n: u32, bytes: Part) -> usize
+pub fn put_inline_data(
+    out: &mut [u8],
+    at: usize,
+    s: &[u8],
+    is64: bool,
+    n: u32,
+    bytes: Part,
+) -> usize
     ensures { λ r. ⌜ Put (now (out .entry)) at (Binary.data′ (active n (zeroOp is64)) (partOf (now (s .entry)) bytes)) r (now (out .exit)) ⌝ }
 {
     let a = put_memory(out, at, n);

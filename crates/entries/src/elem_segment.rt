@@ -47,7 +47,14 @@ fn table_no(s: &[u8], work: &[u32], x: Index, rec: u32) -> TableAt
 }
 
 // Form 0, and the offset.
-fn emit_without_table(out: &mut [u8], at: usize, s: &[u8], work: &[u32], c: Plain, rec: u32) -> Emitted
+fn emit_without_table(
+    out: &mut [u8],
+    at: usize,
+    s: &[u8],
+    work: &[u32],
+    c: Plain,
+    rec: u32,
+) -> Emitted
     requires { ⌜ 16384 ≤ length (now work) ⌝ }
     ensures { λ r. ⌜ Emits (atTable none) (Names.constOp (scopeIn (now (s .entry)) (now (work .entry))) rec (plainIs (now (s .entry)) c)) (now (out .entry)) at r (now (out .exit)) ⌝ }
 {
@@ -64,7 +71,15 @@ pub fn put_form_2(out: &mut [u8], at: usize, n: u32) -> usize
 }
 
 // Form 2: the table, the offset, and the kind funcref.
-fn emit_with_table(out: &mut [u8], at: usize, s: &[u8], work: &[u32], n: u32, c: Plain, rec: u32) -> Emitted
+fn emit_with_table(
+    out: &mut [u8],
+    at: usize,
+    s: &[u8],
+    work: &[u32],
+    n: u32,
+    c: Plain,
+    rec: u32,
+) -> Emitted
     requires { ⌜ 16384 ≤ length (now work) ⌝ }
     ensures { λ r. ⌜ Emits (atTable (some n)) (Names.constOp (scopeIn (now (s .entry)) (now (work .entry))) rec (plainIs (now (s .entry)) c)) (now (out .entry)) at r (now (out .exit)) ⌝ }
 {
@@ -75,7 +90,15 @@ fn emit_with_table(out: &mut [u8], at: usize, s: &[u8], work: &[u32], n: u32, c:
     }
 }
 
-fn emit_at_table(out: &mut [u8], at: usize, s: &[u8], work: &[u32], x: Index, c: Plain, rec: u32) -> Emitted
+fn emit_at_table(
+    out: &mut [u8],
+    at: usize,
+    s: &[u8],
+    work: &[u32],
+    x: Index,
+    c: Plain,
+    rec: u32,
+) -> Emitted
     requires { ⌜ 16384 ≤ length (now work) ⌝ }
     ensures { λ r. ⌜ Emits elemMode (Names.modeOf (scopeIn (now (s .entry)) (now (work .entry))) (Names.tableNo (scopeIn (now (s .entry)) (now (work .entry)))) rec (active (indexOf (now (s .entry)) x) (plainIs (now (s .entry)) c))) (now (out .entry)) at r (now (out .exit)) ⌝ }
 {
@@ -95,7 +118,14 @@ fn put_passive(out: &mut [u8], at: usize) -> usize
 }
 
 // What stands before the functions.
-fn emit_elem_mode(out: &mut [u8], at: usize, s: &[u8], work: &[u32], mode: Mode, rec: u32) -> Emitted
+fn emit_elem_mode(
+    out: &mut [u8],
+    at: usize,
+    s: &[u8],
+    work: &[u32],
+    mode: Mode,
+    rec: u32,
+) -> Emitted
     requires { ⌜ 16384 ≤ length (now work) ⌝ }
     ensures { λ r. ⌜ Emits elemMode (Names.modeOf (scopeIn (now (s .entry)) (now (work .entry))) (Names.tableNo (scopeIn (now (s .entry)) (now (work .entry)))) rec (modeOf (now (s .entry)) mode)) (now (out .entry)) at r (now (out .exit)) ⌝ }
 {
@@ -105,7 +135,15 @@ fn emit_elem_mode(out: &mut [u8], at: usize, s: &[u8], work: &[u32], mode: Mode,
     }
 }
 
-pub fn emit_elem(out: &mut [u8], at: usize, s: &[u8], work: &[u32], mode: Mode, funcs: List, rec: u32) -> Emitted
+pub fn emit_elem(
+    out: &mut [u8],
+    at: usize,
+    s: &[u8],
+    work: &[u32],
+    mode: Mode,
+    funcs: List,
+    rec: u32,
+) -> Emitted
     requires { ⌜ 16384 ≤ length (now work) ⌝ }
     ensures { λ r. ⌜ Emits entryOf (Names.resolve (scopeIn (now (s .entry)) (now (work .entry))) rec (elemF none (modeOf (now (s .entry)) mode) (listOf Token.present (now (s .entry)) funcs))) (now (out .entry)) at r (now (out .exit)) ⌝ }
 {
@@ -116,10 +154,27 @@ pub fn emit_elem(out: &mut [u8], at: usize, s: &[u8], work: &[u32], mode: Mode, 
 }
 
 // The functions of an inline table, which is the table numbered n.
-pub fn emit_inline_elem(out: &mut [u8], at: usize, s: &[u8], work: &[u32], is64: bool, n: u32, funcs: List, rec: u32) -> Emitted
+pub fn emit_inline_elem(
+    out: &mut [u8],
+    at: usize,
+    s: &[u8],
+    work: &[u32],
+    is64: bool,
+    n: u32,
+    funcs: List,
+    rec: u32,
+) -> Emitted
     requires { ⌜ 16384 ≤ length (now work) ⌝ }
     ensures { λ r. ⌜ Emits entryOf (Names.resolve (scopeIn (now (s .entry)) (now (work .entry))) rec (elemF none (active (number n) (Deinline.zeroOffset is64)) (listOf Token.present (now (s .entry)) funcs))) (now (out .entry)) at r (now (out .exit)) ⌝ }
 {
     let offset = crate::constant::zero_offset(s, is64);
-    emit_elem(out, at, s, work, Mode::Active(Index::Number(n), offset), funcs, rec)
+    emit_elem(
+        out,
+        at,
+        s,
+        work,
+        Mode::Active(Index::Number(n), offset),
+        funcs,
+        rec,
+    )
 }

@@ -23,7 +23,16 @@ pub struct Ends {
     pub count: u64,
 }
 
-pub fn emit_export(out: &mut [u8], at: usize, s: &[u8], work: &[u32], name: Part, k: Space, x: Index, rec: u32) -> Emitted
+pub fn emit_export(
+    out: &mut [u8],
+    at: usize,
+    s: &[u8],
+    work: &[u32],
+    name: Part,
+    k: Space,
+    x: Index,
+    rec: u32,
+) -> Emitted
     requires { ⌜ 16384 ≤ length (now work) ⌝ }
     ensures { λ r. ⌜ Emits entryOf (Names.resolve (scopeIn (now (s .entry)) (now (work .entry))) rec (exportF (partOf (now (s .entry)) name) (spaceOf k) (indexOf (now (s .entry)) x))) (now (out .entry)) at r (now (out .exit)) ⌝ }
 {

@@ -14,7 +14,15 @@ ghost use Rattle.scope.specs.Scope.{scopeIn};
 ghost use Rattle.binary.specs.Emits.{Emits};
 ghost use Rattle.entries.specs.Entry.{entryOf};
 
-pub fn emit_global(out: &mut [u8], at: usize, s: &[u8], work: &[u32], t: GlobalType, c: Plain, rec: u32) -> Emitted
+pub fn emit_global(
+    out: &mut [u8],
+    at: usize,
+    s: &[u8],
+    work: &[u32],
+    t: GlobalType,
+    c: Plain,
+    rec: u32,
+) -> Emitted
     requires { ⌜ 16384 ≤ length (now work) ⌝ }
     ensures { λ r. ⌜ Emits entryOf (Names.resolve (scopeIn (now (s .entry)) (now (work .entry))) rec (ownF none (ownGlobal (globalTypeIs t) (plainIs (now (s .entry)) c)) [])) (now (out .entry)) at r (now (out .exit)) ⌝ }
 {

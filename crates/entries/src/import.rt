@@ -54,7 +54,14 @@ fn put_global(out: &mut [u8], at: usize, t: GlobalType) -> usize
     binary::put_global_type(out, a, t)
 }
 
-fn emit_func_type(out: &mut [u8], at: usize, s: &[u8], work: &[u32], t: TypeUse, rec: u32) -> Emitted
+fn emit_func_type(
+    out: &mut [u8],
+    at: usize,
+    s: &[u8],
+    work: &[u32],
+    t: TypeUse,
+    rec: u32,
+) -> Emitted
     requires { ⌜ (16384 ≤ length (now work)) × Recalled (now work) (typesIn (now s) (now work)) (Types.usedAt rec (Types.useOf (useOf (now s) t))) ⌝ }
     ensures { λ r. ⌜ Emits Binary.externType (Names.externNo (scopeIn (now (s .entry)) (now (work .entry))) rec (func (useOf (now (s .entry)) t))) (now (out .entry)) at r (now (out .exit)) ⌝ }
 {
@@ -77,7 +84,15 @@ fn emit_extern(out: &mut [u8], at: usize, s: &[u8], work: &[u32], what: Extern, 
     }
 }
 
-pub fn emit_import(out: &mut [u8], at: usize, s: &[u8], work: &[u32], name: ImportName, what: Extern, rec: u32) -> Emitted
+pub fn emit_import(
+    out: &mut [u8],
+    at: usize,
+    s: &[u8],
+    work: &[u32],
+    name: ImportName,
+    what: Extern,
+    rec: u32,
+) -> Emitted
     requires { ⌜ (16384 ≤ length (now work)) × Recalled (now work) (typesIn (now s) (now work)) (Types.usedAt rec (Types.externUses (externIs (now s) what))) ⌝ }
     ensures { λ r. ⌜ Emits entryOf (Names.resolve (scopeIn (now (s .entry)) (now (work .entry))) rec (importF (nameOf (now (s .entry)) name) none (externIs (now (s .entry)) what))) (now (out .entry)) at r (now (out .exit)) ⌝ }
 {

@@ -91,7 +91,15 @@ pub fn emit_funcs(out: &mut [u8], at: usize, s: &[u8], work: &[u32], l: List, re
 }
 
 // A label's depth.
-fn emit_label(out: &mut [u8], at: usize, s: &[u8], work: &[u32], blocks: u32, x: Index, rec: u32) -> Emitted
+fn emit_label(
+    out: &mut [u8],
+    at: usize,
+    s: &[u8],
+    work: &[u32],
+    blocks: u32,
+    x: Index,
+    rec: u32,
+) -> Emitted
     requires { ⌜ (16384 ≤ length (now work)) × (blocks ≤ 128) ⌝ }
     ensures { λ r. ⌜ Emits depthBytes (Names.depthOf (scopeIn (now (s .entry)) (now (work .entry))) (labelsIn (now (s .entry)) (now (work .entry)) blocks) rec (indexOf (now (s .entry)) x)) (now (out .entry)) at r (now (out .exit)) ⌝ }
 {
@@ -102,7 +110,15 @@ fn emit_label(out: &mut [u8], at: usize, s: &[u8], work: &[u32], blocks: u32, x:
 }
 
 // The labels' depths, without their count.
-fn emit_each_label(out: &mut [u8], at: usize, s: &[u8], work: &[u32], blocks: u32, l: List, rec: u32) -> Emitted
+fn emit_each_label(
+    out: &mut [u8],
+    at: usize,
+    s: &[u8],
+    work: &[u32],
+    blocks: u32,
+    l: List,
+    rec: u32,
+) -> Emitted
     requires { ⌜ (16384 ≤ length (now work)) × (blocks ≤ 128) ⌝ }
     ensures { λ r. ⌜ Emits (concatMap depthBytes) (each (Names.depthOf (scopeIn (now (s .entry)) (now (work .entry))) (labelsIn (now (s .entry)) (now (work .entry)) blocks) rec) (listOf Token.present (now (s .entry)) l)) (now (out .entry)) at r (now (out .exit)) ⌝ }
 {
@@ -129,7 +145,15 @@ fn emit_each_label(out: &mut [u8], at: usize, s: &[u8], work: &[u32], blocks: u3
     Emitted::To(o)
 }
 
-fn emit_label_list(out: &mut [u8], at: usize, s: &[u8], work: &[u32], blocks: u32, l: List, rec: u32) -> Emitted
+fn emit_label_list(
+    out: &mut [u8],
+    at: usize,
+    s: &[u8],
+    work: &[u32],
+    blocks: u32,
+    l: List,
+    rec: u32,
+) -> Emitted
     requires { ⌜ (16384 ≤ length (now work)) × (blocks ≤ 128) ⌝ }
     ensures { λ r. ⌜ Emits (Binary.vec depthBytes) (each (Names.depthOf (scopeIn (now (s .entry)) (now (work .entry))) (labelsIn (now (s .entry)) (now (work .entry)) blocks) rec) (listOf Token.present (now (s .entry)) l)) (now (out .entry)) at r (now (out .exit)) ⌝ }
 {
@@ -139,7 +163,16 @@ fn emit_label_list(out: &mut [u8], at: usize, s: &[u8], work: &[u32], blocks: u3
 }
 
 // The labels of a br_table, and the one that is left for every other number.
-pub fn emit_labels(out: &mut [u8], at: usize, s: &[u8], work: &[u32], blocks: u32, xs: List, x: Index, rec: u32) -> Emitted
+pub fn emit_labels(
+    out: &mut [u8],
+    at: usize,
+    s: &[u8],
+    work: &[u32],
+    blocks: u32,
+    xs: List,
+    x: Index,
+    rec: u32,
+) -> Emitted
     requires { ⌜ (16384 ≤ length (now work)) × (blocks ≤ 128) ⌝ }
     ensures { λ r. ⌜ Emits Binary.imm (Names.immediate (scopeIn (now (s .entry)) (now (work .entry))) [] (labelsIn (now (s .entry)) (now (work .entry)) blocks) rec (labels (listOf Token.present (now (s .entry)) xs) (indexOf (now (s .entry)) x))) (now (out .entry)) at r (now (out .exit)) ⌝ }
 {

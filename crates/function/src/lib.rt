@@ -19,7 +19,16 @@ ghost use Rattle.walk.specs.Walk.{bodyFrom};
 ghost use Rattle.function.specs.Function.{bodyAnswer, codeBytes, sizedBytes, EmitsCode, MeasuresCode, EmitsTyped, EmitsFunc};
 
 // The locals and the body.
-fn emit_code(s: &[u8], work: &mut [u32], out: &mut [u8], at: usize, ls: List, here: usize, rec: u32, l: Locals) -> Emitted
+fn emit_code(
+    s: &[u8],
+    work: &mut [u32],
+    out: &mut [u8],
+    at: usize,
+    ls: List,
+    here: usize,
+    rec: u32,
+    l: Locals,
+) -> Emitted
     requires { ⌜ (length (now s) ≤ 65536) × (16384 ≤ length (now work)) × FewLocals l × (rec < 4096) × Recalled (now work) (typesIn (now s) (now work)) (Types.bodyUses (rec + 1) (bodyFrom (4096 - (rec + 1)) 0 (now s) here)) ⌝ }
     ensures { λ r. ⌜ EmitsCode (codeBytes (now (s .entry)) ls) (bodyAnswer (now (s .entry)) (now (work .entry)) rec here l) (now (work .entry)) (now (out .entry)) at r (now (work .exit)) (now (out .exit)) ⌝ }
 {
@@ -40,7 +49,16 @@ fn measure_code(s: &[u8], work: &mut [u32], ls: List, here: usize, rec: u32, l: 
 }
 
 // Both, after their length.
-fn emit_sized(s: &[u8], work: &mut [u32], out: &mut [u8], at: usize, ls: List, here: usize, rec: u32, l: Locals) -> Emitted
+fn emit_sized(
+    s: &[u8],
+    work: &mut [u32],
+    out: &mut [u8],
+    at: usize,
+    ls: List,
+    here: usize,
+    rec: u32,
+    l: Locals,
+) -> Emitted
     requires { ⌜ (length (now s) ≤ 65536) × (16384 ≤ length (now work)) × FewLocals l × (rec < 4096) × Recalled (now work) (typesIn (now s) (now work)) (Types.bodyUses (rec + 1) (bodyFrom (4096 - (rec + 1)) 0 (now s) here)) ⌝ }
     ensures { λ r. ⌜ EmitsCode (sizedBytes (now (s .entry)) ls) (bodyAnswer (now (s .entry)) (now (work .entry)) rec here l) (now (work .entry)) (now (out .entry)) at r (now (work .exit)) (now (out .exit)) ⌝ }
 {
@@ -54,7 +72,17 @@ fn emit_sized(s: &[u8], work: &mut [u32], out: &mut [u8], at: usize, ls: List, h
 }
 
 // The entry of a function whose type's number is known: its locals, and then its code.
-fn emit_typed(s: &[u8], work: &mut [u32], out: &mut [u8], at: usize, n: TypeNo, t: TypeUse, ls: List, here: usize, rec: u32) -> Emitted
+fn emit_typed(
+    s: &[u8],
+    work: &mut [u32],
+    out: &mut [u8],
+    at: usize,
+    n: TypeNo,
+    t: TypeUse,
+    ls: List,
+    here: usize,
+    rec: u32,
+) -> Emitted
     requires { ⌜ (length (now s) ≤ 65536) × (16384 ≤ length (now work)) × (rec < 4096) × Recalled (now work) (typesIn (now s) (now work)) (Types.bodyUses (rec + 1) (bodyFrom (4096 - (rec + 1)) 0 (now s) here)) × (length (useOf (now s) t .params) ≤ 64) × (length (listOf Token.param (now s) ls) ≤ 64) ⌝ }
     ensures { λ r. ⌜ EmitsTyped (now (s .entry)) (now (work .entry)) rec (typeNoOf n) t ls here (now (out .entry)) at r (now (work .exit)) (now (out .exit)) ⌝ }
 {
@@ -65,7 +93,16 @@ fn emit_typed(s: &[u8], work: &mut [u32], out: &mut [u8], at: usize, n: TypeNo, 
 }
 
 // The entry of a function: its type, its locals, its body.
-pub fn emit_func(s: &[u8], work: &mut [u32], out: &mut [u8], at: usize, t: TypeUse, ls: List, here: usize, rec: u32) -> Emitted
+pub fn emit_func(
+    s: &[u8],
+    work: &mut [u32],
+    out: &mut [u8],
+    at: usize,
+    t: TypeUse,
+    ls: List,
+    here: usize,
+    rec: u32,
+) -> Emitted
     requires { ⌜ (length (now s) ≤ 65536) × (16384 ≤ length (now work)) × (rec < 4096) × Recalled (now work) (typesIn (now s) (now work)) (Types.usedAt rec (Types.useOf (useOf (now s) t)) ++ Types.bodyUses (rec + 1) (bodyFrom (4096 - (rec + 1)) 0 (now s) here)) × (length (useOf (now s) t .params) ≤ 64) × (length (listOf Token.param (now s) ls) ≤ 64) ⌝ }
     ensures { λ r. ⌜ EmitsFunc (now (s .entry)) (now (work .entry)) rec t ls here (now (out .entry)) at r (now (work .exit)) (now (out .exit)) ⌝ }
 {

@@ -138,5 +138,12 @@ joined-append [] ys = refl
 joined-append (b ∷ xs) ys = ap (λ (l : Bytes). b ++ l) (joined-append xs ys) ∙ sym (append-assoc b (joined xs) (joined ys))
 
 pub good-append : (xs ys : Entries) → Good xs → Good ys → Good (xs ++ ys)
-good-append xs ys g h = record { each = λ k. rw (in-append k xs ys, joined-append (inSection k xs) (inSection k ys)) (omega (arith, g .each k, h .each k,
-    length-append (inSection k xs) (inSection k ys), length-append (joined (inSection k xs)) (joined (inSection k ys)))) }
+good-append xs ys g h = record {
+  each = λ k. rw (in-append k xs ys, joined-append (inSection k xs) (inSection k ys)) (omega (
+    arith,
+    g .each k,
+    h .each k,
+    length-append (inSection k xs) (inSection k ys),
+    length-append (joined (inSection k xs)) (joined (inSection k ys)),
+  ));
+}

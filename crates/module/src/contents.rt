@@ -1,7 +1,7 @@
 // The entries of one section, field by field.
+use content::EndsAt;
 use content::Entry;
 use content::Three;
-use content::EndsAt;
 use fields::Field;
 use walk::Cursor;
 use walk::What;
@@ -12,7 +12,15 @@ ghost use Rattle.sections.specs.Content.{bytesIn};
 ghost use Rattle.module.specs.Write.{Writes, Ready, ReadyThree, lastTwo, Writable};
 
 // An entry, if it is one of the section.
-fn emit_in(k: u8, s: &[u8], work: &mut [u32], out: &mut [u8], at: usize, e: Entry, rec: u32) -> usize
+fn emit_in(
+    k: u8,
+    s: &[u8],
+    work: &mut [u32],
+    out: &mut [u8],
+    at: usize,
+    e: Entry,
+    rec: u32,
+) -> usize
     requires { ⌜ Ready (now s) (now work) rec e ⌝ }
     ensures { λ r. ⌜ Writes (bytesIn k (entryIn (scopeIn (now (s .entry)) (now (work .entry))) (now (s .entry)) rec e)) (now (out .entry)) at r (now (out .exit)) (now (work .entry)) (now (work .exit)) ⌝ }
 {
@@ -25,7 +33,15 @@ fn emit_in(k: u8, s: &[u8], work: &mut [u32], out: &mut [u8], at: usize, e: Entr
     }
 }
 
-fn emit_two(k: u8, s: &[u8], work: &mut [u32], out: &mut [u8], at: usize, x: Three, rec: u32) -> usize
+fn emit_two(
+    k: u8,
+    s: &[u8],
+    work: &mut [u32],
+    out: &mut [u8],
+    at: usize,
+    x: Three,
+    rec: u32,
+) -> usize
     requires { ⌜ ReadyThree (now s) (now work) rec x ⌝ }
     ensures { λ r. ⌜ Writes (bytesIn k (lastTwo (scopeIn (now (s .entry)) (now (work .entry))) (now (s .entry)) rec x)) (now (out .entry)) at r (now (out .exit)) (now (work .entry)) (now (work .exit)) ⌝ }
 {
@@ -35,7 +51,15 @@ fn emit_two(k: u8, s: &[u8], work: &mut [u32], out: &mut [u8], at: usize, x: Thr
     emit_in(k, s, work, out, a, third, rec)
 }
 
-fn emit_three(k: u8, s: &[u8], work: &mut [u32], out: &mut [u8], at: usize, x: Three, rec: u32) -> usize
+fn emit_three(
+    k: u8,
+    s: &[u8],
+    work: &mut [u32],
+    out: &mut [u8],
+    at: usize,
+    x: Three,
+    rec: u32,
+) -> usize
     requires { ⌜ ReadyThree (now s) (now work) rec x ⌝ }
     ensures { λ r. ⌜ Writes (bytesIn k (threeIn (scopeIn (now (s .entry)) (now (work .entry))) (now (s .entry)) rec x)) (now (out .entry)) at r (now (out .exit)) (now (work .entry)) (now (work .exit)) ⌝ }
 {
@@ -45,7 +69,16 @@ fn emit_three(k: u8, s: &[u8], work: &mut [u32], out: &mut [u8], at: usize, x: T
 }
 
 // The entries of a field that was met at a cursor.
-fn emit_field(k: u8, s: &[u8], work: &mut [u32], out: &mut [u8], at: usize, c: Cursor, f: Field, here: usize) -> usize
+fn emit_field(
+    k: u8,
+    s: &[u8],
+    work: &mut [u32],
+    out: &mut [u8],
+    at: usize,
+    c: Cursor,
+    f: Field,
+    here: usize,
+) -> usize
     requires { ⌜ ReadyThree (now s) (now work) (c .rec) (three f (c .seen) here) ⌝ }
     ensures { λ r. ⌜ Writes (bytesIn k (threeIn (scopeIn (now (s .entry)) (now (work .entry))) (now (s .entry)) (c .rec) (three f (c .seen) here))) (now (out .entry)) at r (now (out .exit)) (now (work .entry)) (now (work .exit)) ⌝ }
 {

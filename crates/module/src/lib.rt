@@ -1,9 +1,9 @@
 // The module: its length, and its bytes section by section.
+pub mod added;
 pub mod contents;
 pub mod length;
-pub mod added;
 pub mod write;
 
-pub use length::module_len;
 pub use added::tally_types;
+pub use length::module_len;
 pub use write::put_module;

@@ -1,7 +1,7 @@
 // The bytes of the module. `declared` is the number of types that fields declare, and `t` the tally of all entries.
+use crate::added::put_types;
 use crate::contents::emit_fields;
 use crate::length::content_len;
-use crate::added::put_types;
 use sections::Tally;
 ghost use mathlib.Core.Path.{_≡_};
 ghost use mathlib.Core.List.{_∷_};
@@ -41,7 +41,15 @@ fn put_entries(k: u8, declared: u32, s: &[u8], work: &mut [u32], out: &mut [u8],
 }
 
 // The start section holds no count.
-fn put_content(k: u8, count: u64, declared: u32, s: &[u8], work: &mut [u32], out: &mut [u8], at: usize) -> usize
+fn put_content(
+    k: u8,
+    count: u64,
+    declared: u32,
+    s: &[u8],
+    work: &mut [u32],
+    out: &mut [u8],
+    at: usize,
+) -> usize
     requires { ⌜ Writable (now s) (now work) × Counts count k (allEntries declared (now s) (now work)) ⌝ }
     ensures { λ r. ⌜ Writes (Binary.content k (Binary.inSection k (allEntries declared (now (s .entry)) (now (work .entry))))) (now (out .entry)) at r (now (out .exit)) (now (work .entry)) (now (work .exit)) ⌝ }
 {
@@ -61,7 +69,15 @@ fn put_head(k: u8, n: usize, out: &mut [u8], at: usize) -> usize
 }
 
 // An empty section is omitted.
-fn put_section(k: u8, t: Tally, declared: u32, s: &[u8], work: &mut [u32], out: &mut [u8], at: usize) -> usize
+fn put_section(
+    k: u8,
+    t: Tally,
+    declared: u32,
+    s: &[u8],
+    work: &mut [u32],
+    out: &mut [u8],
+    at: usize,
+) -> usize
     requires { ⌜ (k < 12) × Writable (now s) (now work) × Counted t (allEntries declared (now s) (now work)) ⌝ }
     ensures { λ r. ⌜ Writes (Binary.section (allEntries declared (now (s .entry)) (now (work .entry))) k) (now (out .entry)) at r (now (out .exit)) (now (work .entry)) (now (work .exit)) ⌝ }
 {
@@ -78,7 +94,14 @@ fn put_section(k: u8, t: Tally, declared: u32, s: &[u8], work: &mut [u32], out: 
 }
 
 // Sections 1 to 11 in order.
-fn put_sections(t: Tally, declared: u32, s: &[u8], work: &mut [u32], out: &mut [u8], at: usize) -> usize
+fn put_sections(
+    t: Tally,
+    declared: u32,
+    s: &[u8],
+    work: &mut [u32],
+    out: &mut [u8],
+    at: usize,
+) -> usize
     requires { ⌜ Writable (now s) (now work) × Counted t (allEntries declared (now s) (now work)) ⌝ }
     ensures { λ r. ⌜ Writes (sectionsFrom 11 1 (allEntries declared (now (s .entry)) (now (work .entry)))) (now (out .entry)) at r (now (out .exit)) (now (work .entry)) (now (work .exit)) ⌝ }
 {

@@ -51,15 +51,21 @@ module _ (s w : List ℕ) (at : ℕ) (p : Part) (r : ℕ) where
   unfolding names entry
   names-low zero b h = refl
   names-low (suc n) b h =
-      rw (words-other b (λ e. omega arith) (λ e. omega arith) (λ e. omega arith), words-other (b + 1) (λ e. omega arith) (λ e. omega arith) (λ e. omega arith),
-      names-low n (b + 3) (omega arith))
+      rw (
+        words-other b (λ e. omega arith) (λ e. omega arith) (λ e. omega arith),
+        words-other (b + 1) (λ e. omega arith) (λ e. omega arith) (λ e. omega arith),
+        names-low n (b + 3) (omega arith),
+      )
 
   names-high : (n b : ℕ) → at + 3 ≤ b → names n s (entryWords s w at p r) b ≡ names n s w b
   unfolding names entry
   names-high zero b h = refl
   names-high (suc n) b h =
-      rw (words-other b (λ e. omega arith) (λ e. omega arith) (λ e. omega arith), words-other (b + 1) (λ e. omega arith) (λ e. omega arith) (λ e. omega arith),
-      names-high n (b + 3) (omega arith))
+      rw (
+        words-other b (λ e. omega arith) (λ e. omega arith) (λ e. omega arith),
+        words-other (b + 1) (λ e. omega arith) (λ e. omega arith) (λ e. omega arith),
+        names-high n (b + 3) (omega arith),
+      )
 
 -- the last name, after the others
 pub names-snoc : (n : ℕ) (s w : List ℕ) (b : ℕ) → names (suc n) s w b ≡ names n s w b ++ (entry s w (b + 3 * n) ∷ [])

@@ -61,7 +61,15 @@ fn nameless() -> Part
 }
 
 // An inline table or memory: its segment, and then the item.
-fn register_with(s: &[u8], work: &mut [u32], seen: Seen, segment: Space, k: Space, id: Part, rec: u32) -> Registered
+fn register_with(
+    s: &[u8],
+    work: &mut [u32],
+    seen: Seen,
+    segment: Space,
+    k: Space,
+    id: Part,
+    rec: u32,
+) -> Registered
     requires { ⌜ (length (now s) ≤ 65536) × (16384 ≤ length (now work)) × Fit seen ((spaceOf segment, nameless) ∷ (spaceOf k, id) ∷ []) ⌝ }
     ensures { λ r. ⌜ registerIn (now (s .entry)) (now (work .entry)) seen rec ((spaceOf segment, nameless) ∷ (spaceOf k, id) ∷ []) ≡ registered r (now (work .exit)) ⌝ }
 {
@@ -74,13 +82,27 @@ fn register_with(s: &[u8], work: &mut [u32], seen: Seen, segment: Space, k: Spac
     }
 }
 
-fn register_source(s: &[u8], work: &mut [u32], seen: Seen, id: Part, x: Source, rec: u32) -> Registered
+fn register_source(
+    s: &[u8],
+    work: &mut [u32],
+    seen: Seen,
+    id: Part,
+    x: Source,
+    rec: u32,
+) -> Registered
     requires { ⌜ (length (now s) ≤ 65536) × (16384 ≤ length (now work)) × Fit seen (sourceItems id x) ⌝ }
     ensures { λ r. ⌜ registerIn (now (s .entry)) (now (work .entry)) seen rec (sourceItems id x) ≡ registered r (now (work .exit)) ⌝ }
 {
     match x {
         Source::Own(o) => register_item(s, work, seen, stream::counting::own_space(o), id, rec),
-        Source::Imported(_, e) => register_item(s, work, seen, stream::counting::extern_space(e), id, rec),
+        Source::Imported(_, e) => register_item(
+            s,
+            work,
+            seen,
+            stream::counting::extern_space(e),
+            id,
+            rec,
+        ),
         Source::TableOf(_, _) => register_with(s, work, seen, Space::Elems, Space::Tables, id, rec),
         Source::MemOf(_, _) => register_with(s, work, seen, Space::Datas, Space::Mems, id, rec),
     }
@@ -96,11 +118,14 @@ pub fn register_field(s: &[u8], work: &mut [u32], seen: Seen, f: Field, rec: u32
             params: _,
             results: _,
         } => register_item(s, work, seen, Space::Types, id, rec),
-        Field::Import {
-            name: _,
+        Field::Import { name: _, id, what } => register_item(
+            s,
+            work,
+            seen,
+            stream::counting::extern_space(what),
             id,
-            what,
-        } => register_item(s, work, seen, stream::counting::extern_space(what), id, rec),
+            rec,
+        ),
         Field::Item {
             id,
             exports: _,

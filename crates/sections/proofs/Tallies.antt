@@ -72,8 +72,14 @@ unfolding added
 added-twice t k m n i j h w =
     let a : k < length (t .sizes) = omega (arith, w .sizes) in
     let b : k < length (t .counts) = omega (arith, w .counts) in
-    rw (getD-set-same (t .sizes) k (past (getD (t .sizes) k 0) m) 0 a, getD-set-same (t .counts) k (past (getD (t .counts) k 0) n) 0 b,
-    set-set (t .sizes) k, set-set (t .counts) k, past-past (getD (t .sizes) k 0) m i, past-past (getD (t .counts) k 0) n j)
+    rw (
+      getD-set-same (t .sizes) k (past (getD (t .sizes) k 0) m) 0 a,
+      getD-set-same (t .counts) k (past (getD (t .counts) k 0) n) 0 b,
+      set-set (t .sizes) k,
+      set-set (t .counts) k,
+      past-past (getD (t .sizes) k 0) m i,
+      past-past (getD (t .counts) k 0) n j,
+    )
     refl
 
 added-none : (t : Tally) (k : ℕ) → added t k 0 0 ≡ t

@@ -39,7 +39,14 @@ fn code_in(e: Entry) -> CodeIn
     }
 }
 
-pub fn emit_entry(s: &[u8], work: &mut [u32], out: &mut [u8], at: usize, e: Entry, rec: u32) -> EndsAt
+pub fn emit_entry(
+    s: &[u8],
+    work: &mut [u32],
+    out: &mut [u8],
+    at: usize,
+    e: Entry,
+    rec: u32,
+) -> EndsAt
     requires { ⌜ (length (now s) ≤ 65536) × (16384 ≤ length (now work)) × (rec < 4096) × Ready (now s) (now work) rec e ⌝ }
     ensures { λ r. ⌜ EmitsEntry (now (s .entry)) (now (work .entry)) rec e (now (out .entry)) at r (now (work .exit)) (now (out .exit)) ⌝ }
 {

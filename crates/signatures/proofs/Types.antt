@@ -51,8 +51,14 @@ pub table-kept : (n : ℕ) (s : Bytes) {w w′ : List ℕ} (base m : ℕ) → ba
 unfolding typeTable entryIn
 table-kept zero s base m h k = refl
 table-kept (suc n) s {w} {w′} base m h k =
-    rw (kept-word k base (omega arith), kept-word k (base + 1) (omega arith), kept-word k (base + 1 + 1) (omega arith), kept-word k (base + 3) (omega arith),
-    kept-word k (base + 3 + 1) (omega arith), table-kept n s {w = w} {w′ = w′} (base + 5) m (omega arith) k)
+    rw (
+      kept-word k base (omega arith),
+      kept-word k (base + 1) (omega arith),
+      kept-word k (base + 1 + 1) (omega arith),
+      kept-word k (base + 3) (omega arith),
+      kept-word k (base + 3 + 1) (omega arith),
+      table-kept n s {w = w} {w′ = w′} (base + 5) m (omega arith) k,
+    )
 
 -- nor do words after the number of types
 pub types-kept : (n : ℕ) (s : Bytes) {w w′ : List ℕ} → 5897 ≤ n → Kept n w w′ → typesIn s w′ ≡ typesIn s w

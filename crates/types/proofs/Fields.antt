@@ -131,8 +131,11 @@ module _ (rec : ℕ) (s : Bytes) (w : List ℕ) (k : ℕ) where
       field-data i m p d = rw d (handles-none rec (rec + 1) s w k h)
 
 pub ruleset externs = (extern-func, extern-table, extern-mem, extern-global)
+
 pub ruleset owns = (own-func, own-table, own-mem, own-global)
+
 pub ruleset items = (source-own, source-imported, source-table, source-mem)
+
 pub ruleset records = (field-import, field-item, field-type, field-export, field-start, field-elem, field-data)
 
 -- ## The uses of a record's fields
@@ -166,4 +169,3 @@ record-uses r next (Syntax.exportR n k x) s here = refl
 record-uses r next (Syntax.startR x) s here = refl
 record-uses r next (Syntax.elemR i m xs) s here = refl
 record-uses r next (Syntax.dataR i m d) s here = refl
-

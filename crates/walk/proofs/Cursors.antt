@@ -123,9 +123,9 @@ end-words w n a r more e =
     let l : 2 ≤ length (drop (8 + 2 * n) (take 520 w)) = rw e (omega arith) in
     let m : 8 + 2 * n + 1 < 520 = omega (arith, length-drop (8 + 2 * n) (take 520 w), length-take 520 w) in
     let first : getD w (8 + 2 * n) 0 ≡ a =
-        sym (getD-take 520 w (8 + 2 * n) 0 (omega arith)) ∙ rw add-zero at (sym (getD-drop (8 + 2 * n) (take 520 w) 0 0)) ∙ ap (λ (l : List ℕ). getD l 0 0) e in
+    sym (getD-take 520 w (8 + 2 * n) 0 (omega arith)) ∙ rw add-zero at (sym (getD-drop (8 + 2 * n) (take 520 w) 0 0)) ∙ ap (λ (l : List ℕ). getD l 0 0) e in
     let second : getD w (8 + 2 * n + 1) 0 ≡ r =
-        sym (getD-take 520 w (8 + 2 * n + 1) 0 m) ∙ sym (getD-drop (8 + 2 * n) (take 520 w) 1 0) ∙ ap (λ (l : List ℕ). getD l 1 0) e in
+    sym (getD-take 520 w (8 + 2 * n + 1) 0 m) ∙ sym (getD-drop (8 + 2 * n) (take 520 w) 1 0) ∙ ap (λ (l : List ℕ). getD l 1 0) e in
     rw (first, second)
 
 -- where the next field is read, its cursor is the one that the work area gives
@@ -142,9 +142,9 @@ module _ (s : Bytes) (w : List ℕ) (c : Cursor) (v : Ahead s w c) (f : Field) (
           let b : fieldBody (fieldOf s f) ≡ some 0 = body-is s f ∙ rw g in
           let next = cursorAfter c (fieldOf s f) s here in
           let x : endsFrom (c .left) c s ≡ endOf (fieldBody (fieldOf s f)) next ++ endsFrom n next s =
-              ap (λ m. endsFrom m c s) l ∙ ap (λ m. onVisit m (λ v. endOf (fieldBody (v .field)) (v .next) ++ endsFrom n (v .next) s) []) e in
+          ap (λ m. endsFrom m c s) l ∙ ap (λ m. onVisit m (λ v. endOf (fieldBody (v .field)) (v .next) ++ endsFrom n (v .next) s) []) e in
           let y = end-words w (c .own) (afterField (some 0) (c .rec + 1) s here .at) (afterField (some 0) (c .rec + 1) s here .rec)
-              (endsFrom n next s ++ v .ends .rest) (v .ends .is ∙ ap (λ z. z ++ v .ends .rest) x ∙ rw b) in
+          (endsFrom n next s ++ v .ends .rest) (v .ends .is ∙ ap (λ z. z ++ v .ends .rest) x ∙ rw b) in
           rw (g, b, field-seen s (c .seen) f, y)
       go (suc n) l (suc (suc d)) g k = absurd (omega arith)
 
@@ -188,7 +188,7 @@ module _ (s : Bytes) (c : Cursor) where
     unfolding visitAt
     visit-got w f here next v d k =
         let a : visitAt c s ≡ some (record { field = fieldOf s f; head-end = here; next = cursorAfter c (fieldOf s f) s here }) =
-            rw (lt-leb _ _ h, lt-leb _ _ g, e, d) in
+        rw (lt-leb _ _ h, lt-leb _ _ g, e, d) in
         let b = cursor-is s w c v f here l a in
         some-left l ∙ a ∙ rw (k, b)
 

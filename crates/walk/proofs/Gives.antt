@@ -226,9 +226,10 @@ module _ (room : Room) where
       ∷ (1, importOf room n tables tableExtern)
       ∷ (2, importOf room n mems memExtern)
       ∷ (3, importOf room n globals globalExtern)
-      ∷ [])
-      (import-of n funcs funcExtern extern-func,
-      (import-of n tables tableExtern extern-table, (import-of n mems memExtern extern-mem, (import-of n globals globalExtern extern-global, tt))))))
+      ∷ []) (
+        import-of n funcs funcExtern extern-func,
+        (import-of n tables tableExtern extern-table, (import-of n mems memExtern extern-mem, (import-of n globals globalExtern extern-global, tt))),
+      )))
 
   export-roomy : Gives (RoomyField room) exportRec
   unfolding exportRec

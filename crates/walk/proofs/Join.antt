@@ -309,7 +309,7 @@ module _ (c : Cursor) (f : FieldRec Identifier) (s : Bytes) (next n : ℕ) (seen
   onward-some j b a =
       let m : 4096 - (c .rec + 1) ≡ n = omega arith in
       let q : afterField (fieldBody f) (c .rec + 1) s next ≡ a .stop =
-          ap (λ z. afterField z (c .rec + 1) s next) b ∙ ap (λ z. afterBody z j (c .rec + 1) s next) m ∙ a .stops in
+      ap (λ z. afterField z (c .rec + 1) s next) b ∙ ap (λ z. afterBody z j (c .rec + 1) s next) m ∙ a .stops in
       let w = counts-with seen (c .seen) f v in
       let i = a .items in
       record {
@@ -439,7 +439,7 @@ joined (suc m) c s left seen rs h v = go (decLe (length s) (c .at)) left h v (λ
         let d = visit-read c s seen (f .rec) (x .next) (v .counts) l g (f .reads) in
         let y : oneRecord seen s (c .at) ≡ got (field (f .rec)) (x .next) = x .reads ∙ ap (λ z. got z (x .next)) (f .is) in
         let w : records n (c .rec + 1) (seenAfter seen (field (f .rec))) s (x .next) ≡ ok (x .rest) =
-            ap (λ z. records n (c .rec + 1) (seenAfter seen z) s (x .next)) (sym (f .is)) ∙ x .goes-on in
+        ap (λ z. records n (c .rec + 1) (seenAfter seen z) s (x .next)) (sym (f .is)) ∙ x .goes-on in
         let t : suc n - 1 ≡ n = omega arith in
         let o = onward-is c (f .rec) s (x .next) n seen (x .rest) (v .counts) (omega (arith, v .sum)) (field-funcs seen (v .funcs) (f .rec) k) w in
         joined-field m c s n seen rs (x .rest) (f .rec) (x .next) (v .counts) k d
