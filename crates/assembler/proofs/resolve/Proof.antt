@@ -1,0 +1,49 @@
+use Rattle.assembler.proofs.Stages.{resolve-long, resolve-writable, resolve-tally, resolve-done, resolve-not}
+use borrow.Author.Needs.{needs}
+use Rattle.assembler.proofs.resolve.Statement.{statement}
+use Rattle.assembler.proofs.resolve.Tie as tie
+
+check-fields-requires : tie.Need-check-fields-requires
+check-fields-requires c κs = search needs
+
+enum-told : tie.Need-enum-told
+enum-told c = search needs
+
+tally-types-requires : tie.Need-tally-types-requires
+tally-types-requires c κs = search resolve-long
+
+write-module-requires : tie.Need-write-module-requires
+write-module-requires c κs = (search resolve-writable, search resolve-tally)
+
+enum-known-v : tie.Need-enum-known-v
+enum-known-v c = search needs
+
+same-length : tie.Need-same-length
+same-length c = search needs
+
+same-length-2 : tie.Need-same-length-2
+same-length-2 c = search needs
+
+returns : tie.Need-returns
+returns c = search resolve-done
+
+same-length-3 : tie.Need-same-length-3
+same-length-3 c = search needs
+
+returns-2 : tie.Need-returns-2
+returns-2 c = search resolve-not
+
+pub resolve-spec : {M : Type 1} → statement M
+resolve-spec =
+    tie.close
+    (tie.spec
+    check-fields-requires
+    enum-told
+    tally-types-requires
+    write-module-requires
+    enum-known-v
+    same-length
+    same-length-2
+    returns
+    same-length-3
+    returns-2)
