@@ -1,0 +1,64 @@
+// Reads a stream from standard input, and writes its module, or the line "refused N at R".
+use assembler::Said;
+use libc::STDIN_FILENO;
+use libc::STDOUT_FILENO;
+ghost use mathlib.Core.Path.{_≡_};
+ghost use lib.ListN.{length};
+
+// One byte more than a stream may have, so that a longer one is refused and not cut.
+fn stream_buffer() -> [u8; 65537]
+    ensures { λ r. ⌜ 65537 ≡ length r ⌝ }
+{
+    [0; 65537]
+}
+
+fn work_area() -> [u32; 16384]
+    ensures { λ r. ⌜ 16384 ≡ length r ⌝ }
+{
+    [0; 16384]
+}
+
+fn out_buffer() -> [u8; 65536]
+    ensures { λ r. ⌜ 65536 ≡ length r ⌝ }
+{
+    [0; 65536]
+}
+
+fn text(s: &[u8]) {
+    io::write_all(STDOUT_FILENO, s);
+}
+
+fn number(n: u32) {
+    io::print_decimal(STDOUT_FILENO, n as u64);
+}
+
+fn report(r: Said, out: &[u8]) {
+    if r.number == 0 {
+        let len = r.len;
+        if len <= out.len() {
+            text(&out[0..len]);
+        }
+        return;
+    }
+    text(b"refused ");
+    number(r.number as u32);
+    text(b" at ");
+    number(r.rec);
+    text(b"\n");
+}
+
+fn run(buf: &mut [u8], work: &mut [u32], out: &mut [u8]) {
+    let n = io::read_full(STDIN_FILENO, buf);
+    if buf.len() < n {
+        return;
+    }
+    let r = assembler::assemble(&buf[0..n], work, out);
+    report(r, out);
+}
+
+fn main() {
+    let mut buf = stream_buffer();
+    let mut work = work_area();
+    let mut out = out_buffer();
+    run(&mut buf, &mut work, &mut out);
+}
