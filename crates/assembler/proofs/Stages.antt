@@ -125,13 +125,13 @@ module _ (s w : List ℕ) (d count : ℕ) (r : Checked) (w₁ : List ℕ) (h : C
         let i = items-of (resolveAll (scopeIn s w) (fieldsIn s)) (x .entries) (x .is) in
         let ts = types-kept s w w₁ 11536 k (omega arith) in
         let same =
-            ap (λ c. keptItems (resolveAll c (fieldsIn s)) ++ map typeI (drop d (typesIn s w₁))) scope
-            ∙ ap (λ c. keptItems (resolveAll (scopeIn s w) (fieldsIn s)) ++ map typeI (drop d c)) ts in
+        ap (λ c. keptItems (resolveAll c (fieldsIn s)) ++ map typeI (drop d (typesIn s w₁))) scope
+        ∙ ap (λ c. keptItems (resolveAll (scopeIn s w) (fieldsIn s)) ++ map typeI (drop d c)) ts in
         record {
           says =
-            y .says
-            ∙ ap (λ is. heard old (say count (fitted (length old) count is))) same
-            ∙ ap (λ c. heard old (say count c)) (sym (bind-kept (resolveAll (scopeIn s w) (fieldsIn s)) (λ is. fitted (length old) count (is ++ map typeI (drop d (typesIn s w)))) i));
+              y .says
+              ∙ ap (λ is. heard old (say count (fitted (length old) count is))) same
+              ∙ ap (λ c. heard old (say count c)) (sym (bind-kept (resolveAll (scopeIn s w) (fieldsIn s)) (λ is. fitted (length old) count (is ++ map typeI (drop d (typesIn s w)))) i));
           long = y .long ∙ k .long;
         }
 

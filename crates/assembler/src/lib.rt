@@ -26,7 +26,14 @@ pub struct Said {
 }
 
 // The module, where it has room.
-fn write_module(s: &[u8], work: &mut [u32], out: &mut [u8], count: u32, declared: u32, t: Tally) -> Said
+fn write_module(
+    s: &[u8],
+    work: &mut [u32],
+    out: &mut [u8],
+    count: u32,
+    declared: u32,
+    t: Tally,
+) -> Said
     requires { ⌜ Writable (now s) (now work) × (t ≡ tallies noTally (allEntries declared (now s) (now work))) ⌝ }
     ensures { λ r. ⌜ Does count (fitted (length (now (out .entry))) count (moduleItems declared (now (s .entry)) (now (work .entry)))) (now (work .entry)) (now (out .entry)) r (now (work .exit)) (now (out .exit)) ⌝ }
 {
