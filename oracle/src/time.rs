@@ -15,9 +15,14 @@ impl Best {
         work();
         self.1 = self.1.min(start.elapsed());
     }
+
+    /// Nanoseconds per byte of so many bytes.
+    fn per(&self, size: usize) -> f64 {
+        self.1.as_nanos() as f64 / size as f64
+    }
 }
 
-/// Times each part over all accepted streams.
+/// Times each part over all accepted streams, in turn.
 pub fn time(streams: &[&[u8]], rounds: usize) {
     let accepted = |bytes: &&&[u8]| matches!(answer(bytes, 65_536, false), Answer::Module(_));
     let streams: Vec<&[u8]> = streams.iter().filter(accepted).copied().collect();
@@ -26,7 +31,8 @@ pub fn time(streams: &[&[u8]], rounds: usize) {
     let mut reading = Best("reading the records (front)", Duration::MAX);
     let mut building = Best("building the crate's tree (front)", Duration::MAX);
     let mut passes = Best("the crate's passes and writer", Duration::MAX);
-    let mut both = Best("tree, passes and writer", Duration::MAX);
+    let mut with_tree = Best("tree, passes and writer", Duration::MAX);
+    let mut whole = Best("reading, tree, passes and writer", Duration::MAX);
     #[cfg(feature = "library")]
     let mut call = Best("the assembler's call", Duration::MAX);
     let records: Vec<_> = streams.iter().map(|bytes| stream::read(bytes).unwrap()).collect();
@@ -35,19 +41,23 @@ pub fn time(streams: &[&[u8]], rounds: usize) {
         let mut trees = Vec::with_capacity(records.len());
         building.round(|| trees.extend(records.iter().map(tree::module)));
         passes.round(|| trees.iter_mut().for_each(|tree| drop(black_box(tree.encode()))));
-        both.round(|| records.iter().for_each(|records| drop(black_box(tree::module(records).encode()))));
+        with_tree.round(|| records.iter().for_each(|records| drop(black_box(tree::module(records).encode()))));
+        whole.round(|| {
+            for bytes in &streams {
+                let records = stream::read(bytes).unwrap();
+                drop(black_box(tree::module(&records).encode()));
+            }
+        });
         #[cfg(feature = "library")]
         call.round(|| library::call(&streams));
     }
-    for Best(what, best) in [
-        reading,
-        building,
-        passes,
-        both,
+    #[cfg(feature = "library")]
+    println!("{}: {:.2} ns/byte", call.0, call.per(size));
+    for part in [reading, building, passes, with_tree, whole] {
+        print!("{}: {:.2} ns/byte", part.0, part.per(size));
         #[cfg(feature = "library")]
-        call,
-    ] {
-        println!("{what}: {:.2} ns/byte", best.as_nanos() as f64 / size as f64);
+        print!("; the call takes {:.2} times as long", call.per(size) / part.per(size));
+        println!();
     }
 }
 
