@@ -6,10 +6,10 @@
 //!   bench --streams SIZE            the streams of a size as oracle --time reads them
 //!
 //! JOB is `reading` (the reading pass alone) or `assembling` (the whole call).
-//! The rivals run in turn on the same streams, in one process. A round is
-//! passes over ALL bytes of different streams of a size, more than a branch
-//! predictor learns by heart; the best round counts. What is lent is made once
-//! and not cleared between calls.
+//! In a round each rival goes over ALL bytes of different streams of a size, more
+//! than a branch predictor learns by heart, in turn, in one process. Of each
+//! stream the best round counts. What is lent is made once and not cleared
+//! between calls.
 mod plain;
 #[cfg(feature = "proved")]
 mod proved;
@@ -22,16 +22,14 @@ mod tree;
 use rivals::{rivals, Rival};
 use std::hint::black_box;
 use std::io::{Read, Write};
-use std::time::Instant;
+use std::time::{Duration, Instant};
 
 const SIZES: [usize; 4] = [1_024, 5 * 1_024, 20 * 1_024, 40 * 1_024];
 /// Bytes of different streams of one size.
 const ALL: usize = 320 * 1_024;
-/// Passes over them by one rival in one round.
-const PASSES: usize = 4;
 /// Damaged streams of one size, beside the whole ones.
 const DAMAGED: usize = 4_000;
-const ROUNDS: usize = 60;
+const ROUNDS: usize = 200;
 
 type Rivals = Vec<(&'static str, Box<dyn Rival>)>;
 
@@ -43,6 +41,7 @@ fn streams(size: usize) -> Vec<Vec<u8>> {
 fn line(rival: &mut dyn Rival, stream: &[u8]) -> String {
     match rival.call(stream) {
         Err((number, record)) => format!("refused {number} at {record}"),
+        // A module is never empty; the reading pass writes nothing.
         Ok(records) if rival.output().is_empty() => format!("records {records}"),
         Ok(_) => {
             let hex: String = rival.output().iter().map(|byte| format!("{byte:02X}")).collect();
@@ -103,17 +102,14 @@ fn agree(rivals: &mut Rivals, streams: &[Vec<u8>]) -> usize {
     count
 }
 
-/// Nanoseconds per byte over one round.
-fn round(rival: &mut dyn Rival, streams: &[Vec<u8>]) -> f64 {
-    let size: usize = streams.iter().map(Vec::len).sum();
-    let start = Instant::now();
-    for _ in 0..PASSES {
-        for stream in streams {
-            let said = rival.call(black_box(stream));
-            black_box((said.is_ok(), rival.output()));
-        }
+/// One round: each stream's time, where it is better than before.
+fn round(rival: &mut dyn Rival, streams: &[Vec<u8>], best: &mut [Duration]) {
+    for (stream, best) in streams.iter().zip(best) {
+        let start = Instant::now();
+        let said = rival.call(black_box(stream));
+        black_box((said.is_ok(), rival.output()));
+        *best = start.elapsed().min(*best);
     }
-    start.elapsed().as_nanos() as f64 / (PASSES * size) as f64
 }
 
 fn measure(rivals: &mut Rivals, rounds: usize) {
@@ -121,20 +117,23 @@ fn measure(rivals: &mut Rivals, rounds: usize) {
         let streams = streams(size);
         let inputs = agree(rivals, &streams);
         let records: u32 = streams.iter().map(|stream| reading::read(stream).unwrap()).sum();
-        let mut best = vec![f64::INFINITY; rivals.len()];
+        let mut best = vec![vec![Duration::MAX; streams.len()]; rivals.len()];
         for _ in 0..rounds {
             for ((_, rival), best) in rivals.iter_mut().zip(&mut best) {
-                *best = best.min(round(&mut **rival, &streams));
+                round(&mut **rival, &streams, best);
             }
         }
         print!("{size:6} bytes, {:4} records", records as usize / streams.len());
         if rivals.len() > 1 {
             print!(", {inputs} inputs agree");
         }
-        for ((name, _), best) in rivals.iter().zip(&best) {
-            print!(", {name} {best:.2} ns/byte");
+        let bytes = size * streams.len();
+        let times: Vec<f64> =
+            best.iter().map(|best| best.iter().sum::<Duration>().as_nanos() as f64 / bytes as f64).collect();
+        for ((name, _), time) in rivals.iter().zip(&times) {
+            print!(", {name} {time:.2} ns/byte");
         }
-        match best[..] {
+        match times[..] {
             [plain, proved] => println!(", ratio {:.2}", proved / plain),
             _ => println!(),
         }
