@@ -8,6 +8,10 @@ use crate::{plain, reading};
 /// Bytes of output that an assembler is lent.
 const ROOM: usize = 65_536;
 
+/// Words of work area that the proved code is lent: the least.
+#[cfg(feature = "proved")]
+const WORK: usize = barrizuppa::WORK_WORDS;
+
 pub trait Rival {
     /// The count of records read, or the length of the module; or a refusal.
     fn call(&mut self, stream: &[u8]) -> Result<u32, Refusal>;
@@ -70,9 +74,9 @@ struct ProvedAssembler {
 #[cfg(feature = "proved")]
 impl Rival for ProvedAssembler {
     fn call(&mut self, stream: &[u8]) -> Result<u32, Refusal> {
-        let length = proved::assemble(stream, &mut self.work, &mut self.out)?;
-        self.written = length as usize;
-        Ok(length)
+        let said = barrizuppa::assemble_into(stream, &mut self.work, &mut self.out);
+        self.written = said.map_err(|refusal| (refusal.number, refusal.record))?;
+        Ok(self.written as u32)
     }
 
     fn output(&self) -> &[u8] {
@@ -87,14 +91,14 @@ pub fn rivals(job: &str) -> Vec<(&'static str, Box<dyn Rival>)> {
         "reading" => {
             list.push(("plain", Box::new(PlainReading)));
             #[cfg(feature = "proved")]
-            list.push(("proved", Box::new(ProvedReading { work: vec![0; proved::WORK] })));
+            list.push(("proved", Box::new(ProvedReading { work: vec![0; WORK] })));
         }
         "assembling" => {
             list.push(("plain", Box::new(PlainAssembler::default())));
             #[cfg(feature = "proved")]
             list.push((
                 "proved",
-                Box::new(ProvedAssembler { work: vec![0; proved::WORK], out: vec![0; ROOM], written: 0 }),
+                Box::new(ProvedAssembler { work: vec![0; WORK], out: vec![0; ROOM], written: 0 }),
             ));
         }
         _ => {}

@@ -44,7 +44,9 @@ pub fn time(streams: &[&[u8]], rounds: usize) {
     let mut with_tree = part("tree, passes and writer");
     let mut whole = part("reading, tree, passes and writer");
     #[cfg(feature = "library")]
-    let (mut call, mut library) = (part("the assembler's call"), library::Lent::new());
+    let mut call = part("the assembler's call");
+    #[cfg(feature = "library")]
+    let (mut work, mut out) = (vec![0; barrizuppa::WORK_WORDS], vec![0; 65_536]);
     let records: Vec<_> = streams.iter().map(|bytes| stream::read(bytes).unwrap()).collect();
     for _ in 0..rounds {
         reading.round(&streams, |bytes| drop(black_box(stream::read(bytes))));
@@ -54,59 +56,19 @@ pub fn time(streams: &[&[u8]], rounds: usize) {
         with_tree.round(&records, |records| drop(black_box(tree::module(records).encode())));
         whole.round(&streams, |bytes| drop(black_box(tree::module(&stream::read(bytes).unwrap()).encode())));
         #[cfg(feature = "library")]
-        call.round(&streams, |bytes| library.call(bytes));
+        call.round(&streams, |bytes| {
+            barrizuppa::assemble_into(bytes, &mut work, &mut out).expect("what the crate accepts");
+        });
+    }
+    for part in [&reading, &building] {
+        println!("{}: {:.2} ns/byte", part.what, part.per(size));
+    }
+    for part in [&passes, &with_tree, &whole] {
+        print!("{}: {:.2} ns/byte", part.what, part.per(size));
+        #[cfg(feature = "library")]
+        print!(", to which the assembler's call is {:.2}", call.per(size) / part.per(size));
+        println!();
     }
     #[cfg(feature = "library")]
     println!("{}: {:.2} ns/byte", call.what, call.per(size));
-    for part in [reading, building, passes, with_tree, whole] {
-        print!("{}: {:.2} ns/byte", part.what, part.per(size));
-        #[cfg(feature = "library")]
-        print!("; the call takes {:.2} times as long", call.per(size) / part.per(size));
-        println!();
-    }
-}
-
-#[cfg(feature = "library")]
-mod library {
-    unsafe extern "C" {
-        fn barrizuppa_assemble(
-            stream: *const u8,
-            stream_len: usize,
-            work: *mut u32,
-            work_len: usize,
-            out: *mut u8,
-            out_len: usize,
-            answer: *mut [u32; 4],
-        ) -> u32;
-    }
-
-    /// What the program would lend.
-    pub struct Lent {
-        work: Vec<u32>,
-        out: Vec<u8>,
-    }
-
-    impl Lent {
-        pub fn new() -> Self {
-            Lent { work: vec![0; 16_384], out: vec![0; 65_536] }
-        }
-
-        pub fn call(&mut self, stream: &[u8]) {
-            let mut answer = [0; 4];
-            // SAFETY: each pointer comes with the length of a part that outlives
-            // the call, and the parts do not overlap.
-            let number = unsafe {
-                barrizuppa_assemble(
-                    stream.as_ptr(),
-                    stream.len(),
-                    self.work.as_mut_ptr(),
-                    self.work.len(),
-                    self.out.as_mut_ptr(),
-                    self.out.len(),
-                    &mut answer,
-                )
-            };
-            assert_eq!(number, 0, "the assembler refuses what the crate accepts");
-        }
-    }
 }
