@@ -18,7 +18,7 @@ use Rattle.stream.specs.declared.pass.Count.{Count}
 use Rattle.stream.specs.declared.pass.Count.the-variants as C
 use Rattle.assembler.specs.Run.{outcomeOf}
 use Rattle.assembler.specs.declared.Said.{Said}
-use Rattle.promises.specs.Promise.{Assembles}
+use Rattle.promises.specs.Promise.{Assembles, Exports}
 
 -- ## The assembler
 
@@ -29,6 +29,11 @@ outcome-one r r′ out out′ w w′ e = (λ i. record { number = e i .number; r
 pub assemble-one : (s work old : List ℕ) (r r′ : Said) (out out′ w w′ : List ℕ) → Assembles s work old r out w → Assembles s work old r′ out′ w′
     → (r ≡ r′) × (out ≡ out′) × (w ≡ w′)
 assemble-one s work old r r′ out out′ w w′ k k′ = outcome-one r r′ out out′ w w′ (k ∙ sym k′)
+
+-- `barrizuppa_assemble`
+pub export-one : (s work old : List ℕ) (r r′ : ℕ) (a a′ out out′ w w′ : List ℕ) → Exports s work old r a out w → Exports s work old r′ a′ out′ w′
+    → (r ≡ r′) × (a ≡ a′) × (out ≡ out′) × (w ≡ w′)
+export-one s work old r r′ a a′ out out′ w w′ k k′ = let e = k ∙ sym k′ in (λ i. e i .number, λ i. e i .answer, λ i. e i .output, λ i. e i .work)
 
 -- ## The reading pass
 
