@@ -17,6 +17,11 @@ use Rattle.promises.specs.Promise.{Assembles, Exports, SameAnswer, SameE
 
 -- ## What two calls leave, by the definition
 
+-- all zeros
+call-works : (s t : Bytes) (work work′ : List ℕ) (old old′ : Bytes) → length work ≡ length work′ → call s work old .work ≡ call t work′ old′ .work
+unfolding call outcome workAfter
+call-works s t work work′ old old′ l = ap (λ n. replicate n 0) l
+
 module _ (s t : Bytes) (d : Renamed s t) (work work′ : List ℕ) (h : 16384 ≤ length work) (h′ : 16384 ≤ length work′) where
   -- the bytes beyond the module are those that were there
   call-outputs : (old old′ : Bytes) → old ≡ old′ → call s work old .output ≡ call t work′ old′ .output
@@ -35,11 +40,6 @@ module _ (s t : Bytes) (d : Renamed s t) (work work′ : List ℕ) (h : 16384 �
       first : (bs x y : Bytes) → take (length bs) ((bs ++ x) ++ y) ≡ bs
       first bs x y = ap (take (length bs)) (append-assoc bs x y) ∙ take-append-seam bs (x ++ y)
 
-  -- all zeros
-  call-works : (old old′ : Bytes) → length work ≡ length work′ → call s work old .work ≡ call t work′ old′ .work
-  unfolding call outcome workAfter
-  call-works old old′ l = ap (λ n. replicate n 0) l
-
 -- ## The call
 
 module _ (s t : Bytes) (d : Renamed s t) (work work′ : List ℕ) (h : 16384 ≤ length work) (h′ : 16384 ≤ length work′)
@@ -53,7 +53,7 @@ module _ (s t : Bytes) (d : Renamed s t) (work work′ : List ℕ) (h : 16384 �
     said = λ i. record { number = same .number i; rec = same .rec i; len = same .written i };
     bytes = same .bytes;
     outputs = λ o. ap (λ x. x .output) k ∙ call-outputs s t d work work′ h h′ old old′ o ∙ sym (ap (λ x. x .output) k′);
-    works = λ l. ap (λ x. x .work) k ∙ call-works s t d work work′ h h′ old old′ l ∙ sym (ap (λ x. x .work) k′);
+    works = λ l. ap (λ x. x .work) k ∙ call-works s t work work′ old old′ l ∙ sym (ap (λ x. x .work) k′);
   }
 
 -- ## The exported call
@@ -83,7 +83,7 @@ module _ (s t : Bytes) (d : Renamed s t) (work work′ : List ℕ) (h : 16384 �
 
   export-works : length work ≡ length work′ → exported s work old .work ≡ exported t work′ old′ .work
   unfolding exported handedOn
-  export-works l = call-works s t d work work′ h h′ (take (lent old) old) (take (lent old′) old′) l
+  export-works l = call-works s t work work′ (take (lent old) old) (take (lent old′) old′) l
 
   export-numbers : exported s work old .number ≡ exported t work′ old′ .number
   unfolding exported handedOn

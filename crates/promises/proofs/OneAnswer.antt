@@ -79,4 +79,4 @@ pub put-one-place : (old bs : List ℕ) (at r r′ : ℕ) (new new′ : List ℕ
 put-one-place old bs at r r′ new new′ k k′ = k .place ∙ sym (k′ .place)
 
 pub put-one : (old bs : List ℕ) (at r r′ : ℕ) (new new′ : List ℕ) → at + length bs < 2 ^ 63 → Put old at bs r new → Put old at bs r′ new′ → (r ≡ r′) × (new ≡ new′)
-put-one old bs at r r′ new new′ h k k′ = (k .place ∙ sym (k′ .place), k .bytes h ∙ sym (k′ .bytes h))
+put-one old bs at r r′ new new′ h k k′ = (put-one-place old bs at r r′ new new′ k k′, k .bytes h ∙ sym (k′ .bytes h))
