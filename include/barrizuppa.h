@@ -64,7 +64,7 @@ extern "C" {
  * before. With fewer than BARRIZUPPA_WORK_WORDS the answer is 10 (or 1, for a
  * stream that is too long).
  *
- * What the caller owes, and all that he owes: each pointer is valid for its
+ * What the caller owes, and nothing beyond it: each pointer is valid for its
  * length and aligned for its type, `answer` for four words, and no two of the
  * four overlap. A pointer that comes with the length 0 is not followed and may
  * be null.

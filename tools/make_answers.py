@@ -3,8 +3,10 @@
 
 usage: make_answers.py [--oracle PROGRAM] [--seed S] FOLDER
 
-Streams of generate.py, and those of tests/modules, are taken in turn, short
-ones first; one is kept if it shows something that no stream before it shows:
+The streams of samples.py come first, all of them, and must have the answers that
+document 01 gives. Then streams of generate.py, and those of tests/modules, are
+taken in turn, short ones first; one is kept if it shows something that no stream
+before it shows:
   an opcode, a form of a field, an index, a constant or limits, in a module
   a refusal at a record that begins with this byte
   one of the slips of slips.py
@@ -24,6 +26,7 @@ import generate
 import model
 import modules
 import reading_model
+import samples
 import shrink
 import slips
 
@@ -112,6 +115,13 @@ def candidates(seed):
     return sorted(streams, key=lambda stream: (len(stream) > LONGEST, len(stream), stream))
 
 
+def is_right(answer, expected):
+    """A line of an answer is what samples.py expects."""
+    if expected.startswith('refused'):
+        return answer == expected
+    return answer.startswith('ok ') and expected in answer
+
+
 def showing(slip, answers):
     """The shortest of the first few streams that show a slip; None if the slip
     is in what a caller lends, which is always the same here."""
@@ -133,6 +143,10 @@ def main():
     parser.add_argument('folder')
     options = parser.parse_args()
     kept, seen = [], set()
+    for name, stream, expected in samples.SAMPLES:
+        assert is_right(model.line(model.assemble(stream)).lower(), expected), name
+        seen |= shown(stream, model.assemble(stream))
+        kept.append(stream)
     for stream in candidates(options.seed):
         new = shown(stream, model.assemble(stream)) - seen
         if new:

@@ -71,9 +71,19 @@ pub fn assemble(stream: &[u8]) -> Result<Vec<u8>, Refusal> {
 /// they were. `work` may hold anything; afterwards it is all zeros. It must
 /// have at least [`WORK_WORDS`] words, else the stream is refused 10.
 pub fn assemble_into(stream: &[u8], work: &mut [u32], out: &mut [u8]) -> Result<usize, Refusal> {
-    let mut answer = [0; 4];
+    let (number, [_, record, len, _]) = call(stream, work, out);
+    match number {
+        0 => Ok(len as usize),
+        _ => Err(Refusal { number, record }),
+    }
+}
+
+/// The library's call: the number that it returns, and the answer's words.
+fn call(stream: &[u8], work: &mut [u32], out: &mut [u8]) -> (u32, [u32; 4]) {
+    // Neither 0 nor a record number, so that an unwritten word is noticed.
+    let mut answer = [u32::MAX; 4];
     // SAFETY: each pointer comes with the length of a slice that outlives the
-    // call, the answer has four words, and since three of them are borrowed
+    // call, the answer has four words, and since three of the four are borrowed
     // mutably no two overlap.
     let number = unsafe {
         library::barrizuppa_assemble(
@@ -86,76 +96,42 @@ pub fn assemble_into(stream: &[u8], work: &mut [u32], out: &mut [u8]) -> Result<
             &mut answer,
         )
     };
-    let [_, record, len, _] = answer;
-    match number {
-        0 => Ok(len as usize),
-        _ => Err(Refusal { number, record }),
-    }
+    (number, answer)
 }
 
 #[cfg(test)]
 mod tests {
-    use super::{library::barrizuppa_assemble, WORK_WORDS};
+    use super::{call, library::barrizuppa_assemble, WORK_WORDS};
     use std::ptr::{null, null_mut};
-
-    /// The raw call: what it returns, and the four words.
-    fn raw(stream: &[u8], work: &mut [u32], out: &mut [u8]) -> (u32, [u32; 4]) {
-        // Neither 0 nor a record number, so that an unwritten word is noticed.
-        let mut answer = [u32::MAX; 4];
-        // SAFETY: as in `assemble_into`.
-        let returned = unsafe {
-            barrizuppa_assemble(
-                stream.as_ptr(),
-                stream.len(),
-                work.as_mut_ptr(),
-                work.len(),
-                out.as_mut_ptr(),
-                out.len(),
-                &mut answer,
-            )
-        };
-        (returned, answer)
-    }
 
     #[test]
     fn all_four_words_are_written() {
         let mut work = vec![0; WORK_WORDS];
         let mut out = [0; 64];
-        // A start and a memory: two records.
+        let start_and_memory = b"\x08\x01\0\x05\0\0\0\0\x01";
         assert_eq!(
-            raw(b"\x08\x01\0\x05\0\0\0\0\x01", &mut work, &mut out),
+            call(start_and_memory, &mut work, &mut out),
             (0, [0, 2, 16, 2])
         );
-        // The second starts with a byte that no record has.
+        let no_such_record = b"\x08\x01\0\x0B";
+        assert_eq!(call(no_such_record, &mut work, &mut out), (4, [4, 1, 0, 1]));
         assert_eq!(
-            raw(b"\x08\x01\0\x0B", &mut work, &mut out),
-            (4, [4, 1, 0, 1])
+            call(start_and_memory, &mut work, &mut out[..15]),
+            (18, [18, 2, 0, 2])
         );
-        assert_eq!(raw(b"", &mut work, &mut out[..7]), (18, [18, 0, 0, 0]));
     }
 
     #[test]
     fn a_null_pointer_with_length_0_is_not_followed() {
-        let mut answer = [u32::MAX; 4];
-        // SAFETY: no pointer but the answer's is followed.
-        let returned =
-            unsafe { barrizuppa_assemble(null(), 0, null_mut(), 0, null_mut(), 0, &mut answer) };
-        assert_eq!((returned, answer), (10, [10, 0, 0, 0]));
-
         let mut work = vec![7; WORK_WORDS];
-        // SAFETY: as above, and the work area has its length.
-        let returned = unsafe {
-            barrizuppa_assemble(
-                null(),
-                0,
-                work.as_mut_ptr(),
-                work.len(),
-                null_mut(),
-                0,
-                &mut answer,
-            )
-        };
-        assert_eq!((returned, answer), (18, [18, 0, 0, 0]));
+        for (words, len, number) in [(null_mut(), 0, 10), (work.as_mut_ptr(), work.len(), 18)] {
+            let mut answer = [u32::MAX; 4];
+            // SAFETY: the answer and the work area have their lengths; the other
+            // pointers come with the length 0.
+            let returned =
+                unsafe { barrizuppa_assemble(null(), 0, words, len, null_mut(), 0, &mut answer) };
+            assert_eq!((returned, answer), (number, [number, 0, 0, 0]));
+        }
         assert!(work.iter().all(|word| *word == 0));
     }
 }

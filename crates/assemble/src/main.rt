@@ -1,7 +1,6 @@
 // Reads a stream from standard input, and writes its module, or the line "refused N at R".
 use assembler::Said;
 use libc::STDIN_FILENO;
-use libc::STDOUT_FILENO;
 ghost use mathlib.Core.Path.{_≡_};
 ghost use lib.ListN.{length};
 
@@ -24,27 +23,15 @@ fn out_buffer() -> [u8; 65536]
     [0; 65536]
 }
 
-fn text(s: &[u8]) {
-    io::write_all(STDOUT_FILENO, s);
-}
-
-fn number(n: u32) {
-    io::print_decimal(STDOUT_FILENO, n as u64);
-}
-
 fn report(r: Said, out: &[u8]) {
     if r.number == 0 {
         let len = r.len;
         if len <= out.len() {
-            text(&out[0..len]);
+            console::text(&out[0..len]);
         }
         return;
     }
-    text(b"refused ");
-    number(r.number as u32);
-    text(b" at ");
-    number(r.rec);
-    text(b"\n");
+    console::refused(r.number, r.rec);
 }
 
 fn run(buf: &mut [u8], work: &mut [u32], out: &mut [u8]) {

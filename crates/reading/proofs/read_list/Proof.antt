@@ -1,8 +1,8 @@
 use borrow.Author.Needs.{needs}
 use lib.ListN.{length}
 use mathlib.Core.Path.{_≡_}
-use Rattle.reading.proofs.read_set.Statement.{statement}
-use Rattle.reading.proofs.read_set.Tie as tie
+use Rattle.reading.proofs.read_list.Statement.{statement}
+use Rattle.reading.proofs.read_list.Tie as tie
 
 abbrev Inv-loop : tie.InvT-loop
 Inv-loop buf₀ work₀ left₀ buf work left = (length buf ≡ length buf₀) × (length work ≡ length work₀)
@@ -43,8 +43,8 @@ same-length-4 c = search needs
 returns-2 : tie.Need-returns-2 Inv-loop μ-loop
 returns-2 c = search needs
 
-pub read-set-spec : {M : Type 1} → statement M
-read-set-spec =
+pub read-list-spec : {M : Type 1} → statement M
+read-list-spec =
     tie.close
     (tie.spec
     Inv-loop

@@ -1,7 +1,7 @@
 use Prim.Native.Nat.{_≤_, _-_}
 use borrow.Author.Needs.{needs}
-use Rattle.reading.proofs.next_length.Statement.{statement}
-use Rattle.reading.proofs.next_length.Tie as tie
+use Rattle.console.proofs.next_length.Statement.{statement}
+use Rattle.console.proofs.next_length.Tie as tie
 
 abbrev Inv-loop : tie.InvT-loop
 Inv-loop groups₀ n₀ groups n = n ≤ 5
