@@ -87,7 +87,7 @@ any-work : (s : Bytes) (work work′ room : ℕ) → 16384 ≤ work → 16384 �
 unfolding assemble
 any-work s work work′ room h h′ = rw (le-ltb work 16384 h, le-ltb work′ 16384 h′)
 
-same-said : (s t : Bytes) (work work′ room room′ : ℕ) → 16384 ≤ work → 16384 ≤ work′ → room ≡ room′ → Renamed s t
+pub same-said : (s t : Bytes) (work work′ room room′ : ℕ) → 16384 ≤ work → 16384 ≤ work′ → room ≡ room′ → Renamed s t
     → assemble s work room ≡ assemble t work′ room′
 same-said s t work work′ room room′ h h′ e d = rw e (any-work s work work′ room′ h h′ ∙ demand-3 s t work′ room′ h′ d)
 

@@ -25,7 +25,7 @@ use Rattle.renaming.proofs.Decide
 use Rattle.renaming.proofs.Decide.{renamed-by-test, alike-of}
 
 -- `unfolding computing` opens what the examples compute with
-computing : Unit {0}
+unfoldable pub computing : Unit {0}
 unfolding
     Basic._>>=_ Basic.each Basic.concatMap Basic.same Basic.sameBytes Basic.firstAt Basic.at Basic.isSome Basic.between
     Reader.byte Reader.many
