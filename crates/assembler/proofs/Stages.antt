@@ -27,7 +27,7 @@ use Rattle.sections.specs.Tally.{tallies, noTally, Tallied, ChecksIn}
 use Rattle.sections.specs.Content.{Fine, kept, typeEntries}
 use Rattle.sections.specs.declared.tally.Tally.{Tally}
 use Rattle.sections.specs.declared.tally.Verdict.{Verdict}
-use Rattle.sections.specs.declared.tally.Verdict.the-variants as V
+use Rattle.sections.specs.declared.tally.Verdict.the-variants as V′
 use Rattle.sections.specs.declared.tally.Checked.{Checked}
 use Rattle.sections.proofs.Tallies.{tallies-append}
 use Rattle.sections.proofs.Checking.{was-fine, fine-kept, was-not, not-long}
@@ -42,7 +42,7 @@ use Rattle.assembler.specs.declared.Passed.{Passed}
 -- ## The passes
 
 -- a stage that refuses
-pub refuses : (a : Answer Found) (count : ℕ) (s w : List ℕ) (p : Passed) (w′ : List ℕ) (n q : ℕ) → a ≡ refused n q → p .verdict ≡ V.Refused n q → length w′ ≡ length w → Passes a count s w p w′
+pub refuses : (a : Answer Found) (count : ℕ) (s w : List ℕ) (p : Passed) (w′ : List ℕ) (n q : ℕ) → a ≡ refused n q → p .verdict ≡ V′.Refused n q → length w′ ≡ length w → Passes a count s w p w′
 refuses a count s w p w′ n q e v l = record { says = rw v e; long = l }
 
 -- a stage that leaves the rest to the next
@@ -70,7 +70,7 @@ not-items (ok is) n q e = let z : _≡_ {A = ℕ} 0 1 = cc in absurd (omega arit
 not-items (refused m p) n q e = cc
 
 module _ (s w : List ℕ) (d count : ℕ) (r : Checked) (w₁ : List ℕ) (h : ChecksIn (entriesOf (scopeIn s w) (fieldsIn s)) noTally w r w₁) (v : Verdict) (g : v ≡ r .verdict) where
-  module _ (e : v ≡ V.Fine) where
+  module _ (e : v ≡ V′.Fine) where
     k : Kept 11536 w w₁
     k = fine-kept h (sym g ∙ e)
 
@@ -115,14 +115,14 @@ module _ (s w : List ℕ) (d count : ℕ) (r : Checked) (w₁ : List ℕ) (h : C
 
     pub resolve-done : (t : Tally) → length s ≤ 65536 → 16384 ≤ length w → Ahead s w begin → Recalled w (typesIn s w) (uses (fieldsIn s))
         → d ≡ length (declared (fieldsIn s)) → t ≡ tallies (r .tally) (typeEntries (drop d (typesIn s w₁)))
-        → Passes (fromNames (fieldsIn s) (scopeIn s w)) count s w (record { count = count; declared = d; tally = t; verdict = V.Fine }) w₁
+        → Passes (fromNames (fieldsIn s) (scopeIn s w)) count s w (record { count = count; declared = d; tally = t; verdict = V′.Fine }) w₁
     resolve-done t a b c u y i = record {
       says = record { found = found y; records = refl; ready = record { writable = writable a b c u; tally = all-tallied t i } };
       long = k .long;
     }
 
   -- a field was refused
-  pub resolve-not : (p : Passed) (n q : ℕ) → v ≡ V.Refused n q → p .verdict ≡ V.Refused n q → Passes (fromNames (fieldsIn s) (scopeIn s w)) count s w p w₁
+  pub resolve-not : (p : Passed) (n q : ℕ) → v ≡ V′.Refused n q → p .verdict ≡ V′.Refused n q → Passes (fromNames (fieldsIn s) (scopeIn s w)) count s w p w₁
   unfolding fromNames itemsIn entriesOf _>>=_
   resolve-not p n q e y =
       let i = not-items (resolveAll (scopeIn s w) (fieldsIn s)) n q (was-not h n q (sym g ∙ e)) in

@@ -17,7 +17,7 @@ use Rattle.definition.specs.Names.{Scope, Items, space, register, resolveAll}
 use Rattle.definition.specs.Binary.{module′}
 use Rattle.definition.specs.NameSection.{nameSection}
 use Rattle.definition.specs.Assemble.{scope, itemsIn, items, resolved, fitting, Maker, moduleIn, namedModuleIn}
-use Rattle.definition.specs.Assemble.{refusal, say, sayRead, assembleBy, outputAfter, workAfter, outcome, callBy, call, callNames}
+use Rattle.definition.specs.Assemble.{refusal, say, sayRead, assembleBy, outputAfter, workAfter, Outcome, outcome, callBy, call, callNames}
 use Rattle.laws.proofs.Passes.{scope-then}
 use Rattle.laws.specs.Steps.{total}
 use Rattle.stream.specs.Pass.{reading, counted, Reads}
@@ -45,7 +45,7 @@ use Rattle.scope.proofs.Frames.{types-kept, recalled-kept}
 use Rattle.sections.specs.Tally.{tallies, noTally}
 use Rattle.sections.specs.declared.tally.Tally.{Tally}
 use Rattle.sections.specs.declared.tally.Verdict.{Verdict}
-use Rattle.sections.specs.declared.tally.Verdict.the-variants as V
+use Rattle.sections.specs.declared.tally.Verdict.the-variants as V′
 use Rattle.module.specs.Write.{Writable, allEntries, moduleItems}
 use Rattle.name_section.specs.Section.{namesIn}
 use Rattle.assembler.specs.Run.{Found, fromNames, fromTypes, fromOrder, fromFields, Ready, PassesBy, Passes}
@@ -83,7 +83,7 @@ module _ (s w : List ℕ) (q : Registered) (w₁ : List ℕ) (h : Registers s w 
     unfolding fromTypes _>>=_
     register-done count p w₂ y = let a = stands e .says in passes-on _ _ count s w w₁ p w₂ (rw (a, scope) refl) (stands e .kept .long) y
 
-  pub register-not : (count : ℕ) (p : Passed) (n r : ℕ) → q ≡ R.Refused n r → p .verdict ≡ V.Refused n r → Passes (fromTypes (fieldsIn s) (typesIn s w)) count s w p w₁
+  pub register-not : (count : ℕ) (p : Passed) (n r : ℕ) → q ≡ R.Refused n r → p .verdict ≡ V′.Refused n r → Passes (fromTypes (fieldsIn s) (typesIn s w)) count s w p w₁
   unfolding fromTypes _>>=_ Registers
   register-not count p n r e v = (let g = rw e at h in let a = g .0 in refuses _ count s w p w₁ n r (rw a refl) v (g .1))
 
@@ -118,7 +118,7 @@ module _ (s w : List ℕ) (q : Typed) (w₁ : List ℕ) (h : TypesDone s w q w�
     unfolding fromOrder _>>=_
     types-done count p w₂ y = let a = has .all in passes-on _ _ count s w w₁ p w₂ (rw a refl) (has .kept .long) y
 
-  pub types-not : (count : ℕ) (p : Passed) (n r : ℕ) → q ≡ T.Refused n r → p .verdict ≡ V.Refused n r → Passes (fromOrder (fieldsIn s)) count s w p w₁
+  pub types-not : (count : ℕ) (p : Passed) (n r : ℕ) → q ≡ T.Refused n r → p .verdict ≡ V′.Refused n r → Passes (fromOrder (fieldsIn s)) count s w p w₁
   unfolding fromOrder _>>=_ TypesDone
   types-not count p n r e v = (let g = rw e at h in let a = g .says in refuses _ count s w p w₁ n r (rw a refl) v (g .long))
 
@@ -129,7 +129,7 @@ module _ (s w : List ℕ) (q : Ordered.Order) (h : importOrder (fieldsIn s) ≡ 
   unfolding fromFields _>>=_
   order-done count p w₂ e y = passes-on _ _ count s w w p w₂ (rw (h, e) refl) refl y
 
-  pub order-not : (count : ℕ) (p : Passed) (n r : ℕ) → q ≡ O.Refused n r → p .verdict ≡ V.Refused n r → Passes (fromFields (fieldsIn s)) count s w p w
+  pub order-not : (count : ℕ) (p : Passed) (n r : ℕ) → q ≡ O.Refused n r → p .verdict ≡ V′.Refused n r → Passes (fromFields (fieldsIn s)) count s w p w
   unfolding fromFields _>>=_
   order-not count p n r e v = refuses _ count s w p w n r (rw (h, e) refl) v refl
 
@@ -192,7 +192,7 @@ count-of s work n rs d e = go (ltb 65536 (length s)) (ltb work 16384) e
     go false false e = let f : ok (0 + length rs) ≡ ok n = (let g = e in rw d at g) in let x : 0 + length rs ≡ n = cc in omega arith
 
 module _ (s w : List ℕ) (q : Count) (w₁ : List ℕ) (h : Reads s w q w₁) (l : length w₁ ≡ length w) (p : Passed) where
-  pub prepare-not : (n r : ℕ) → q ≡ C.Refused n r → p .verdict ≡ V.Refused n r → Prepares s w p w₁
+  pub prepare-not : (n r : ℕ) → q ≡ C.Refused n r → p .verdict ≡ V′.Refused n r → Prepares s w p w₁
   prepare-not n r e v = record { says = λ names room. rw v (read-not (makes names) s (length w) room n r (h .says ∙ ap counted e)); ready = rw v tt; long = l }
 
   pub prepare-done : (n : ℕ) (w₂ : List ℕ) → q ≡ C.Records n → Passes (fromFields (fieldsIn s)) n s w₁ p w₂ → Prepares s w p w₂
@@ -217,60 +217,60 @@ module _ (s w : List ℕ) (q : Count) (w₁ : List ℕ) (h : Reads s w q w₁) (
       ends : (names : Bool) (room : ℕ) (v : Verdict) → PassesBy v (fromFields (fieldsIn s)) n s p w₂
           → say n (fromFields (fieldsIn s) >>= λ x. fitting room n (writes names (fieldsIn s) x))
           ≡ saidBy v (p .count) room (writes names (fieldsIn s) (scopeIn s w₂, moduleItems (p .declared) s w₂))
-      ends names room V.Fine z = let f = z .found in let c = z .records in rw (f, c) refl
-      ends names room (V.Refused m r) z = rw z refl
+      ends names room V′.Fine z = let f = z .found in let c = z .records in rw (f, c) refl
+      ends names room (V′.Refused m r) z = rw z refl
 
       ready : (v : Verdict) → PassesBy v (fromFields (fieldsIn s)) n s p w₂ → ReadyBy v s p w₂
-      ready V.Fine z = z .ready
-      ready (V.Refused m r) z = tt
+      ready V′.Fine z = z .ready
+      ready (V′.Refused m r) z = tt
 
 -- ## The calls
 
 module _ (s w : List ℕ) (p : Passed) (w₁ : List ℕ) (h : Prepares s w p w₁) (v : Verdict) (g : v ≡ p .verdict) where
-  is-ready : v ≡ V.Fine → Ready s p w₁
+  is-ready : v ≡ V′.Fine → Ready s p w₁
   is-ready e = let z = h .ready in rw (sym g ∙ e) at z
 
-  pub run-writable : v ≡ V.Fine → Writable s w₁
+  pub run-writable : v ≡ V′.Fine → Writable s w₁
   run-writable e = is-ready e .writable
 
-  pub run-tally : (t : Tally) → t ≡ p .tally → v ≡ V.Fine → t ≡ tallies noTally (allEntries (p .declared) s w₁)
+  pub run-tally : (t : Tally) → t ≡ p .tally → v ≡ V′.Fine → t ≡ tallies noTally (allEntries (p .declared) s w₁)
   run-tally t i e = i ∙ is-ready e .tally
 
   -- the writer does the rest
-  writer-done : (names : Bool) (old : List ℕ) (z : Said) (w₂ new : List ℕ) → v ≡ V.Fine
+  writer-done : (names : Bool) (old : List ℕ) (z : Said) (w₂ new : List ℕ) → v ≡ V′.Fine
       → Does (p .count) (writes names (fieldsIn s) (scopeIn s w₁, moduleItems (p .declared) s w₁)) w₁ old z w₂ new → Runs (makes names) s w old z w₂ new
   writer-done names old z w₂ new e y =
-      let f : p .verdict ≡ V.Fine = sym g ∙ e in
+      let f : p .verdict ≡ V′.Fine = sym g ∙ e in
       let x = h .says names (length old) in
       record { says = y .says ∙ ap (heard old) (sym (rw f at x)); long = y .long ∙ h .long }
 
-  pub run-names : (names : Bool) (old : List ℕ) (z : Said) (w₂ new : List ℕ) → v ≡ V.Fine → names ≡ true
+  pub run-names : (names : Bool) (old : List ℕ) (z : Said) (w₂ new : List ℕ) → v ≡ V′.Fine → names ≡ true
       → Does (p .count) (module′ (moduleItems (p .declared) s w₁) ++ namesIn s w₁) w₁ old z w₂ new → Runs (makes names) s w old z w₂ new
   unfolding namesIn
   run-names names old z w₂ new e b y = rw b (writer-done true old z w₂ new e y)
 
-  pub run-module : (names : Bool) (old : List ℕ) (z : Said) (w₂ new : List ℕ) → v ≡ V.Fine → names ≡ false
+  pub run-module : (names : Bool) (old : List ℕ) (z : Said) (w₂ new : List ℕ) → v ≡ V′.Fine → names ≡ false
       → Does (p .count) (module′ (moduleItems (p .declared) s w₁)) w₁ old z w₂ new → Runs (makes names) s w old z w₂ new
   run-module names old z w₂ new e b y = rw b (writer-done false old z w₂ new e y)
 
   -- a pass has refused
-  pub run-not : (names : Bool) (old : List ℕ) (n r : ℕ) → v ≡ V.Refused n r → Runs (makes names) s w old (record { number = n; rec = r; len = 0 }) w₁ old
+  pub run-not : (names : Bool) (old : List ℕ) (n r : ℕ) → v ≡ V′.Refused n r → Runs (makes names) s w old (record { number = n; rec = r; len = 0 }) w₁ old
   unfolding heard outputAfter
   run-not names old n r e =
-      let f : p .verdict ≡ V.Refused n r = sym g ∙ e in
+      let f : p .verdict ≡ V′.Refused n r = sym g ∙ e in
       let x = h .says names (length old) in
       record { says = ap (heard old) (sym (rw f at x)); long = h .long }
 
-call-is : (make : Maker) (s w old : List ℕ) (r : Said) (w′ w″ new : List ℕ) → Runs make s w old r w′ new → w″ ≡ replicate (length w′) 0 → outcomeOf r new w″ ≡ callBy make s w old
+pub call-is : (make : Maker) (s w old : List ℕ) (r : Said) (w′ w″ new : List ℕ) → Runs make s w old r w′ new → w″ ≡ replicate (length w′) 0 → outcomeOf r new w″ ≡ callBy make s w old
 unfolding callBy outcome workAfter heard
 call-is make s w old r w′ w″ new h e =
     let z : w″ ≡ replicate (length w) 0 = e ∙ ap (λ n. replicate n 0) (h .long) in
     λ i. record { number = h .says i .number; rec = h .says i .rec; written = h .says i .written; output = h .says i .output; work = z i }
 
-pub plain-call : (s w old : List ℕ) (r : Said) (w′ w″ new : List ℕ) → Runs (makes false) s w old r w′ new → w″ ≡ replicate (length w′) 0 → outcomeOf r new w″ ≡ call s w old
+pub plain-call : (s w old : List ℕ) (o : Outcome) → o ≡ callBy (makes false) s w old → o ≡ call s w old
 unfolding call
-plain-call s w old r w′ w″ new h e = call-is (makes false) s w old r w′ w″ new h e
+plain-call s w old o e = e
 
-pub names-call : (s w old : List ℕ) (r : Said) (w′ w″ new : List ℕ) → Runs (makes true) s w old r w′ new → w″ ≡ replicate (length w′) 0 → outcomeOf r new w″ ≡ callNames s w old
+pub names-call : (s w old : List ℕ) (o : Outcome) → o ≡ callBy (makes true) s w old → o ≡ callNames s w old
 unfolding callNames
-names-call s w old r w′ w″ new h e = call-is (makes true) s w old r w′ w″ new h e
+names-call s w old o e = e

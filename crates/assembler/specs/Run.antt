@@ -17,7 +17,7 @@ use Rattle.walk.specs.Walk.{fieldsIn}
 use Rattle.scope.specs.Scope.{scopeIn}
 use Rattle.sections.specs.Tally.{tallies, noTally}
 use Rattle.sections.specs.declared.tally.Verdict.{Verdict}
-use Rattle.sections.specs.declared.tally.Verdict.the-variants as V
+use Rattle.sections.specs.declared.tally.Verdict.the-variants as V′
 use Rattle.module.specs.Write.{Writable, allEntries, moduleItems}
 use Rattle.assembler.specs.declared.Said.{Said}
 use Rattle.assembler.specs.declared.Passed.{Passed}
@@ -52,8 +52,8 @@ pub record Holds (a : Answer Found) (count : ℕ) (s : List ℕ) (p : Passed) (w
   pub ready : Ready s p w
 
 abbrev pub PassesBy : Verdict → Answer Found → ℕ → List ℕ → Passed → List ℕ → Type 0
-PassesBy V.Fine a count s p w = Holds a count s p w
-PassesBy (V.Refused n q) a count s p w = a ≡ refused n q
+PassesBy V′.Fine a count s p w = Holds a count s p w
+PassesBy (V′.Refused n q) a count s p w = a ≡ refused n q
 
 -- a stage finds what is left to find, and keeps the work area's length
 pub record Passes (a : Answer Found) (count : ℕ) (s w : List ℕ) (p : Passed) (w′ : List ℕ) : Type 0 where
@@ -93,12 +93,12 @@ writes true fs x = module′ (x .1) ++ nameSection (x .0) fs
 
 -- what is said after the passes
 abbrev pub saidBy : Verdict → ℕ → ℕ → Bytes → Assemble.Said
-saidBy V.Fine count room bs = say count (fitting room count bs)
-saidBy (V.Refused n q) count room bs = refusal n q
+saidBy V′.Fine count room bs = say count (fitting room count bs)
+saidBy (V′.Refused n q) count room bs = refusal n q
 
 abbrev pub ReadyBy : Verdict → List ℕ → Passed → List ℕ → Type 0
-ReadyBy V.Fine s p w = Ready s p w
-ReadyBy (V.Refused n q) s p w = Unit {0}
+ReadyBy V′.Fine s p w = Ready s p w
+ReadyBy (V′.Refused n q) s p w = Unit {0}
 
 -- all passes: what is left of either call is its writer
 pub record Prepares (s w : List ℕ) (p : Passed) (w′ : List ℕ) : Type 0 where

@@ -1,4 +1,6 @@
 // The assembler: the passes in document 01's order, and after them the writers.
+pub mod export;
+
 use module::module_len;
 use names::Registered;
 use order::Order;
@@ -17,7 +19,6 @@ ghost use Rattle.signatures.specs.Table.{typesIn};
 ghost use Rattle.walk.specs.Walk.{Ahead, begin, fieldsIn};
 ghost use Rattle.scope.specs.Scope.{scopeIn, Recalled};
 ghost use Rattle.sections.specs.Tally.{tallies, noTally};
-ghost use Rattle.sections.specs.declared.tally.Verdict.the-variants as V;
 ghost use Rattle.module.specs.Write.{Writable, allEntries, moduleItems};
 ghost use Rattle.name_section.specs.Section.{namesIn};
 ghost use Rattle.assembler.specs.Run.{Passes, Prepares, Does, Runs, fromNames, fromTypes, fromOrder, fromFields, makes, outcomeOf};
@@ -40,7 +41,7 @@ pub struct Passed {
 // ## The passes
 
 fn refuse(n: u8, q: u32) -> Passed
-    ensures { λ r. ⌜ r .verdict ≡ V.Refused n q ⌝ }
+    ensures { λ r. ⌜ r .verdict ≡ Verdict.Refused n q ⌝ }
 {
     let tally = Tally {
         sizes: [0; 12],
@@ -201,21 +202,26 @@ fn run(s: &[u8], work: &mut [u32], out: &mut [u8], names: bool) -> Said
     }
 }
 
+// The same with the work area cleared.
+fn call(s: &[u8], work: &mut [u32], out: &mut [u8], names: bool) -> Said
+    ensures { λ r. ⌜ outcomeOf r (now (out .exit)) (now (work .exit)) ≡ Assemble.callBy (makes names) (now (s .entry)) (now (work .entry)) (now (out .entry)) ⌝ }
+{
+    let r = run(s, work, out, names);
+    space::clear(work);
+    r
+}
+
 // Any stream to its module. The answer is a number, a record and a length; the output holds the module and beyond it its old bytes, or on a
 // refusal its old bytes; the work area is all zeros.
 pub fn assemble(s: &[u8], work: &mut [u32], out: &mut [u8]) -> Said
     ensures { λ r. ⌜ outcomeOf r (now (out .exit)) (now (work .exit)) ≡ Assemble.call (now (s .entry)) (now (work .entry)) (now (out .entry)) ⌝ }
 {
-    let r = run(s, work, out, false);
-    space::clear(work);
-    r
+    call(s, work, out, false)
 }
 
 // The same with the standard's name section after the module, for a debugger.
 pub fn assemble_names(s: &[u8], work: &mut [u32], out: &mut [u8]) -> Said
     ensures { λ r. ⌜ outcomeOf r (now (out .exit)) (now (work .exit)) ≡ Assemble.callNames (now (s .entry)) (now (work .entry)) (now (out .entry)) ⌝ }
 {
-    let r = run(s, work, out, true);
-    space::clear(work);
-    r
+    call(s, work, out, true)
 }
