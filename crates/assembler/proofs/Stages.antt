@@ -33,6 +33,7 @@ use Rattle.sections.proofs.Tallies.{tallies-append}
 use Rattle.sections.proofs.Checking.{was-fine, fine-kept, was-not, not-long}
 use Rattle.module.specs.Length.{moduleLen}
 use Rattle.module.specs.Write.{Writes, Writable, allEntries, keptItems, moduleItems}
+use Rattle.module.proofs.Lengths.{past-past, past-measured}
 use Rattle.module.proofs.Sections.{module-len-is, writable-same}
 use Rattle.name_section.specs.Section.{NameTally, nameLen, namesIn}
 use Rattle.name_section.proofs.Section.{name-len-is, name-tally-kept, names-kept}
@@ -59,7 +60,7 @@ items-of (refused n r) es e = let z : _≡_ {A = ℕ} 0 1 = cc in absurd (omega 
 
 -- and are found
 found-of : (a : Answer (List Item)) (Γ : Scope Identifier) (more : List Item) → a ≡ ok (keptItems a)
-    → ((a >>= λ is. ok (is ++ more)) >>= λ is. ok (Γ, is)) ≡ ok (Γ, keptItems a ++ more)
+    → _>>=_ {B = Found} (a >>= λ is. ok (is ++ more)) (λ is. ok (Γ, is)) ≡ ok (Γ, keptItems a ++ more)
 unfolding _>>=_
 found-of (ok is) Γ more e = refl
 found-of (refused n r) Γ more e = let z : _≡_ {A = ℕ} 0 1 = cc in absurd (omega arith)
@@ -155,9 +156,10 @@ module-long s w d t m e g = g ∙ module-len-is t d s w e
 -- with its names
 pub both-long : (s w : List ℕ) (d : ℕ) (t n : Tally) (m l k : ℕ) → t ≡ tallies noTally (allEntries d s w) → m ≡ moduleLen t → NameTally s w n → l ≡ nameLen n → k ≡ past m l
     → k ≡ past 0 (length (module′ (moduleItems d s w) ++ namesIn s w))
-unfolding past
 both-long s w d t n m l k e g x y z =
-    omega (arith, z, g ∙ module-len-is t d s w e, y ∙ name-len-is s w n x, length-append (module′ (moduleItems d s w)) (namesIn s w))
+    let a : m ≡ past 0 (length (module′ (moduleItems d s w))) = g ∙ module-len-is t d s w e in
+    let b : l ≡ past 0 (length (namesIn s w)) = y ∙ name-len-is s w n x in
+    z ∙ rw (a, b, length-append (module′ (moduleItems d s w)) (namesIn s w)) (past-measured _ (length (namesIn s w)) ∙ past-past 0 _ _)
 
 -- the name section after the module
 pub both-put : (s w : List ℕ) (bs old mid new w′ : List ℕ) (at len : ℕ) → Writes bs old 0 at mid w w′ → Put mid at (namesIn s w′) len new → Writes (bs ++ namesIn s w) old 0 len new w w′

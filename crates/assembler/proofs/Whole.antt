@@ -74,14 +74,14 @@ module _ (s w : List ℕ) (q : Registered) (w₁ : List ℕ) (h : Registers s w 
     pub register-recalled : (us : Uses) → Recalled w (typesIn s w) us → Recalled w₁ (typesIn s w₁) us
     register-recalled us a = rw types (recalled-kept w (typesIn s w) w₁ 5897 us (stands e .kept) (omega arith) a)
 
-    scope : _≡_ {A = Scope Identifier} (record { eq = sameBytes; names = λ k. space k (stands e .items); allTypes = typesIn s w }) (scopeIn s w₁)
+    scope-is : _≡_ {A = Scope Identifier} (record { eq = sameBytes; names = λ k. space k (stands e .items); allTypes = typesIn s w }) (scopeIn s w₁)
     unfolding scopeIn
-    scope = λ i. record { eq = sameBytes; names = λ k. stands e .tables .each k i; allTypes = sym types i }
+    scope-is = λ i. record { eq = sameBytes; names = λ k. stands e .tables .each k i; allTypes = sym types i }
 
     pub register-done : (count : ℕ) (p : Passed) (w₂ : List ℕ) → Passes (fromNames (fieldsIn s) (scopeIn s w₁)) count s w₁ p w₂
         → Passes (fromTypes (fieldsIn s) (typesIn s w)) count s w p w₂
     unfolding fromTypes _>>=_
-    register-done count p w₂ y = let a = stands e .says in passes-on _ _ count s w w₁ p w₂ (rw (a, scope) refl) (stands e .kept .long) y
+    register-done count p w₂ y = let a = stands e .says in passes-on _ _ count s w w₁ p w₂ (rw (a, scope-is) refl) (stands e .kept .long) y
 
   pub register-not : (count : ℕ) (p : Passed) (n r : ℕ) → q ≡ R.Refused n r → p .verdict ≡ V′.Refused n r → Passes (fromTypes (fieldsIn s) (typesIn s w)) count s w p w₁
   unfolding fromTypes _>>=_ Registers
@@ -135,24 +135,35 @@ module _ (s w : List ℕ) (q : Ordered.Order) (h : importOrder (fieldsIn s) ≡ 
 
 -- ## The records
 
+-- the stages are the definition's passes
+fields-found : (fs : Numbered Identifier) → fromFields fs ≡ (scope sameBytes fs >>= fromNames fs)
+unfolding fromFields fromOrder fromTypes
+fields-found fs = sym (scope-then sameBytes fs (fromNames fs))
+
+-- what follows them, on what they find and on the items alone
+found-then : (fs : Numbered Identifier) (a : Answer (Scope Identifier)) (k : Found → Answer Bytes) → (a >>= λ Γ. itemsIn Γ fs >>= λ is. k (Γ, is)) ≡ (a >>= fromNames fs >>= k)
+unfolding fromNames _>>=_
+found-then fs (refused n r) k = refl
+found-then fs (ok Γ) k = go (itemsIn Γ fs)
+  where
+    go : (b : Answer (List Item)) → (b >>= λ is. k (Γ, is)) ≡ (_>>=_ {B = Found} b (λ is. ok (Γ, is)) >>= k)
+    go (ok is) = refl
+    go (refused n r) = refl
+
+items-then : (fs : Numbered Identifier) (a : Answer (Scope Identifier)) (k : List Item → Answer Bytes) → ((a >>= λ Γ. itemsIn Γ fs) >>= k) ≡ (a >>= λ Γ. itemsIn Γ fs >>= k)
+unfolding _>>=_
+items-then fs (ok Γ) k = refl
+items-then fs (refused n r) k = refl
+
 -- a call is its writer after the passes
 made : (names : Bool) (room : ℕ) (rs : List (Rec Identifier)) → makes names room rs ≡ (fromFields (deinline rs) >>= λ x. fitting room (length rs) (writes names (deinline rs) x))
-unfolding fromFields fromOrder fromTypes fromNames moduleIn resolved items namedModuleIn _>>=_
-made names room rs = rw (← scope-then sameBytes (deinline rs) (fromNames (deinline rs))) (go names (scope sameBytes (deinline rs)))
-  where
-    last : (Γ : Scope Identifier) (a : Answer (List Item)) (k : Found → Answer Bytes) → (a >>= λ is. k (Γ, is)) ≡ ((a >>= λ is. ok (Γ, is)) >>= k)
-    last Γ (ok is) k = refl
-    last Γ (refused n r) k = refl
-
-    asks : Bool → Answer (Scope Identifier) → Answer Bytes
-    asks false a = (a >>= λ Γ. itemsIn Γ (deinline rs)) >>= λ is. fitting room (length rs) (module′ is)
-    asks true a = a >>= λ Γ. itemsIn Γ (deinline rs) >>= λ is. fitting room (length rs) (module′ is ++ nameSection Γ (deinline rs))
-
-    go : (names : Bool) (a : Answer (Scope Identifier)) → asks names a ≡ ((a >>= fromNames (deinline rs)) >>= λ x. fitting room (length rs) (writes names (deinline rs) x))
-    go false (ok Γ) = last Γ (itemsIn Γ (deinline rs)) (λ x. fitting room (length rs) (writes false (deinline rs) x))
-    go true (ok Γ) = last Γ (itemsIn Γ (deinline rs)) (λ x. fitting room (length rs) (writes true (deinline rs) x))
-    go false (refused n r) = refl
-    go true (refused n r) = refl
+unfolding moduleIn resolved items namedModuleIn
+made false room rs =
+    rw (fields-found (deinline rs))
+    (items-then (deinline rs) (scope sameBytes (deinline rs)) (λ is. fitting room (length rs) (module′ is))
+    ∙ found-then (deinline rs) (scope sameBytes (deinline rs)) (λ x. fitting room (length rs) (writes false (deinline rs) x)))
+made true room rs =
+    rw (fields-found (deinline rs)) (found-then (deinline rs) (scope sameBytes (deinline rs)) (λ x. fitting room (length rs) (writes true (deinline rs) x)))
 
 -- what reading refuses the call refuses
 read-not : (make : Maker) (s : Bytes) (work room n q : ℕ) → reading s work ≡ refused n q → assembleBy make s work room ≡ refusal n q
@@ -211,8 +222,9 @@ module _ (s w : List ℕ) (q : Count) (w₁ : List ℕ) (h : Reads s w q w₁) (
       whole : (names : Bool) (room : ℕ)
           → assembleBy (makes names) s (length w) room ≡ say n (fromFields (fieldsIn s) >>= λ x. fitting room n (writes names (fieldsIn s) x))
       whole names room =
-          read-ok (makes names) s (length w) room n (a .recs) (a .is) told-n
-          ∙ ap (say n) (made names room (a .recs) ∙ rw (fields-in s (a .recs) (a .is), number) refl)
+          let m : makes names room (a .recs) ≡ (fromFields (fieldsIn s) >>= λ x. fitting room n (writes names (fieldsIn s) x)) =
+          made names room (a .recs) ∙ rw (fields-in s (a .recs) (a .is), number) refl in
+          read-ok (makes names) s (length w) room n (a .recs) (a .is) told-n ∙ ap (say n) m
 
       ends : (names : Bool) (room : ℕ) (v : Verdict) → PassesBy v (fromFields (fieldsIn s)) n s p w₂
           → say n (fromFields (fieldsIn s) >>= λ x. fitting room n (writes names (fieldsIn s) x))
@@ -228,7 +240,10 @@ module _ (s w : List ℕ) (q : Count) (w₁ : List ℕ) (h : Reads s w q w₁) (
 
 module _ (s w : List ℕ) (p : Passed) (w₁ : List ℕ) (h : Prepares s w p w₁) (v : Verdict) (g : v ≡ p .verdict) where
   is-ready : v ≡ V′.Fine → Ready s p w₁
-  is-ready e = let z = h .ready in rw (sym g ∙ e) at z
+  is-ready e = go (p .verdict) (sym g ∙ e) (h .ready)
+    where
+      go : (u : Verdict) → u ≡ V′.Fine → ReadyBy u s p w₁ → Ready s p w₁
+      go u f z = rw f at z
 
   pub run-writable : v ≡ V′.Fine → Writable s w₁
   run-writable e = is-ready e .writable
