@@ -37,7 +37,8 @@ use Rattle.module.proofs.Lengths.{past-past, past-measured}
 use Rattle.module.proofs.Sections.{module-len-is, writable-same}
 use Rattle.name_section.specs.Section.{NameTally, nameLen, namesIn}
 use Rattle.name_section.proofs.Section.{name-len-is, name-tally-kept, names-kept}
-use Rattle.assembler.specs.Run.{Found, fromNames, Ready, Holds, Passes, heard, Does}
+use Rattle.assembler.specs.Run.{Found, fromNames, Ready, Holds, Passes, heard, noRoom, Does}
+use Rattle.assembler.specs.declared.Said.{Said}
 use Rattle.assembler.specs.declared.Passed.{Passed}
 
 -- ## The passes
@@ -133,9 +134,9 @@ module _ (s w : List ℕ) (d count : ℕ) (r : Checked) (w₁ : List ℕ) (h : C
 
 module _ (count : ℕ) (bs w old : List ℕ) (m : ℕ) (g : m ≡ past 0 (length bs)) where
   -- the bytes have no room
-  pub write-short : length old < m → length old * 1 < 2 ^ 63 → Does count bs w old (record { number = 18; rec = count; len = 0 }) w old
+  pub write-short : (r : Said) → r ≡ noRoom count → length old < m → Does count bs w old r w old
   unfolding fitting heard say outputAfter past
-  write-short h b = record { says = rw (lt-leb (length bs) (length old) (omega (arith, g))) refl; long = refl }
+  write-short r e h = record { says = rw (e, lt-leb (length bs) (length old) (omega (arith, g))) refl; long = refl }
 
   -- they have
   pub write-fits : (len : ℕ) (new w′ : List ℕ) → m ≤ length old → length old * 1 < 2 ^ 63 → Writes bs old 0 len new w w′

@@ -75,6 +75,10 @@ heard old a = record { number = a .number; rec = a .rec; written = length (a .by
 abbrev pub told : Said → Bytes → Told
 told r new = record { number = r .number; rec = r .rec; written = r .len; output = new }
 
+-- the bytes do not fit
+abbrev pub noRoom : ℕ → Said
+noRoom count = record { number = 18; rec = count; len = 0 }
+
 -- a writer puts these bytes, where they fit, and keeps the work area's length
 pub record Does (count : ℕ) (bs : Bytes) (w old : List ℕ) (r : Said) (w′ new : List ℕ) : Type 0 where
   pub says : told r new ≡ heard old (say count (fitting (length old) count bs))

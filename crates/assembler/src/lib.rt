@@ -21,7 +21,7 @@ ghost use Rattle.scope.specs.Scope.{scopeIn, Recalled};
 ghost use Rattle.sections.specs.Tally.{tallies, noTally};
 ghost use Rattle.module.specs.Write.{Writable, allEntries, moduleItems};
 ghost use Rattle.name_section.specs.Section.{namesIn};
-ghost use Rattle.assembler.specs.Run.{Passes, Prepares, Does, Runs, fromNames, fromTypes, fromOrder, fromFields, makes, outcomeOf};
+ghost use Rattle.assembler.specs.Run.{Passes, Prepares, noRoom, Does, Runs, fromNames, fromTypes, fromOrder, fromFields, makes, outcomeOf};
 
 // A number, a record, and how many bytes were written.
 pub struct Said {
@@ -122,6 +122,16 @@ fn prepare(s: &[u8], work: &mut [u32]) -> Passed
 
 // ## The writers
 
+fn no_room(count: u32) -> Said
+    ensures { λ r. ⌜ r ≡ noRoom count ⌝ }
+{
+    Said {
+        number: 18,
+        rec: count,
+        len: 0,
+    }
+}
+
 // The module, where it has room.
 fn write_module(
     s: &[u8],
@@ -135,11 +145,7 @@ fn write_module(
     ensures { λ r. ⌜ Does count (Binary.module′ (moduleItems declared (now (s .entry)) (now (work .entry)))) (now (work .entry)) (now (out .entry)) r (now (work .exit)) (now (out .exit)) ⌝ }
 {
     if out.len() < module_len(t) {
-        return Said {
-            number: 18,
-            rec: count,
-            len: 0,
-        };
+        return no_room(count);
     }
     let len = module::put_module(t, declared, s, work, out);
     Said {
@@ -163,11 +169,7 @@ fn write_names(
 {
     let n = name_section::measure(s, work);
     if out.len() < emit::tally(module_len(t), name_section::section_len(n)) {
-        return Said {
-            number: 18,
-            rec: count,
-            len: 0,
-        };
+        return no_room(count);
     }
     let at = module::put_module(t, declared, s, work, out);
     let len = name_section::put_name_section(n, s, work, out, at);

@@ -6,6 +6,9 @@ use Rattle.assembler.proofs.write_module.Tie as tie
 module-len-requires : tie.Need-module-len-requires
 module-len-requires c κs = search needs
 
+no-room-requires : tie.Need-no-room-requires
+no-room-requires c κs = search needs
+
 returns : tie.Need-returns
 returns c = search (write-short, module-long)
 
@@ -24,4 +27,11 @@ returns-2 c = search (write-fits, module-long)
 pub write-module-spec : {M : Type 1} → statement M
 write-module-spec =
     tie.close
-    (tie.spec module-len-requires returns put-module-requires same-length same-length-2 returns-2)
+    (tie.spec
+    module-len-requires
+    no-room-requires
+    returns
+    put-module-requires
+    same-length
+    same-length-2
+    returns-2)

@@ -15,6 +15,9 @@ section-len-requires c κs = search needs
 tally-requires : tie.Need-tally-requires
 tally-requires c κs = search needs
 
+no-room-requires : tie.Need-no-room-requires
+no-room-requires c κs = search needs
+
 same-length : tie.Need-same-length
 same-length c = search needs
 
@@ -44,6 +47,7 @@ write-names-spec =
     module-len-requires
     section-len-requires
     tally-requires
+    no-room-requires
     same-length
     returns
     put-module-requires
