@@ -60,41 +60,41 @@ entryAt w i = record { at = getD w i 0; len = getD w (i + 1) 0 }
 -- ## Functions
 
 -- the function that a field brings
-abbrev pub externFunction : Extern → Function
-externFunction (X.Func t) = N.Imported
-externFunction (X.Table t) = N.Nothing
-externFunction (X.Mem l) = N.Nothing
-externFunction (X.Global t) = N.Nothing
+abbrev pub functionOfExtern : Extern → Function
+functionOfExtern (X.Func t) = N.Imported
+functionOfExtern (X.Table t) = N.Nothing
+functionOfExtern (X.Mem l) = N.Nothing
+functionOfExtern (X.Global t) = N.Nothing
 
-abbrev pub ownFunction : Own → Function
-ownFunction (O.Func t ls) = N.Own t ls
-ownFunction (O.Table t) = N.Nothing
-ownFunction (O.Mem l) = N.Nothing
-ownFunction (O.Global t c) = N.Nothing
+abbrev pub functionOfOwn : Own → Function
+functionOfOwn (O.Func t ls) = N.Own t ls
+functionOfOwn (O.Table t) = N.Nothing
+functionOfOwn (O.Mem l) = N.Nothing
+functionOfOwn (O.Global t c) = N.Nothing
 
-abbrev pub sourceFunction : Source → Function
-sourceFunction (S.Own o) = ownFunction o
-sourceFunction (S.Imported n x) = externFunction x
-sourceFunction (S.TableOf w xs) = N.Nothing
-sourceFunction (S.MemOf w d) = N.Nothing
+abbrev pub functionOfSource : Source → Function
+functionOfSource (S.Own o) = functionOfOwn o
+functionOfSource (S.Imported n x) = functionOfExtern x
+functionOfSource (S.TableOf w xs) = N.Nothing
+functionOfSource (S.MemOf w d) = N.Nothing
 
-abbrev pub fieldFunction : Field → Function
-fieldFunction (F.Type i ps rs) = N.Nothing
-fieldFunction (F.Import n i x) = externFunction x
-fieldFunction (F.Item i es x) = sourceFunction x
-fieldFunction (F.Export n k x) = N.Nothing
-fieldFunction (F.Start x) = N.Nothing
-fieldFunction (F.Elem i m xs) = N.Nothing
-fieldFunction (F.Data i m d) = N.Nothing
+abbrev pub functionOf : Field → Function
+functionOf (F.Type i ps rs) = N.Nothing
+functionOf (F.Import n i x) = functionOfExtern x
+functionOf (F.Item i es x) = functionOfSource x
+functionOf (F.Export n k x) = N.Nothing
+functionOf (F.Start x) = N.Nothing
+functionOf (F.Elem i m xs) = N.Nothing
+functionOf (F.Data i m d) = N.Nothing
 
 -- its parameters and locals
 unfoldable pub ownLocals : Scope Identifier → Bytes → ℕ → TypeUse → Code.List → Namespace Identifier
 ownLocals Γ s r t ls = localsBy (Γ .allTypes) (useOf s t) (listOf Token.param s ls) (typeNo Γ r (useOf s t))
 
-abbrev pub localsIn : Scope Identifier → Bytes → ℕ → Function → List (Namespace Identifier)
-localsIn Γ s r N.Nothing = []
-localsIn Γ s r N.Imported = [] ∷ []
-localsIn Γ s r (N.Own t ls) = ownLocals Γ s r t ls ∷ []
+abbrev pub broughtLocals : Scope Identifier → Bytes → ℕ → Function → List (Namespace Identifier)
+broughtLocals Γ s r N.Nothing = []
+broughtLocals Γ s r N.Imported = [] ∷ []
+broughtLocals Γ s r (N.Own t ls) = ownLocals Γ s r t ls ∷ []
 
 -- the number of its type use is in the work area
 abbrev pub RecalledOf : Bytes → List ℕ → List FuncType → ℕ → Function → Type 0

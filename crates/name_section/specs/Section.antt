@@ -37,9 +37,9 @@ pub record NameTally (s w : List ℕ) (t : Tally) : Type 0 where
   pub functions : Measured t 1 (functionEntries s w)
   pub locals : Measured t 2 (localEntries s w)
 
--- what stands before the entries of a subsection: its number, its length, its count
-unfoldable pub headOf : Tally → ℕ → Bytes
-headOf t k = (k ∷ u (contentLen k (getD (t .sizes) k 0) (getD (t .counts) k 0))) ++ u (getD (t .counts) k 0)
+-- a subsection's number and the length of its content
+unfoldable pub lengthOf : Tally → ℕ → Bytes
+lengthOf t k = k ∷ u (contentLen k (getD (t .sizes) k 0) (getD (t .counts) k 0))
 
 -- how long both subsections are
 unfoldable pub subsectionsLen : Tally → ℕ

@@ -12,9 +12,10 @@ use typeuse::List;
 use typeuse::TypeUse;
 use walk::What;
 ghost use mathlib.Core.Path.{_≡_};
-ghost use mathlib.Core.List.{[], _∷_};
+ghost use mathlib.Core.List.{[], _∷_, _++_};
+ghost use mathlib.Core.Option.{none};
 ghost use Prim.Native.Nat.{_≤_};
-ghost use lib.ListN.{length};
+ghost use lib.ListN.{length, replicate};
 ghost use Rattle.definition.specs.Token as Token;
 ghost use Rattle.definition.specs.Types as Types;
 ghost use Rattle.definition.specs.Names as Definition;
@@ -23,9 +24,10 @@ ghost use Rattle.signatures.specs.Table.{typesIn};
 ghost use Rattle.binary.specs.Views.{typeNoOf};
 ghost use Rattle.walk.specs.Walk.{fieldsIn};
 ghost use Rattle.scope.specs.Scope.{scopeIn, Recalled};
+ghost use Rattle.frames.specs.Locals.{idsOf};
 ghost use Rattle.module.specs.Write.{Writable};
 ghost use Rattle.name_section.specs.NameSection.{namedFrom, functions};
-ghost use Rattle.name_section.specs.Maps.{first, Names, LocalNames, Few, externFunction, ownFunction, sourceFunction, fieldFunction, ownLocals, localsIn, RecalledOf};
+ghost use Rattle.name_section.specs.Maps.{first, Names, LocalNames, Few, functionOfExtern, functionOfOwn, functionOfSource, functionOf, ownLocals, broughtLocals, RecalledOf};
 
 // The function that a field brings.
 pub enum Function {
@@ -35,7 +37,7 @@ pub enum Function {
 }
 
 fn extern_function(x: Extern) -> Function
-    ensures { λ r. ⌜ r ≡ externFunction x ⌝ }
+    ensures { λ r. ⌜ r ≡ functionOfExtern x ⌝ }
 {
     match x {
         Extern::Func(_) => Function::Imported,
@@ -46,7 +48,7 @@ fn extern_function(x: Extern) -> Function
 }
 
 fn own_function(o: Own) -> Function
-    ensures { λ r. ⌜ r ≡ ownFunction o ⌝ }
+    ensures { λ r. ⌜ r ≡ functionOfOwn o ⌝ }
 {
     match o {
         Own::Func(t, ls) => Function::Own(t, ls),
@@ -57,7 +59,7 @@ fn own_function(o: Own) -> Function
 }
 
 fn source_function(x: Source) -> Function
-    ensures { λ r. ⌜ r ≡ sourceFunction x ⌝ }
+    ensures { λ r. ⌜ r ≡ functionOfSource x ⌝ }
 {
     match x {
         Source::Own(o) => own_function(o),
@@ -68,7 +70,7 @@ fn source_function(x: Source) -> Function
 }
 
 fn field_function(f: Field) -> Function
-    ensures { λ r. ⌜ r ≡ fieldFunction f ⌝ }
+    ensures { λ r. ⌜ r ≡ functionOf f ⌝ }
 {
     match f {
         Field::Type {
@@ -105,6 +107,21 @@ fn field_function(f: Field) -> Function
     }
 }
 
+// The names of an inline type's parameters, and of the locals.
+fn put_inline(s: &[u8], out: &mut [u8], at: usize, params: List, ls: List) -> Reached
+    ensures { λ r. ⌜ Names (idsOf (now (s .entry)) params ++ idsOf (now (s .entry)) ls) (first at 0) (now (out .entry)) r (now (out .exit)) ⌝ }
+{
+    let x = put_list(s, out, begin(at, 0), params);
+    put_list(s, out, x, ls)
+}
+
+// The names of the locals after so many parameters without identifiers.
+fn put_nameless(s: &[u8], out: &mut [u8], at: usize, n: u32, ls: List) -> Reached
+    ensures { λ r. ⌜ Names (replicate n none ++ idsOf (now (s .entry)) ls) (first at 0) (now (out .entry)) r (now (out .exit)) ⌝ }
+{
+    put_list(s, out, begin(at, n as u64), ls)
+}
+
 // The names of an own function of this type. Only an inline type's parameters have identifiers.
 fn put_typed(
     s: &[u8],
@@ -119,11 +136,10 @@ fn put_typed(
     ensures { λ r. ⌜ Names (Definition.localsOf (typesIn (now (s .entry)) (now (work .entry))) (typeNoOf n) (useOf (now (s .entry)) t) (listOf Token.param (now (s .entry)) ls)) (first at 0) (now (out .entry)) r (now (out .exit)) ⌝ }
 {
     if signatures::is_inline(s, t) {
-        let x = put_list(s, out, begin(at, 0), t.params);
-        return put_list(s, out, x, ls);
+        return put_inline(s, out, at, t.params, ls);
     }
     let nameless = signatures::param_count(s, work, n.0);
-    put_list(s, out, begin(at, nameless as u64), ls)
+    put_nameless(s, out, at, nameless, ls)
 }
 
 // The names of an own function. Where its type is refused it has none.
@@ -197,7 +213,7 @@ fn put_function(
     rec: u32,
 ) -> Reached
     requires { ⌜ (16384 ≤ length (now work)) × RecalledOf (now s) (now work) (typesIn (now s) (now work)) rec f × Few 4096 x ⌝ }
-    ensures { λ r. ⌜ LocalNames (localsIn (scopeIn (now (s .entry)) (now (work .entry))) (now (s .entry)) rec f) x (now (out .entry)) r (now (out .exit)) ⌝ }
+    ensures { λ r. ⌜ LocalNames (broughtLocals (scopeIn (now (s .entry)) (now (work .entry))) (now (s .entry)) rec f) x (now (out .entry)) r (now (out .exit)) ⌝ }
 {
     match f {
         Function::Nothing => x,

@@ -8,6 +8,7 @@ ghost use Prim.Native.Nat.{_+_, _≤_, _<_, min};
 ghost use lib.ListN.{length, getD};
 ghost use Rattle.definition.specs.Syntax.{funcs};
 ghost use Rattle.token.specs.Views.{idOf};
+ghost use Rattle.space.specs.Area.{entry};
 ghost use Rattle.names.specs.Register.{tableOf};
 ghost use Rattle.frames.specs.Locals.{idsOf};
 ghost use Rattle.name_section.specs.Maps.{Few, Names, first, entryAt};
@@ -69,11 +70,21 @@ fn entry_at(work: &[u32], place: usize) -> Part
     requires { ⌜ place + 1 < length (now work) ⌝ }
     ensures { λ r. ⌜ r ≡ entryAt (now (work .entry)) place ⌝ }
 {
-    let at = work[place];
+    let at = space::word(work, place);
+    let len = space::word(work, place + 1);
     Part {
         at: at as usize,
-        len: work[place + 1],
+        len,
     }
+}
+
+// The place of a function, whose entry stands there in the work area.
+fn put_place(s: &[u8], work: &[u32], out: &mut [u8], x: Reached, place: usize) -> Reached
+    requires { ⌜ (place + 1 < length (now work)) × Few 8589934592 x ⌝ }
+    ensures { λ r. ⌜ Names (entry (now (s .entry)) (now (work .entry)) place ∷ []) x (now (out .entry)) r (now (out .exit)) ⌝ }
+{
+    let id = entry_at(work, place);
+    put_next(out, x, s, id)
 }
 
 // The names of all functions.
@@ -85,7 +96,7 @@ pub fn put_functions(s: &[u8], work: &[u32], out: &mut [u8], at: usize) -> Reach
     let mut place = 5904;
     let mut x = begin(at, 0);
     while 0 < left {
-        x = put_next(out, x, s, entry_at(work, place));
+        x = put_place(s, work, out, x, place);
         place += 3;
         left -= 1;
     }

@@ -13,7 +13,7 @@ ghost use Rattle.definition.specs.Binary as Binary;
 ghost use Rattle.emit.specs.Put.{Put};
 ghost use Rattle.module.specs.Write.{Writable};
 ghost use Rattle.name_section.specs.NameSection.{sectionName};
-ghost use Rattle.name_section.specs.Section.{functionEntries, localEntries, NameTally, headOf, subsectionsLen, nameLen, namesIn, SizeOf};
+ghost use Rattle.name_section.specs.Section.{functionEntries, localEntries, NameTally, lengthOf, subsectionsLen, nameLen, namesIn, SizeOf};
 
 // The entries of each subsection on an empty part: where they end is how long they are.
 fn measure_functions(s: &[u8], work: &[u32]) -> Reached
@@ -65,44 +65,47 @@ pub fn section_len(t: Tally) -> usize
     sized_len(emit::tally(5, n))
 }
 
-// What stands before the entries of a subsection: its number, its length, its count.
-fn put_start(k: u8, t: Tally, out: &mut [u8], at: usize) -> usize
+// A subsection's number and the length of its content.
+fn put_length(k: u8, t: Tally, out: &mut [u8], at: usize) -> usize
     requires { ⌜ k < 12 ⌝ }
-    ensures { λ r. ⌜ Put (now (out .entry)) at (headOf t k) r (now (out .exit)) ⌝ }
+    ensures { λ r. ⌜ Put (now (out .entry)) at (lengthOf t k) r (now (out .exit)) ⌝ }
 {
     let i = k as usize;
     let sizes = t.sizes;
     let counts = t.counts;
-    let count = counts[i];
-    let n = content_len(k, sizes[i] as usize, count);
-    let a = put_head(k, n, out, at);
-    leb::put_u(out, a, count)
+    let n = content_len(k, sizes[i] as usize, counts[i]);
+    put_head(k, n, out, at)
 }
 
-// An empty subsection is omitted.
+// Subsection 1. An empty one is omitted.
 fn put_first(t: Tally, s: &[u8], work: &[u32], out: &mut [u8], at: usize) -> usize
     requires { ⌜ Writable (now s) (now work) × NameTally (now s) (now work) t ⌝ }
     ensures { λ r. ⌜ Put (now (out .entry)) at (Binary.sectionOf 1 (functionEntries (now (s .entry)) (now (work .entry)))) r (now (out .exit)) ⌝ }
 {
     let counts = t.counts;
-    if counts[1] == 0 {
+    let count = counts[1];
+    if count == 0 {
         return at;
     }
-    let a = put_start(1, t, out, at);
-    let x = put_functions(s, work, out, a);
+    let a = put_length(1, t, out, at);
+    let b = leb::put_u(out, a, count);
+    let x = put_functions(s, work, out, b);
     x.at
 }
 
+// Subsection 2, likewise.
 fn put_second(t: Tally, s: &[u8], work: &[u32], out: &mut [u8], at: usize) -> usize
     requires { ⌜ Writable (now s) (now work) × NameTally (now s) (now work) t ⌝ }
     ensures { λ r. ⌜ Put (now (out .entry)) at (Binary.sectionOf 2 (localEntries (now (s .entry)) (now (work .entry)))) r (now (out .exit)) ⌝ }
 {
     let counts = t.counts;
-    if counts[2] == 0 {
+    let count = counts[2];
+    if count == 0 {
         return at;
     }
-    let a = put_start(2, t, out, at);
-    let x = put_locals(s, work, out, a);
+    let a = put_length(2, t, out, at);
+    let b = leb::put_u(out, a, count);
+    let x = put_locals(s, work, out, b);
     x.at
 }
 
