@@ -1,9 +1,8 @@
 -- Name maps, a place at a time.
 use Prim.Native.Nat.{ℕ, zero, suc, _+_, _-_, _*_, _^_, _≤_, _<_, min}
 use mathlib.Core.Path.{_≡_, refl, sym, _∙_, ap, subst}
-use mathlib.Core.Bool.{Bool, true, false}
 use mathlib.Core.List.{List, [], _∷_, _++_, append-assoc, append-nil}
-use mathlib.Core.Option.{Option, none, some}
+use mathlib.Core.Option.{none, some}
 use lib.ListN.{length, getD, length-append}
 use mir.Syntax.{w64}
 use mir.Val.{Fits}
@@ -18,7 +17,7 @@ use Rattle.emit.specs.Put.{Put}
 use Rattle.emit.proofs.Laws.{put-none, put-then, put-is}
 use Rattle.token.specs.Views.{partOf, idOf}
 use Rattle.token.specs.declared.text.Part.{Part}
-use Rattle.typeuse.specs.Views.{localAt, elements}
+use Rattle.typeuse.specs.Views.{localAt}
 use Rattle.typeuse.specs.declared.Local.{Local}
 use Rattle.typeuse.specs.declared.LocalAt.{LocalAt}
 use Rattle.typeuse.specs.declared.LocalAt.the-variants as O

@@ -1,15 +1,15 @@
 -- The section: its length by the tally, and its bytes.
-use Prim.Native.Nat.{ℕ, zero, suc, _+_, _*_, _^_, _≤_, _<_}
+use Prim.Native.Nat.{ℕ, _+_, _*_, _^_, _≤_, _<_}
 use mathlib.Core.Path.{_≡_, refl, sym, _∙_, ap}
-use mathlib.Core.Bool.{Bool, true, false}
-use mathlib.Core.List.{List, [], _∷_, _++_, map, append-assoc, append-nil}
+use mathlib.Core.Bool.{true, false}
+use mathlib.Core.List.{List, [], _∷_, _++_, map}
 use lib.Dec.{eqb}
 use lib.ListN.{length, getD, length-append, length-map}
 use native.Mathlib.Omega.{arith}
 use borrow.Author.Tests.{eq-eqb, ne-eqb}
 use Rattle.definition.specs.Basic.{if_then_else_, concatMap}
 use Rattle.definition.specs.Syntax.{Bytes, Identifier, funcs}
-use Rattle.definition.specs.Binary.{unsigned, u, vec, sized, joined, content, sectionOf}
+use Rattle.definition.specs.Binary.{unsigned, u, sized, joined, content, sectionOf}
 use Rattle.emit.specs.Put.{Put, past}
 use Rattle.emit.proofs.Laws.{put-none, put-then, put-is}
 use Rattle.space.specs.Kept.{Kept}
@@ -107,9 +107,11 @@ both s w = sectionOf 1 (functionEntries s w) ++ sectionOf 2 (localEntries s w)
 subsections-long : (s w : List ℕ) (t : Tally) → NameTally s w t → subsectionsLen t ≡ past 0 (length (both s w))
 unfolding subsectionsLen
 subsections-long s w t v =
-    rw (entries-long t 1 (functionEntries s w) (v .functions .size) (v .functions .count) (functions-full s w),
+    rw (
+      entries-long t 1 (functionEntries s w) (v .functions .size) (v .functions .count) (functions-full s w),
       entries-long t 2 (localEntries s w) (v .locals .size) (v .locals .count) (locals-full s w),
-      length-append (sectionOf 1 (functionEntries s w)) (sectionOf 2 (localEntries s w)))
+      length-append (sectionOf 1 (functionEntries s w)) (sectionOf 2 (localEntries s w)),
+    )
     (past-measured (past 0 (length (sectionOf 1 (functionEntries s w)))) (length (sectionOf 2 (localEntries s w)))
     ∙ past-past 0 (length (sectionOf 1 (functionEntries s w))) (length (sectionOf 2 (localEntries s w))))
 
@@ -125,6 +127,7 @@ title = refl
 title-long : (n : ℕ) (bs : Bytes) → n ≡ past 0 (length bs) → past 5 n ≡ past 0 (length (sized sectionName ++ bs))
 title-long n bs e =
     rw (e, length-append (sized sectionName) bs, title) (past-measured 5 (length bs) ∙ past-from 5 (length bs) (omega arith))
+
 -- what the tally says of the section's length
 pub name-len-is : (s w : List ℕ) (t : Tally) → NameTally s w t → nameLen t ≡ past 0 (length (namesIn s w))
 unfolding nameLen

@@ -3,26 +3,24 @@ use Prim.Native.Nat.{ℕ, zero, suc, _+_, _-_, _*_, _^_, _≤_, _<_}
 use mathlib.Core.Path.{_≡_, refl, sym, _∙_, ap, subst}
 use mathlib.Core.Bool.{Bool, true, false}
 use mathlib.Core.List.{List, [], _∷_, _++_, map, append-assoc, append-nil}
-use mathlib.Core.Option.{Option, none, some}
+use mathlib.Core.Option.{none}
 use lib.ListN.{length, replicate, length-append, length-map}
 use native.Mathlib.Omega.{arith}
-use Rattle.definition.specs.Basic.{if_then_else_, Answer, ok, refused, concatMap, at}
+use Rattle.definition.specs.Basic.{ok, refused, concatMap, at}
 use Rattle.definition.specs.Syntax as Syntax
 use Rattle.definition.specs.Syntax.{Bytes, Identifier, Space, FuncType, number, exportF}
 use Rattle.definition.specs.Token as Token
 use Rattle.definition.specs.Deinline.{Numbered, fieldsOf, sourceFields}
 use Rattle.definition.specs.Types as Types
-use Rattle.definition.specs.Types.{Uses, uses, usedAt, isInline}
+use Rattle.definition.specs.Types.{uses, usedAt, isInline}
 use Rattle.definition.specs.Names.{Namespace, Scope, typeNo, paramCount, paramNames, localsOf}
 use Rattle.definition.specs.Binary.{u, vec}
 use Rattle.emit.specs.Put.{Put}
 use Rattle.emit.proofs.Laws.{put-none, put-then, put-is}
-use Rattle.token.specs.declared.text.Part.{Part}
 use Rattle.typeuse.specs.Views.{listOf, useOf, onStep, elements}
 use Rattle.typeuse.specs.declared.List as Code
 use Rattle.typeuse.specs.declared.TypeUse.{TypeUse}
 use Rattle.definition.specs.Reader.{Step, got, fault}
-use Rattle.sources.specs.declared.import.Extern.{Extern}
 use Rattle.sources.specs.declared.import.Extern.the-variants as X
 use Rattle.sources.specs.declared.source.Own.{Own}
 use Rattle.sources.specs.declared.source.Own.the-variants as O
@@ -51,7 +49,7 @@ use Rattle.content.proofs.Uses.{RecalledThree, recalled-here}
 use Rattle.module.specs.Write.{Writable}
 use Rattle.name_section.specs.NameSection as Definition
 use Rattle.name_section.specs.NameSection.{NameMap, namedFrom, localsBy, importedFunction, functionIn, functions, unlessEmpty, localNamesFrom, nameAssoc, indirectNameAssoc}
-use Rattle.name_section.specs.Maps.{first, Adds, Names, LocalNames, Few, functionOfExtern, functionOfOwn, functionOfSource, functionOf, ownLocals, broughtLocals, RecalledOf}
+use Rattle.name_section.specs.Maps.{first, Adds, Names, LocalNames, Few, functionOfOwn, functionOfSource, functionOf, ownLocals, broughtLocals, RecalledOf}
 use Rattle.name_section.specs.declared.map.Reached.{Reached}
 use Rattle.name_section.specs.declared.functions.Function.{Function}
 use Rattle.name_section.specs.declared.functions.Function.the-variants as N
@@ -303,6 +301,7 @@ walking-begin s w old here c x e d v h = rw (e, d) (record {
   so-far = adds-none indirectNameAssoc (first here 0) old h;
   same = refl;
 })
+
 module _ (s w old : List ℕ) (here : ℕ) (c : Cursor) (x : Reached) (out : List ℕ) (v : Walking s w old here c x out) where
   pub walking-few : Few 4096 x
   walking-few = record { low = omega (arith, v .sum); fewer = v .fewer }
@@ -325,6 +324,13 @@ module _ (s w old : List ℕ) (here : ℕ) (c : Cursor) (x : Reached) (out : Lis
       used : Recalled w (typesIn s w) (uses now ++ uses (fieldsAhead (m .next) s))
       used = subst (Recalled w (typesIn s w)) (ap uses (visit-fields s c m told f end is) ∙ uses-append now (fieldsAhead (m .next) s)) (v .recalled)
 
+      -- its functions, and the others
+      parts : functions (scopeIn s w) (fieldsAhead c s) ≡ broughtLocals (scopeIn s w) s (c .rec) (functionOf f) ++ functions (scopeIn s w) (fieldsAhead (m .next) s)
+      parts =
+          ap (functions (scopeIn s w)) (visit-fields s c m told f end is)
+          ∙ functions-append (scopeIn s w) now (fieldsAhead (m .next) s)
+          ∙ ap (λ z. z ++ functions (scopeIn s w) (fieldsAhead (m .next) s)) (functions-here (scopeIn s w) s c (m .next) f end)
+
       module _ (g : Function) (by : g ≡ functionOf f) where
         pub walking-uses : RecalledOf s w (typesIn s w) (c .rec) g
         walking-uses = rw by (uses-of s w (typesIn s w) c f end (recalled-here w (typesIn s w) s c (m .next) f end
@@ -332,21 +338,17 @@ module _ (s w old : List ℕ) (here : ℕ) (c : Cursor) (x : Reached) (out : Lis
 
         pub walking-again : (y : Reached) (new : List ℕ) → LocalNames (broughtLocals (scopeIn s w) s (c .rec) g) x out y new → Walking s w old here (m .next) y new
         walking-again y new q =
-            let Γ = scopeIn s w in
-            let met = functions-here Γ s c (m .next) f end in
-            let q′ : LocalNames (broughtLocals Γ s (c .rec) (functionOf f)) x out y new = rw (← by) q in
+            let brought : List (Namespace Identifier) = broughtLocals (scopeIn s w) s (c .rec) (functionOf f) in
+            let q′ : LocalNames brought x out y new = rw (← by) q in
             let less = visit-less s c m told f end is in
-            let one = brought-few Γ s (c .rec) (functionOf f) in
-            let parts : functions Γ (fieldsAhead c s) ≡ broughtLocals Γ s (c .rec) (functionOf f) ++ functions Γ (fieldsAhead (m .next) s) =
-                  ap (functions Γ) (visit-fields s c m told f end is) ∙ functions-append Γ now (fieldsAhead (m .next) s)
-                  ∙ ap (λ z. z ++ functions Γ (fieldsAhead (m .next) s)) met in
+            let one = brought-few (scopeIn s w) s (c .rec) (functionOf f) in
             record {
               room = v .room;
               ahead = visit-ahead s c m told f end is w (v .ahead);
               recalled = recalled-right w (typesIn s w) (uses now) (uses (fieldsAhead (m .next) s)) used;
               sum = omega (arith, v .sum, q′ .number);
-              fewer = omega (arith, v .fewer, q′ .number, q′ .count, names-few (x .number) (broughtLocals Γ s (c .rec) (functionOf f)));
-              done = v .done ++ broughtLocals Γ s (c .rec) (functionOf f);
-              so-far = locals-then (v .done) (broughtLocals Γ s (c .rec) (functionOf f)) (v .so-far) q′;
-              same = append-assoc (v .done) (broughtLocals Γ s (c .rec) (functionOf f)) (functions Γ (fieldsAhead (m .next) s)) ∙ ap (λ z. v .done ++ z) (sym parts) ∙ v .same;
+              fewer = omega (arith, v .fewer, q′ .number, q′ .count, names-few (x .number) brought);
+              done = v .done ++ brought;
+              so-far = locals-then (v .done) brought (v .so-far) q′;
+              same = append-assoc (v .done) brought (functions (scopeIn s w) (fieldsAhead (m .next) s)) ∙ ap (λ z. v .done ++ z) (sym parts) ∙ v .same;
             }

@@ -51,7 +51,10 @@ pub fn measure(s: &[u8], work: &[u32]) -> Tally
 fn subsections_len(t: Tally) -> usize
     ensures { λ r. ⌜ r ≡ subsectionsLen t ⌝ }
 {
-    emit::tally(module::length::section_len(t, 1), module::length::section_len(t, 2))
+    emit::tally(
+        module::length::section_len(t, 1),
+        module::length::section_len(t, 2),
+    )
 }
 
 // How long the section is. An empty one is omitted.
@@ -83,12 +86,12 @@ fn put_first(t: Tally, s: &[u8], work: &[u32], out: &mut [u8], at: usize) -> usi
     ensures { λ r. ⌜ Put (now (out .entry)) at (Binary.sectionOf 1 (functionEntries (now (s .entry)) (now (work .entry)))) r (now (out .exit)) ⌝ }
 {
     let counts = t.counts;
-    let count = counts[1];
-    if count == 0 {
+    let functions = counts[1];
+    if functions == 0 {
         return at;
     }
     let a = put_length(1, t, out, at);
-    let b = leb::put_u(out, a, count);
+    let b = leb::put_u(out, a, functions);
     let x = put_functions(s, work, out, b);
     x.at
 }
@@ -99,12 +102,12 @@ fn put_second(t: Tally, s: &[u8], work: &[u32], out: &mut [u8], at: usize) -> us
     ensures { λ r. ⌜ Put (now (out .entry)) at (Binary.sectionOf 2 (localEntries (now (s .entry)) (now (work .entry)))) r (now (out .exit)) ⌝ }
 {
     let counts = t.counts;
-    let count = counts[2];
-    if count == 0 {
+    let locals = counts[2];
+    if locals == 0 {
         return at;
     }
     let a = put_length(2, t, out, at);
-    let b = leb::put_u(out, a, count);
+    let b = leb::put_u(out, a, locals);
     let x = put_locals(s, work, out, b);
     x.at
 }

@@ -3,8 +3,8 @@ use borrow.Author.Needs.{needs}
 use Rattle.name_section.proofs.section.put_first.Statement.{statement}
 use Rattle.name_section.proofs.section.put_first.Tie as tie
 
-array-read-count : tie.Need-array-read-count
-array-read-count c = search needs
+array-read-functions : tie.Need-array-read-functions
+array-read-functions c = search needs
 
 returns : tie.Need-returns
 returns c = search first-none
@@ -28,7 +28,7 @@ pub put-first-spec : {M : Type 1} → statement M
 put-first-spec =
     tie.close
     (tie.spec
-    array-read-count
+    array-read-functions
     returns
     put-length-requires
     put-u-requires

@@ -3,8 +3,8 @@ use borrow.Author.Needs.{needs}
 use Rattle.name_section.proofs.section.put_second.Statement.{statement}
 use Rattle.name_section.proofs.section.put_second.Tie as tie
 
-array-read-count : tie.Need-array-read-count
-array-read-count c = search needs
+array-read-locals : tie.Need-array-read-locals
+array-read-locals c = search needs
 
 returns : tie.Need-returns
 returns c = search second-none
@@ -28,7 +28,7 @@ pub put-second-spec : {M : Type 1} → statement M
 put-second-spec =
     tie.close
     (tie.spec
-    array-read-count
+    array-read-locals
     returns
     put-length-requires
     put-u-requires
