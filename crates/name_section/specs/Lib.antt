@@ -1,0 +1,3 @@
+pub mod NameSection
+pub mod Maps
+pub mod Section
