@@ -36,7 +36,7 @@ use Rattle.module.specs.Write.{Writes, Writable, allEntries, keptItems, moduleI
 use Rattle.module.proofs.Lengths.{past-past, past-measured}
 use Rattle.module.proofs.Sections.{module-len-is, writable-same}
 use Rattle.name_section.specs.Section.{NameTally, nameLen, namesIn}
-use Rattle.name_section.proofs.Section.{name-len-is, name-tally-kept, names-kept}
+use Rattle.name_section.proofs.Subsections.{name-len-is, name-tally-kept, names-kept}
 use Rattle.assembler.specs.Run.{Found, fromNames, Ready, Holds, Passes, heard, noRoom, Does}
 use Rattle.assembler.specs.declared.Said.{Said}
 use Rattle.assembler.specs.declared.Passed.{Passed}
@@ -171,4 +171,4 @@ pub names-writable : (s w bs old new w′ : List ℕ) (at : ℕ) → Writable s 
 names-writable s w bs old new w′ at v x = writable-same s w w′ (x .area) v
 
 pub names-tally : (s w bs old new w′ : List ℕ) (at : ℕ) (n : Tally) → NameTally s w n → Writes bs old 0 at new w w′ → NameTally s w′ n
-names-tally s w bs old new w′ at n h x = name-tally-kept s w w′ n (x .area) h
+names-tally s w bs old new w′ at n h x = name-tally-kept s w w′ (x .area) n h

@@ -25,7 +25,7 @@ use Rattle.entries.proofs.Elements.{elements-none, elements-more, elements-faul
 use Rattle.space.specs.Area.{entry, names}
 use Rattle.names.specs.Register.{base, tableOf}
 use Rattle.frames.specs.Locals.{idsAt}
-use Rattle.name_section.specs.NameSection.{namedFrom, nameAssoc}
+use Rattle.definition.specs.NameSection.{namedFrom, nameAssoc}
 use Rattle.name_section.specs.Maps.{first, Adds, Names, Few, entryAt}
 use Rattle.name_section.specs.declared.map.Reached.{Reached}
 

@@ -23,7 +23,7 @@ use Rattle.module.proofs.Full.{u-only, first-some}
 use Rattle.module.proofs.Lengths.{past-past, past-measured, past-none, past-from, content-long, sized-long, entries-long}
 use Rattle.module.proofs.Emitting.{scope-same}
 use Rattle.module.proofs.Sections.{counted-put, headed-put, past-some}
-use Rattle.name_section.specs.NameSection.{NameMap, namedFrom, functions, localNamesFrom, nameAssoc, indirectNameAssoc, subsections, sectionName, customOf, nameSection}
+use Rattle.definition.specs.NameSection.{NameMap, namedFrom, functions, localNamesFrom, nameAssoc, indirectNameAssoc, subsections, sectionName, customOf, nameSection}
 use Rattle.name_section.specs.Maps.{first, Adds, Names, LocalNames}
 use Rattle.name_section.specs.Section.{functionEntries, localEntries, Measured, SizeOf, NameTally, lengthOf, subsectionsLen, nameLen, namesIn}
 use Rattle.name_section.specs.declared.map.Reached.{Reached}

@@ -47,8 +47,8 @@ use Rattle.frames.specs.Locals.{idsAt, idsOf}
 use Rattle.content.specs.Entry.{usesOf, three}
 use Rattle.content.proofs.Uses.{RecalledThree, recalled-here}
 use Rattle.module.specs.Write.{Writable}
-use Rattle.name_section.specs.NameSection as Definition
-use Rattle.name_section.specs.NameSection.{NameMap, namedFrom, localsBy, importedFunction, functionIn, functions, unlessEmpty, localNamesFrom, nameAssoc, indirectNameAssoc}
+use Rattle.definition.specs.NameSection as Definition
+use Rattle.definition.specs.NameSection.{NameMap, namedFrom, localsBy, importedFunction, functionIn, functions, unlessEmpty, localNamesFrom, nameAssoc, indirectNameAssoc}
 use Rattle.name_section.specs.Maps.{first, Adds, Names, LocalNames, Few, functionOfOwn, functionOfSource, functionOf, ownLocals, broughtLocals, RecalledOf}
 use Rattle.name_section.specs.declared.map.Reached.{Reached}
 use Rattle.name_section.specs.declared.functions.Function.{Function}

@@ -1,3 +1,2 @@
-pub mod NameSection
 pub mod Maps
 pub mod Section

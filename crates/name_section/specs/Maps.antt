@@ -23,7 +23,7 @@ use Rattle.sources.specs.declared.source.Source.the-variants as S
 use Rattle.fields.specs.declared.field.Field.{Field}
 use Rattle.fields.specs.declared.field.Field.the-variants as F
 use Rattle.scope.specs.Scope.{Recalled}
-use Rattle.name_section.specs.NameSection.{namedFrom, localsBy, localNamesFrom, nameAssoc, indirectNameAssoc}
+use Rattle.definition.specs.NameSection.{namedFrom, localsBy, localNamesFrom, nameAssoc, indirectNameAssoc}
 use Rattle.name_section.specs.declared.map.Reached.{Reached}
 use Rattle.name_section.specs.declared.functions.Function.{Function}
 use Rattle.name_section.specs.declared.functions.Function.the-variants as N

@@ -12,7 +12,7 @@ use Rattle.walk.specs.Walk.{fieldsIn}
 use Rattle.scope.specs.Scope.{scopeIn}
 use Rattle.sections.specs.declared.tally.Tally.{Tally}
 use Rattle.module.specs.Length.{contentLen, sizedLen, sectionLen}
-use Rattle.name_section.specs.NameSection.{namedFrom, functions, localNamesFrom, nameAssoc, indirectNameAssoc, nameSection}
+use Rattle.definition.specs.NameSection.{namedFrom, functions, localNamesFrom, nameAssoc, indirectNameAssoc, nameSection}
 use Rattle.name_section.specs.declared.map.Reached.{Reached}
 
 -- the entries of the subsections

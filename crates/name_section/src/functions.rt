@@ -26,7 +26,7 @@ ghost use Rattle.walk.specs.Walk.{fieldsIn};
 ghost use Rattle.scope.specs.Scope.{scopeIn, Recalled};
 ghost use Rattle.frames.specs.Locals.{idsOf};
 ghost use Rattle.module.specs.Write.{Writable};
-ghost use Rattle.name_section.specs.NameSection.{namedFrom, functions};
+ghost use Rattle.definition.specs.NameSection.{namedFrom, functions};
 ghost use Rattle.name_section.specs.Maps.{first, Names, LocalNames, Few, functionOfExtern, functionOfOwn, functionOfSource, functionOf, ownLocals, broughtLocals, RecalledOf};
 
 // The function that a field brings.

@@ -12,7 +12,7 @@ ghost use lib.ListN.{length};
 ghost use Rattle.definition.specs.Binary as Binary;
 ghost use Rattle.emit.specs.Put.{Put};
 ghost use Rattle.module.specs.Write.{Writable};
-ghost use Rattle.name_section.specs.NameSection.{sectionName};
+ghost use Rattle.definition.specs.NameSection.{sectionName};
 ghost use Rattle.name_section.specs.Section.{functionEntries, localEntries, NameTally, lengthOf, subsectionsLen, nameLen, namesIn, SizeOf};
 
 // The entries of each subsection on an empty part: where they end is how long they are.

@@ -1,5 +1,5 @@
 use Rattle.definition.specs.Binary.{unsigned, u, sized}
-use Rattle.name_section.specs.NameSection.{sectionName}
+use Rattle.definition.specs.NameSection.{sectionName}
 use borrow.Author.Needs.{needs}
 use Rattle.name_section.proofs.section.put_title.Statement.{statement}
 use Rattle.name_section.proofs.section.put_title.Tie as tie
