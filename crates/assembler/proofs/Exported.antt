@@ -1,7 +1,7 @@
 -- The exported calls hand on what the assembler says.
 use Prim.Native.Nat.{ℕ, _≤_}
 use mathlib.Core.Path.{_≡_, refl, sym, _∙_, ap}
-use mathlib.Core.List.{List, [], _∷_, _++_, append-nil}
+use mathlib.Core.List.{List, [], _++_, append-nil}
 use lib.ListN.{length, take, drop, length-append, length-take, take-append-drop, drop-of-length-le}
 use native.Mathlib.Omega.{arith}
 use mir.Syntax.{w32}

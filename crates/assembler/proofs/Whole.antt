@@ -1,21 +1,18 @@
 -- The stages before, the join with the records, and the whole call.
-use Prim.Native.Nat.{ℕ, zero, suc, _+_, _≤_, _<_}
+use Prim.Native.Nat.{ℕ, _+_, _≤_}
 use mathlib.Core.Path.{_≡_, refl, sym, _∙_, ap}
 use mathlib.Core.Bool.{Bool, true, false}
-use mathlib.Core.List.{List, [], _∷_, _++_, map}
-use lib.Dec.{leb, ltb}
-use lib.ListN.{length, drop, replicate}
-use borrow.Author.Tests.{lt-ltb, le-ltb}
+use mathlib.Core.List.{List, [], _∷_, _++_}
+use lib.Dec.{ltb}
+use lib.ListN.{length, replicate}
 use native.Mathlib.Omega.{arith}
 use Rattle.definition.specs.Basic.{if_then_else_, Answer, ok, refused, _>>=_, sameBytes}
-use Rattle.definition.specs.Syntax.{Bytes, Identifier, Space, Rec, Item, typeI, FuncType}
+use Rattle.definition.specs.Syntax.{Bytes, Identifier, Rec, Item, FuncType}
 use Rattle.definition.specs.Read.{read}
 use Rattle.definition.specs.Deinline.{Numbered, importOrder, deinline}
-use Rattle.definition.specs.Types as Types
 use Rattle.definition.specs.Types.{Uses, uses, allTypes, declared}
-use Rattle.definition.specs.Names.{Scope, Items, space, register, resolveAll}
+use Rattle.definition.specs.Names.{Scope, space}
 use Rattle.definition.specs.Binary.{module′}
-use Rattle.definition.specs.NameSection.{nameSection}
 use Rattle.definition.specs.Assemble.{scope, itemsIn, items, resolved, fitting, Maker, moduleIn, namedModuleIn}
 use Rattle.definition.specs.Assemble.{refusal, say, sayRead, assembleBy, outputAfter, workAfter, Outcome, outcome, callBy, call, callNames}
 use Rattle.laws.proofs.Passes.{scope-then}
@@ -29,15 +26,15 @@ use Rattle.signatures.specs.Table.{typesIn}
 use Rattle.walk.specs.Walk.{begin, fieldsIn, Ahead}
 use Rattle.walk.proofs.Steps.{ahead-kept}
 use Rattle.walk.proofs.Join.{fields-in}
-use Rattle.walk.proofs.Begin.{reads-accepted, reads-short, Accepted}
+use Rattle.walk.proofs.Begin.{reads-accepted, Accepted}
 use Rattle.order.specs.Order.{ordered}
 use Rattle.order.specs.declared.Order as Ordered
 use Rattle.order.specs.declared.Order.the-variants as O
 use Rattle.types.specs.Pass as Pass
-use Rattle.types.specs.Pass.{TypesDone, HasTypes, NoTypes}
+use Rattle.types.specs.Pass.{TypesDone, HasTypes}
 use Rattle.types.specs.declared.pass.Typed.{Typed}
 use Rattle.types.specs.declared.pass.Typed.the-variants as T
-use Rattle.names.specs.Register.{Registers, Stands, tableOf}
+use Rattle.names.specs.Register.{Registers, Stands}
 use Rattle.names.specs.declared.register.Registered.{Registered}
 use Rattle.names.specs.declared.register.Registered.the-variants as R
 use Rattle.scope.specs.Scope.{scopeIn, Recalled}

@@ -1,10 +1,10 @@
 -- Demand 3 of the call that also writes the names: it speaks of the bytes before the name section, and says nothing of refusal 18.
-use mathlib.Core.Path.{_≡_, refl, ap, _∙_, sym}
+use mathlib.Core.Path.{_≡_, refl}
 use Prim.Native.Nat.{ℕ, _≤_}
 use mathlib.Core.Bool.{Bool, true, false}
 use mathlib.Core.List.{List, _++_}
 use lib.Dec.{leb}
-use lib.ListN.{length, take}
+use lib.ListN.{length}
 use lib.Seq.{take-append-seam}
 use borrow.Author.Tests.{le-ltb}
 use native.Mathlib.Omega.{arith}
@@ -16,7 +16,7 @@ use Rattle.definition.specs.Names.{Scope}
 use Rattle.definition.specs.Binary.{module′, preamble}
 use Rattle.definition.specs.NameSection.{nameSection}
 use Rattle.definition.specs.Assemble.{scope, itemsIn, items, resolved, fitting, namedModuleIn, Outcome, say, sayRead, assembleBy, outputAfter, outcome, callBy, callNames}
-use Rattle.renaming.specs.Renamed.{Renamed, namesBy, namesOf, WritesBefore, SaysTheSameBefore}
+use Rattle.renaming.specs.Renamed.{Renamed, namesBy, namesOf, SaysTheSameBefore}
 use Rattle.renaming.proofs.Demand3.{same-items, same-length}
 
 -- the module is made of items that do not know the names

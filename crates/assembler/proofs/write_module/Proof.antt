@@ -1,4 +1,4 @@
-use Rattle.assembler.proofs.Stages.{write-short, write-fits, module-long}
+use Rattle.assembler.proofs.Writers.{write-short, write-fits, module-long}
 use borrow.Author.Needs.{needs}
 use Rattle.assembler.proofs.write_module.Statement.{statement}
 use Rattle.assembler.proofs.write_module.Tie as tie

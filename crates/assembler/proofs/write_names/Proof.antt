@@ -1,4 +1,4 @@
-use Rattle.assembler.proofs.Stages.{write-short, write-fits, both-long, both-put, names-writable, names-tally}
+use Rattle.assembler.proofs.Writers.{write-short, write-fits, both-long, both-put, names-writable, names-tally}
 use borrow.Author.Needs.{needs}
 use Rattle.assembler.proofs.write_names.Statement.{statement}
 use Rattle.assembler.proofs.write_names.Tie as tie
