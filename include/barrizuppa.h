@@ -7,9 +7,9 @@
  * else, allocates nothing, keeps nothing between calls, and may be called from
  * several threads at a time, each with buffers of its own.
  *
- * What is promised here is the proved contract of `barrizuppa_assemble` in
- * crates/assembler/src/export.rt, in words. That this declaration has the
- * shape of that function is not proved.
+ * What is promised here are the proved contracts of the two calls in
+ * crates/assembler/src/export.rt, in words. That these declarations have the
+ * shape of those functions is not proved.
  */
 #ifndef BARRIZUPPA_H
 #define BARRIZUPPA_H
@@ -73,6 +73,18 @@ uint32_t barrizuppa_assemble(const uint8_t *stream, size_t stream_len,
                              uint32_t *work, size_t work_len,
                              uint8_t *out, size_t out_len,
                              uint32_t answer[4]);
+
+/*
+ * The same, and after the module's other sections it writes the standard's
+ * name section, for a debugger: the stream's identifiers of functions,
+ * parameters and locals. A stream without any has no name section. Room and
+ * length are of both: a stream may be refused 18 here that the other call
+ * assembles. Everything else is as above.
+ */
+uint32_t barrizuppa_assemble_names(const uint8_t *stream, size_t stream_len,
+                                   uint32_t *work, size_t work_len,
+                                   uint8_t *out, size_t out_len,
+                                   uint32_t answer[4]);
 
 #ifdef __cplusplus
 }

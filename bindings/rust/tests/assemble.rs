@@ -1,5 +1,7 @@
 //! Document 01's samples, refusals, and what a call leaves of what it is lent.
-use barrizuppa::{assemble, assemble_into, Refusal, STREAM_BYTES, WORK_WORDS};
+use barrizuppa::{
+    assemble, assemble_into, assemble_names, assemble_names_into, Refusal, STREAM_BYTES, WORK_WORDS,
+};
 
 /// S1: the empty module.
 const S1: &[u8] = b"\0asm\x01\0\0\0";
@@ -9,6 +11,9 @@ const S7: &[u8] = b"\x03\0\x01\x01f\0\0\x01\x01x\x7F\x01\x7F\0\x20\x02\x01x\xFF"
 const S7_MODULE: &[u8] =
     b"\0asm\x01\0\0\0\x01\x06\x01\x60\x01\x7F\x01\x7F\x03\x02\x01\0\x07\x05\x01\x01f\0\0\x0A\x06\x01\x04\0\x20\0\x0B";
 const S7_RECORDS: u32 = 3;
+
+/// Its name section: in function 0, local 0 is x.
+const S7_NAMES: &[u8] = b"\0\x0D\x04name\x02\x06\x01\0\x01\0\x01x";
 
 /// S7 with y for the second x.
 const S7_WITH_Y: &[u8] = b"\x03\0\x01\x01f\0\0\x01\x01x\x7F\x01\x7F\0\x20\x02\x01y\xFF";
@@ -258,4 +263,43 @@ fn a_refusal_in_words() {
         .map(|number| Refusal { number, record: 0 }.meaning())
         .collect();
     assert_eq!(meanings.len(), 19);
+}
+
+#[test]
+fn names_of_functions_parameters_and_locals() {
+    assert_eq!(assemble_names(b""), Ok(S1.to_vec()));
+    assert_eq!(assemble_names(S7), Ok([S7_MODULE, S7_NAMES].concat()));
+    assert_eq!(assemble_names(S7_WITH_Y), refused(14, 1));
+
+    // An imported function g, whose parameter has no effect; a function f with a parameter x and a local l.
+    let stream = b"\x02\x01m\x01n\0\x01g\0\x01\x01y\x7F\0\x03\x01f\0\0\0\x01\x01x\x7F\0\x01\x01l\x7E\xFF";
+    let names = b"\0\x19\x04name\x01\x07\x02\0\x01g\x01\x01f\x02\x09\x01\x01\x02\0\x01x\x01\x01l";
+    let module = assemble(stream).unwrap();
+    assert_eq!(assemble_names(stream), Ok([&module, &names[..]].concat()));
+}
+
+#[test]
+fn names_need_room_too() {
+    let all = [S7_MODULE, S7_NAMES].concat();
+    let mut work = vec![7; WORK_WORDS];
+    let mut out = vec![0xA5; all.len()];
+    let room = out.len() - 1;
+    assert_eq!(
+        assemble_names_into(S7, &mut work, &mut out[..room]),
+        Err(Refusal {
+            number: Refusal::NO_ROOM,
+            record: S7_RECORDS
+        })
+    );
+    assert!(out.iter().all(|byte| *byte == 0xA5));
+    assert_eq!(
+        assemble_into(S7, &mut work, &mut out[..room]),
+        Ok(S7_MODULE.len())
+    );
+    assert_eq!(
+        assemble_names_into(S7, &mut work, &mut out),
+        Ok(all.len())
+    );
+    assert_eq!(out, all);
+    assert!(work.iter().all(|word| *word == 0));
 }

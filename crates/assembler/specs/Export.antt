@@ -1,9 +1,9 @@
--- What the exported call hands its caller.
+-- What the exported calls hand their callers.
 use Prim.Native.Nat.{ℕ, min}
 use mathlib.Core.List.{List, [], _∷_, _++_}
 use lib.ListN.{length, take, drop}
 use Rattle.definition.specs.Syntax.{Bytes}
-use Rattle.definition.specs.Assemble.{Outcome, call}
+use Rattle.definition.specs.Assemble.{Outcome, call, callNames}
 
 -- the returned number, the answer's words, the output and the work area
 pub record Handed : Type 0 where
@@ -27,6 +27,13 @@ handedOn o beyond = handed (o .number) (answerOf o) (o .output ++ beyond) (o .wo
 abbrev pub lent : Bytes → ℕ
 lent old = min (length old) 4294967295
 
--- the definition's call on what is lent
+-- a call on what is lent
+unfoldable pub exportedBy : (Bytes → List ℕ → Bytes → Outcome) → Bytes → List ℕ → Bytes → Handed
+exportedBy f s w old = handedOn (f s w (take (lent old) old)) (drop (lent old) old)
+
+-- the definition's calls
 unfoldable pub exported : Bytes → List ℕ → Bytes → Handed
-exported s w old = handedOn (call s w (take (lent old) old)) (drop (lent old) old)
+exported s w old = exportedBy call s w old
+
+unfoldable pub exportedNames : Bytes → List ℕ → Bytes → Handed
+exportedNames s w old = exportedBy callNames s w old
