@@ -1,12 +1,9 @@
 -- The records' own types, for the walks of `Lent`.
-use mathlib.Core.Path.{_≡_, refl, ap, subst}
-use mathlib.Core.List.{[], _∷_, List}
-use mir.Syntax.{Sym, Ty, tyStruct, Tys}
+use mathlib.Core.Path.{refl, ap, subst}
 use denote.Laws.{Is}
 use denote.Steps.{only}
 use denote.Struct.Laws as LL
 use denote.Enum.Laws as EL
-use Rattle.stream.specs.declared.record.Place.{Place}
 use Rattle.stream.specs.declared.record.Record.{Record}
 use Rattle.stream.specs.declared.record.RecordAt.{RecordAt}
 use Rattle.stream.proofs.record.Record as X

@@ -20,7 +20,7 @@ use Rattle.definition.specs.Reader.{Step, got, fault, onward}
 use Rattle.definition.specs.Instructions.{bodyRec}
 use Rattle.definition.specs.Records.{Room, fieldRec}
 use Rattle.definition.specs.Read as Read
-use Rattle.definition.specs.Read.{room, bodyAfter, seenAfter, nothingSeen, recordIn, oneRecord, beginsIn, withRecord, atEnd, read}
+use Rattle.definition.specs.Read.{room, bodyAfter, seenAfter, nothingSeen, recordIn, oneRecord, beginsIn, atEnd, read}
 use Rattle.laws.specs.Steps.{total}
 use Rattle.laws.proofs.Bodies.{end-inside}
 use Rattle.laws.proofs.Sets.{sets-append, sets-more}

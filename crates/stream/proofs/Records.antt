@@ -15,7 +15,7 @@ use Rattle.definition.specs.Syntax.{Bytes, Identifier, Rec, field, instr, bodyE
 use Rattle.definition.specs.Reader.{Step, got, fault}
 use Rattle.definition.specs.Instructions.{bodyRec, formOf}
 use Rattle.definition.specs.Records.{Room, fieldRec}
-use Rattle.definition.specs.Read.{bodyAfter, fieldBody, sourceBody, ownBody, openAfter, beginsIn, withRecord, recordIn}
+use Rattle.definition.specs.Read.{bodyAfter, fieldBody, sourceBody, ownBody, openAfter, beginsIn}
 use Rattle.laws.proofs.Bodies.{opens-few, ends-one}
 use Rattle.laws.proofs.Exits.{between-low}
 use Rattle.sources.specs.declared.source.Own.the-variants as O

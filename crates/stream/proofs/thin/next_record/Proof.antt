@@ -1,7 +1,7 @@
 -- `next_record` meets its contract: a walk of its MIR, by hand. A local place is lent to the one thin reader or to the other, and comes back moved on.
 use mathlib.Core.Bool.{not}
 use mathlib.Core.Path.{_≡_, refl, subst, _∙_}
-use Prim.Native.Nat.{ℕ, _<_, _≤_}
+use Prim.Native.Nat.{ℕ, _<_}
 use mathlib.Core.List.{[], _∷_, List, _++_}
 use lib.Dec.{T as Holds, ltb, nltb→le}
 use lib.ListN.{length}
@@ -18,7 +18,7 @@ use ghost.Atoms.{Atoms}
 use contract.Monad.{Fun}
 use contract.Running.{givenOf, tables, tablesOf}
 use types.Kit as Kit
-use types.Kit.{Given, Item, Sq, settles, anyQ, atRet, put, ‵, _⊛_, ⋆, _$_, _∵_, !, qed, by, move, keep, use1, split, join, fsplit, fjoin, rewrite, suffices, frame, done}
+use types.Kit.{Given, Sq, settles, anyQ, atRet, put, ‵, _⊛_, ⋆, _$_, _∵_, !, qed, by, move, keep, use1, split, join, fsplit, fjoin, rewrite, suffices, frame, done}
 use types.Part.{agg, whole, sub, look-in}
 use types.Run.{look, init, forget, stop, fld, from, load, lit, bin, addr, of-opd, and-then, no-more, assigns, land-last, first, branches, exec, returns, enter, alloc1, alloc0, params1, pass1, pass0}
 use sound.WpLaws.{FmC, fmOf, WpFn-mono}
