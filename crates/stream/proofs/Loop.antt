@@ -20,7 +20,7 @@ use Rattle.definition.specs.Reader.{Step, got, fault, onward}
 use Rattle.definition.specs.Instructions.{bodyRec}
 use Rattle.definition.specs.Records.{Room, fieldRec}
 use Rattle.definition.specs.Read as Read
-use Rattle.definition.specs.Read.{room, bodyAfter, seenAfter, nothingSeen, recordIn, oneRecord, beginsIn, withRecord, atEnd, read}
+use Rattle.definition.specs.Read.{room, bodyAfter, seenAfter, nothingSeen, recordIn, oneRecord, beginsIn, atEnd, read}
 use Rattle.laws.specs.Steps.{total}
 use Rattle.laws.proofs.Bodies.{end-inside}
 use Rattle.laws.proofs.Sets.{sets-append, sets-more}
@@ -30,12 +30,12 @@ use Rattle.fields.specs.Views.{fieldOf}
 use Rattle.fields.specs.declared.field.Field.{Field}
 use Rattle.instr.specs.Views.{instrIs}
 use Rattle.instr.specs.declared.Instr.{Instr}
-use Rattle.stream.specs.Pass.{bodyOf, depthOf, placeAfter, recordAt, Passed, endOf, pass, passed, endWords, countWords, areaAfter, areaOf, counted, reading, readingArea, Walks, Reads}
+use Rattle.stream.specs.Pass.{bodyOf, depthOf, placeAfter, movedBy, nextRecordAt, recordAt, Passed, endOf, pass, passed, endWords, countWords, areaAfter, areaOf, counted, reading, readingArea, Walks, Reads}
 use Rattle.stream.specs.Counting.{fieldSeen}
 use Rattle.stream.specs.Answers.{recordAnswer, endPut}
 use Rattle.stream.specs.declared.record.Place.{Place}
-use Rattle.stream.specs.declared.record.RecordAt.{RecordAt}
-use Rattle.stream.specs.declared.record.RecordAt.the-variants as R
+use Rattle.stream.specs.declared.record.Record.{Record}
+use Rattle.stream.specs.declared.record.Record.the-variants as R
 use Rattle.stream.specs.declared.pass.Count.{Count}
 use Rattle.stream.specs.declared.pass.Count.the-variants as C
 use Rattle.stream.proofs.Model.{passed-says, pass-end, pass-fault, pass-full, pass-got}
@@ -51,23 +51,19 @@ pub record Was (free : Room) (p : Place) (s : Bytes) (x : Rec Identifier) (q : P
   pub next : q .rec ≡ p .rec + 1
   pub deep : bodyOf (q .depth) ≡ bodyAfter (bodyOf (p .depth)) x
 
--- a step at a place, as the record's answer
-abbrev answered : Place → Step (Rec Identifier) → Answer (Rec Identifier × Place)
-answered p st = withRecord {B = Rec Identifier × Place} (p .rec) (λ y next. ok (y, placeAfter p y next)) st
-
-record-was : (free : Room) (p : Place) (s : Bytes) (x : Rec Identifier) (q : Place) → recordAt free p s ≡ ok (x, q) → Was free p s x q
-unfolding recordAt placeAfter
+record-was : (free : Room) (p : Place) (s : Bytes) (x : Rec Identifier) (q : Place) → recordAt free p s ≡ (ok x, q) → Was free p s x q
+unfolding recordAt nextRecordAt placeAfter
 record-was free p s x q e = go (leb 4096 (p .rec)) refl (recordIn free (bodyOf (p .depth)) s (p .at)) refl e
   where
     go : (t : Bool) → leb 4096 (p .rec) ≡ t → (st : Step (Rec Identifier)) → recordIn free (bodyOf (p .depth)) s (p .at) ≡ st
-        → (if t then refused (if beginsIn (getD s (p .at) 0) (bodyOf (p .depth)) then 7 else 4) (p .rec) else answered p st) ≡ ok (x, q)
+        → (if t then (refused (if beginsIn (getD s (p .at) 0) (bodyOf (p .depth)) then 7 else 4) (p .rec), p) else movedBy p st) ≡ (ok x, q)
         → Was free p s x q
-    go true d st f e = let z : _≡_ {A = ℕ} 0 1 = cc in absurd (omega arith)
-    go false d (fault k) f e = let z : _≡_ {A = ℕ} 0 1 = cc in absurd (omega arith)
+    go true d st f e = let j : refused (if beginsIn (getD s (p .at) 0) (bodyOf (p .depth)) then 7 else 4) (p .rec) ≡ ok x = ap (λ (z : Answer (Rec Identifier) × Place). z .0) e in let z : _≡_ {A = ℕ} 0 1 = cc in absurd (omega arith)
+    go false d (fault k) f e = let j : refused k (p .rec) ≡ ok x = ap (λ (z : Answer (Rec Identifier) × Place). z .0) e in let z : _≡_ {A = ℕ} 0 1 = cc in absurd (omega arith)
     go false d (got y n) f e =
-        let j : _≡_ {A = Rec Identifier × Place} (y, placeAfter p y n) (x, q) = cc in
-        let a : y ≡ x = ap (λ (z : Rec Identifier × Place). z .0) j in
-        let b : placeAfter p y n ≡ q = ap (λ (z : Rec Identifier × Place). z .1) j in
+        let j : ok y ≡ ok x = ap (λ (z : Answer (Rec Identifier) × Place). z .0) e in
+        let a : y ≡ x = cc in
+        let b : placeAfter p y n ≡ q = ap (λ (z : Answer (Rec Identifier) × Place). z .1) e in
         record {
           few = leb-false 4096 (p .rec) d;
           reads = f ∙ ap (λ z. got z n) a ∙ ap (λ (z : Place). got x (z .at)) b;
@@ -122,21 +118,21 @@ module _ (s : Bytes) (w₀ : List ℕ) (p : Place) (c : Seen) (ended : ℕ) (w :
   unfolding seenAfter
   body-on x q a = ap (λ b. bodyAfter b x) (v .body) ∙ sym (a .deep)
 
-  module _ (r : RecordAt) (e : recordAt (roomOf c) p s ≡ recordAnswer s r) where
+  module _ (what : Record) (q : Place) where
     -- the record number is the measure
-    pub less-field : (f : Field) (q : Place) → r ≡ R.Field f q → 4097 - q .rec < 4097 - p .rec
-    less-field f q d = let a = record-was (roomOf c) p s _ q (e ∙ ap (recordAnswer s) d) in omega (arith, a .next, a .few)
+    pub less-field : (f : Field) → what ≡ R.Field f → recordAt (roomOf c) p s ≡ recordAnswer s what q → 4097 - q .rec < 4097 - p .rec
+    less-field f d e = let a = record-was (roomOf c) p s _ q (e ∙ ap (λ y. recordAnswer s y q) d) in omega (arith, a .next, a .few)
 
-    pub less-instr : (i : Instr) (q : Place) → r ≡ R.Instr i q → 4097 - q .rec < 4097 - p .rec
-    less-instr i q d = let a = record-was (roomOf c) p s _ q (e ∙ ap (recordAnswer s) d) in omega (arith, a .next, a .few)
+    pub less-instr : (i : Instr) → what ≡ R.Instr i → recordAt (roomOf c) p s ≡ recordAnswer s what q → 4097 - q .rec < 4097 - p .rec
+    less-instr i d e = let a = record-was (roomOf c) p s _ q (e ∙ ap (λ y. recordAnswer s y q) d) in omega (arith, a .next, a .few)
 
-    pub less-end : (q : Place) → r ≡ R.End q → 4097 - q .rec < 4097 - p .rec
-    less-end q d = let a = record-was (roomOf c) p s _ q (e ∙ ap (recordAnswer s) d) in omega (arith, a .next, a .few)
+    pub less-end : what ≡ R.End → recordAt (roomOf c) p s ≡ recordAnswer s what q → 4097 - q .rec < 4097 - p .rec
+    less-end d e = let a = record-was (roomOf c) p s _ q (e ∙ ap (λ y. recordAnswer s y q) d) in omega (arith, a .next, a .few)
 
     -- a field
-    pub again-field : (f : Field) (q : Place) (c′ : Seen) → r ≡ R.Field f q → c′ ≡ fieldSeen c f → Going s w₀ q c′ ended w
-    again-field f q c′ d g =
-        let a = record-was (roomOf c) p s (field (fieldOf s f)) q (e ∙ ap (recordAnswer s) d) in
+    pub again-field : (f : Field) (c′ : Seen) → what ≡ R.Field f → recordAt (roomOf c) p s ≡ recordAnswer s what q → c′ ≡ fieldSeen c f → Going s w₀ q c′ ended w
+    again-field f c′ d e g =
+        let a = record-was (roomOf c) p s (field (fieldOf s f)) q (e ∙ ap (λ y. recordAnswer s y q) d) in
         record {
           seen = seenAfter (v .seen) (field (fieldOf s f));
           ends = v .ends;
@@ -151,9 +147,9 @@ module _ (s : Bytes) (w₀ : List ℕ) (p : Place) (c : Seen) (ended : ℕ) (w :
         }
 
     -- an instruction
-    pub again-instr : (i : Instr) (q : Place) → r ≡ R.Instr i q → Going s w₀ q c ended w
-    again-instr i q d =
-        let a = record-was (roomOf c) p s (instr (instrIs s i)) q (e ∙ ap (recordAnswer s) d) in
+    pub again-instr : (i : Instr) → what ≡ R.Instr i → recordAt (roomOf c) p s ≡ recordAnswer s what q → Going s w₀ q c ended w
+    again-instr i d e =
+        let a = record-was (roomOf c) p s (instr (instrIs s i)) q (e ∙ ap (λ y. recordAnswer s y q) d) in
         record {
           seen = seenAfter (v .seen) (instr (instrIs s i));
           ends = v .ends;
@@ -168,10 +164,10 @@ module _ (s : Bytes) (w₀ : List ℕ) (p : Place) (c : Seen) (ended : ℕ) (w :
         }
 
     -- a body's end: its place fits a word, and two words are stored while there is room for them
-    pub end-fits : (q : Place) → r ≡ R.End q → length s ≤ 65536 → Fits w32 (q .at)
-    end-fits q d l =
-        let a = record-was (roomOf c) p s bodyEnd q (e ∙ ap (recordAnswer s) d) in
-        record { fits = omega (arith, end-of (bodyOf (p .depth)) (q .at) (a .reads)) }
+    pub end-fits : what ≡ R.End → recordAt (roomOf c) p s ≡ recordAnswer s what q → length s ≤ 65536 → q .at < 2 ^ 32
+    end-fits d e l =
+        let a = record-was (roomOf c) p s bodyEnd q (e ∙ ap (λ y. recordAnswer s y q) d) in
+        omega (arith, end-of (bodyOf (p .depth)) (q .at) (a .reads))
       where
         not-field : (m : Step (Syntax.FieldRec Identifier)) (n : ℕ) → onward (λ f k. got (field f) k) m ≡ got bodyEnd n → ⊥
         not-field (got f k) n e = let z : _≡_ {A = ℕ} 0 1 = cc in omega arith
@@ -181,13 +177,13 @@ module _ (s : Bytes) (w₀ : List ℕ) (p : Place) (c : Seen) (ended : ℕ) (w :
         end-of none n e = absurd (not-field (fieldRec (roomOf c) s (p .at)) n e)
         end-of (some k) n e = end-inside k s (p .at) n e
 
-    pub ended-fits : (q : Place) → r ≡ R.End q → Fits w32 (ended + 1)
-    ended-fits q d = let a = record-was (roomOf c) p s bodyEnd q (e ∙ ap (recordAnswer s) d) in record { fits = omega (arith, v .fewer, a .few) }
+    pub ended-fits : what ≡ R.End → recordAt (roomOf c) p s ≡ recordAnswer s what q → Fits w32 (ended + 1)
+    ended-fits d e = let a = record-was (roomOf c) p s bodyEnd q (e ∙ ap (λ y. recordAnswer s y q) d) in record { fits = omega (arith, v .fewer, a .few) }
 
-    pub again-end : (q : Place) (w′ : List ℕ) → r ≡ R.End q → 16384 ≤ length w₀ → w′ ≡ endPut w ended (q .at) (q .rec) → Going s w₀ q c (ended + 1) w′
+    pub again-end : (w′ : List ℕ) → what ≡ R.End → recordAt (roomOf c) p s ≡ recordAnswer s what q → w′ ≡ endPut w ended (q .at) (q .rec) → Going s w₀ q c (ended + 1) w′
     unfolding endPut endWords
-    again-end q w′ d l g =
-        let a = record-was (roomOf c) p s bodyEnd q (e ∙ ap (recordAnswer s) d) in
+    again-end w′ d e g =
+        let a = record-was (roomOf c) p s bodyEnd q (e ∙ ap (λ y. recordAnswer s y q) d) in
         record {
           seen = seenAfter {I = Identifier} (v .seen) bodyEnd;
           ends = v .ends ++ (q .at ∷ q .rec ∷ []);
@@ -219,28 +215,28 @@ module _ (s : Bytes) (w₀ : List ℕ) (p : Place) (c : Seen) (ended : ℕ) (w :
             rw (lt-ltb _ _ n, take-all 512 (v .ends ++ (q .at ∷ q .rec ∷ [])) m, sets-append w₀ 8 (v .ends) (q .at ∷ q .rec ∷ []), i, u, z)
 
     -- a refusal
-    pub refused-walk : (n k : ℕ) → r ≡ R.Refused n k → Walks s w₀ (C.Refused n k) w
-    unfolding areaAfter recordAt oneRecord
-    refused-walk n k d = stop (v .same ∙ last (decLe 4096 (p .rec)))
+    pub refused-walk : (n : ℕ) → what ≡ R.Refused n → recordAt (roomOf c) p s ≡ recordAnswer s what q → Walks s w₀ (C.Refused n (q .rec)) w
+    unfolding areaAfter recordAt nextRecordAt oneRecord
+    refused-walk n d e = stop (v .same ∙ last (decLe 4096 (p .rec)))
       where
-        stop : passed s ≡ record { says = refused n k; seen = v .seen; ends = v .ends } → Walks s w₀ (C.Refused n k) w
+        stop : passed s ≡ record { says = refused n (q .rec); seen = v .seen; ends = v .ends } → Walks s w₀ (C.Refused n (q .rec)) w
         stop g = record { says = sym (passed-says s) ∙ ap (λ (x : Passed). x .says) g; leaves = v .area ∙ rw g }
 
-        faulted : (b : Option ℕ) (st : Step (Rec Identifier)) → answered p st ≡ refused n k → (st ≡ fault n) × (k ≡ p .rec)
-        faulted b (got y next) e = let z : _≡_ {A = ℕ} 0 1 = cc in absurd (omega arith)
-        faulted b (fault m) e = (cc, cc)
+        faulted : (st : Step (Rec Identifier)) → movedBy p st .0 ≡ refused n (q .rec) → (st ≡ fault n) × (q .rec ≡ p .rec)
+        faulted (got y next) e = let z : _≡_ {A = ℕ} 0 1 = cc in absurd (omega arith)
+        faulted (fault m) e = (cc, cc)
 
-        last : Dec (4096 ≤ p .rec) → pass (4096 - p .rec) (p .rec) (v .seen) (v .ends) s (p .at) ≡ record { says = refused n k; seen = v .seen; ends = v .ends }
+        last : Dec (4096 ≤ p .rec) → pass (4096 - p .rec) (p .rec) (v .seen) (v .ends) s (p .at) ≡ record { says = refused n (q .rec); seen = v .seen; ends = v .ends }
         last (yes l) =
             let m : 4096 - p .rec ≡ 0 = omega arith in
             let b = v .body in
-            let f : _≡_ {A = Answer (Rec Identifier × Place)} (refused (if beginsIn (getD s (p .at) 0) (bodyOf (p .depth)) then 7 else 4) (p .rec)) (refused n k) = rw (le-leb _ _ l) at (e ∙ ap (recordAnswer s) d) in
+            let f : _≡_ {A = Answer (Rec Identifier)} (refused (if beginsIn (getD s (p .at) 0) (bodyOf (p .depth)) then 7 else 4) (p .rec)) (refused n (q .rec)) = ap (λ (x : Answer (Rec Identifier) × Place). x .0) (rw (le-leb _ _ l) at (e ∙ ap (λ y. recordAnswer s y q) d)) in
             let a : (if beginsIn (getD s (p .at) 0) (bodyOf (p .depth)) then 7 else 4) ≡ n = cc in
-            let j : p .rec ≡ k = cc in
+            let j : p .rec ≡ q .rec = cc in
             pass-full (p .rec) (v .seen) (v .ends) s (p .at) (4096 - p .rec) h m ∙ rw (b, a, j)
         last (no l) =
             let m : p .rec < 4096 = omega arith in
-            let f = faulted none (recordIn (roomOf c) (bodyOf (p .depth)) s (p .at)) (rw (lt-leb _ _ m) at (e ∙ ap (recordAnswer s) d)) in
+            let f = faulted (recordIn (roomOf c) (bodyOf (p .depth)) s (p .at)) (ap (λ (x : Answer (Rec Identifier) × Place). x .0) (rw (lt-leb _ _ m) at (e ∙ ap (λ y. recordAnswer s y q) d))) in
             let g : oneRecord (v .seen) s (p .at) ≡ fault n = rw (room-same (v .counts), v .body) (f .0) in
             let j = f .1 in
             pass-fault (p .rec) (v .seen) (v .ends) s (p .at) (4096 - p .rec) n h (omega arith) g ∙ rw j

@@ -1,10 +1,10 @@
--- One record at the running place: what each way out of `read_record` comes to.
+-- One record at the running place: what each way out of its readers comes to.
 use mathlib.Core.Path.{_≡_, refl, ap, sym, _∙_}
 use Prim.Native.Nat.{ℕ, zero, suc, _+_, _-_, _≤_, _<_}
-use mathlib.Core.Bool.{Bool, true, false, _||_}
+use mathlib.Core.Bool.{Bool, true, false, not, _||_}
 use mathlib.Core.List.{List, [], _∷_}
 use mathlib.Core.Option.{Option, none, some}
-use lib.Dec.{eqb, leb}
+use lib.Dec.{T, eqb, leb, ltb, ltb→lt, nltb→le}
 use lib.ListN.{length, getD}
 use borrow.Author.Tests.{lt-leb, le-leb, ne-eqb}
 use native.Mathlib.Omega.{arith}
@@ -15,7 +15,7 @@ use Rattle.definition.specs.Syntax.{Bytes, Identifier, Rec, field, instr, bodyE
 use Rattle.definition.specs.Reader.{Step, got, fault}
 use Rattle.definition.specs.Instructions.{bodyRec, formOf}
 use Rattle.definition.specs.Records.{Room, fieldRec}
-use Rattle.definition.specs.Read.{bodyAfter, fieldBody, sourceBody, ownBody, openAfter, beginsIn, withRecord, recordIn}
+use Rattle.definition.specs.Read.{bodyAfter, fieldBody, sourceBody, ownBody, openAfter, beginsIn}
 use Rattle.laws.proofs.Bodies.{opens-few, ends-one}
 use Rattle.laws.proofs.Exits.{between-low}
 use Rattle.sources.specs.declared.source.Own.the-variants as O
@@ -32,7 +32,7 @@ use Rattle.instr.specs.declared.Instr.{Instr}
 use Rattle.instr.specs.declared.Instr.the-variants as I
 use Rattle.instr.specs.declared.BodyAt.{BodyAt}
 use Rattle.instr.specs.declared.BodyAt.the-variants as BA
-use Rattle.stream.specs.Pass.{bodyOf, depthOf, placeAfter, recordAt}
+use Rattle.stream.specs.Pass.{bodyOf, depthOf, placeAfter, fieldRecordAt, bodyRecordAt, nextRecordAt, recordAt}
 use Rattle.stream.specs.Answers.{fieldDepth, instrDepth, Few}
 use Rattle.stream.specs.declared.record.Place.{Place}
 
@@ -107,37 +107,52 @@ begins-form b d r v h n e g t = t ∙ ap (λ x. isSome (formIs x)) (sym g) ∙ s
 
 -- ## The ways out
 
+-- one too many
+pub record-full : (free : Room) (p : Place) (s : Bytes) (n : ℕ) → 4096 ≤ p .rec → n ≡ (if beginsIn (getD s (p .at) 0) (bodyOf (p .depth)) then 7 else 4)
+    → recordAt free p s ≡ (refused n (p .rec), p)
+unfolding recordAt
+record-full free p s n h e = rw (le-leb _ _ h, e)
+
+-- else the one that may stand there
+pub record-next : (free : Room) (p : Place) (s : Bytes) (y : Answer (Rec Identifier) × Place) → p .rec < 4096 → nextRecordAt free p s ≡ y → recordAt free p s ≡ y
+unfolding recordAt
+record-next free p s y h e = rw (lt-leb _ _ h) e
+
+module _ (free : Room) (p : Place) (s : Bytes) (r : FieldAt) (e : fieldRec free s (p .at) ≡ fieldAt s r) where
+  pub record-field : (f : Field) (next d : ℕ) → r ≡ FA.Got f next → d ≡ fieldDepth f
+      → fieldRecordAt free p s ≡ (ok (field (fieldOf s f)), record { at = next; rec = p .rec + 1; depth = d })
+  unfolding fieldRecordAt placeAfter
+  record-field f next d g l = rw (e, g, l, field-depth s (bodyOf (p .depth)) f)
+
+  pub record-no-field : (n : ℕ) → r ≡ FA.Fault n → fieldRecordAt free p s ≡ (refused n (p .rec), p)
+  unfolding fieldRecordAt
+  record-no-field n g = rw (e, g)
+
+module _ (p : Place) (s : Bytes) (o : 1 ≤ p .depth) (r : BodyAt) (e : bodyRec (p .depth - 1) s (p .at) ≡ bodyAt s r) where
+  pub record-instr : (i : Instr) (next d : ℕ) → r ≡ BA.Got i next → d ≡ instrDepth i (p .depth)
+      → bodyRecordAt p s ≡ (ok (instr (instrIs s i)), record { at = next; rec = p .rec + 1; depth = d })
+  unfolding bodyRecordAt placeAfter
+  record-instr i next d g l =
+      let a = instr-depth s (p .depth) i o (few-open s (p .at) (p .depth) r i next o e g) in
+      rw (l, a, e, g)
+
+  pub record-end : (next : ℕ) → r ≡ BA.End next → bodyRecordAt p s ≡ (ok bodyEnd, record { at = next; rec = p .rec + 1; depth = 0 })
+  unfolding bodyRecordAt placeAfter bodyAfter
+  record-end next g = rw (e, g)
+
+  pub record-no-instr : (n : ℕ) → r ≡ BA.Fault n → bodyRecordAt p s ≡ (refused n (p .rec), p)
+  unfolding bodyRecordAt
+  record-no-instr n g = rw (e, g)
+
+pub ruleset record-ways = (record-full, record-next, record-field, record-no-field, record-instr, record-end, record-no-instr)
+
+-- ## Which record may stand there
+
 module _ (free : Room) (p : Place) (s : Bytes) where
-  -- one too many
-  pub record-full : (n : ℕ) → 4096 ≤ p .rec → n ≡ (if beginsIn (getD s (p .at) 0) (bodyOf (p .depth)) then 7 else 4) → recordAt free p s ≡ refused n (p .rec)
-  unfolding recordAt
-  record-full n h e = rw (le-leb _ _ h, e)
+  pub stands-field : T (ltb (p .depth) 1) → nextRecordAt free p s ≡ fieldRecordAt free p s
+  unfolding nextRecordAt fieldRecordAt
+  stands-field t = rw (outside (p .depth) (ltb→lt (p .depth) 1 t))
 
-  module _ (h : p .rec < 4096) where
-    module _ (o : p .depth < 1) (r : FieldAt) (e : fieldRec free s (p .at) ≡ fieldAt s r) where
-      pub record-field : (f : Field) (next d : ℕ) → r ≡ FA.Got f next → d ≡ fieldDepth f
-          → recordAt free p s ≡ ok (field (fieldOf s f), record { at = next; rec = p .rec + 1; depth = d })
-      unfolding recordAt placeAfter
-      record-field f next d g l = rw (lt-leb _ _ h, outside (p .depth) o, e, g, l, field-depth s none f)
-
-      pub record-no-field : (n : ℕ) → r ≡ FA.Fault n → recordAt free p s ≡ refused n (p .rec)
-      unfolding recordAt
-      record-no-field n g = rw (lt-leb _ _ h, outside (p .depth) o, e, g)
-
-    module _ (o : 1 ≤ p .depth) (r : BodyAt) (e : bodyRec (p .depth - 1) s (p .at) ≡ bodyAt s r) where
-      pub record-instr : (i : Instr) (next d : ℕ) → r ≡ BA.Got i next → d ≡ instrDepth i (p .depth)
-          → recordAt free p s ≡ ok (instr (instrIs s i), record { at = next; rec = p .rec + 1; depth = d })
-      unfolding recordAt placeAfter
-      record-instr i next d g l =
-          let a = instr-depth s (p .depth) i o (few-open s (p .at) (p .depth) r i next o e g) in
-          rw (l, a, lt-leb _ _ h, inside (p .depth) o, e, g)
-
-      pub record-end : (next : ℕ) → r ≡ BA.End next → recordAt free p s ≡ ok (bodyEnd, record { at = next; rec = p .rec + 1; depth = 0 })
-      unfolding recordAt placeAfter bodyAfter
-      record-end next g = rw (lt-leb _ _ h, inside (p .depth) o, e, g)
-
-      pub record-no-instr : (n : ℕ) → r ≡ BA.Fault n → recordAt free p s ≡ refused n (p .rec)
-      unfolding recordAt
-      record-no-instr n g = rw (lt-leb _ _ h, inside (p .depth) o, e, g)
-
-pub ruleset record-ways = (record-full, record-field, record-no-field, record-instr, record-end, record-no-instr)
+  pub stands-instr : T (not (ltb (p .depth) 1)) → nextRecordAt free p s ≡ bodyRecordAt p s
+  unfolding nextRecordAt bodyRecordAt
+  stands-instr t = rw (inside (p .depth) (nltb→le (p .depth) 1 t))

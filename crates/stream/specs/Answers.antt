@@ -17,14 +17,14 @@ use Rattle.instr.specs.Views.{instrIs}
 use Rattle.instr.specs.declared.Instr.{Instr}
 use Rattle.instr.specs.declared.Instr.the-variants as I
 use Rattle.stream.specs.declared.record.Place.{Place}
-use Rattle.stream.specs.declared.record.RecordAt.{RecordAt}
-use Rattle.stream.specs.declared.record.RecordAt.the-variants as R
+use Rattle.stream.specs.declared.record.Record.{Record}
+use Rattle.stream.specs.declared.record.Record.the-variants as R
 
-abbrev pub recordAnswer : Bytes → RecordAt → Answer (Rec Identifier × Place)
-recordAnswer s (R.Field f q) = ok (field (fieldOf s f), q)
-recordAnswer s (R.Instr i q) = ok (Syntax.instr (instrIs s i), q)
-recordAnswer s (R.End q) = ok (bodyEnd, q)
-recordAnswer s (R.Refused n r) = refused n r
+abbrev pub recordAnswer : Bytes → Record → Place → Answer (Rec Identifier) × Place
+recordAnswer s (R.Field f) q = (ok (field (fieldOf s f)), q)
+recordAnswer s (R.Instr i) q = (ok (Syntax.instr (instrIs s i)), q)
+recordAnswer s R.End q = (ok bodyEnd, q)
+recordAnswer s (R.Refused n) q = (refused n (q .rec), q)
 
 -- how deep the place after a field stands: in the body of an own function, or outside
 abbrev pub ownDepth : Own → ℕ

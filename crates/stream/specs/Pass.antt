@@ -1,5 +1,5 @@
 -- What the reading pass says and leaves.
-use Prim.Native.Nat.{ℕ, zero, suc, _+_, min}
+use Prim.Native.Nat.{ℕ, zero, suc, _+_, _-_, min}
 use mathlib.Core.Bool.{Bool}
 use mathlib.Core.List.{List, [], _∷_, _++_}
 use mathlib.Core.Option.{Option, none, some}
@@ -10,9 +10,10 @@ use lib.Seq.{sets}
 use Rattle.definition.specs.Basic.{if_then_else_, Answer, ok, refused}
 use Rattle.definition.specs.Syntax.{Bytes, Identifier, Space, funcs, tables, mems, globals, types, elems, datas, Rec, field, instr, bodyEnd}
 use Rattle.definition.specs.Reader.{Step, got, fault}
+use Rattle.definition.specs.Instructions.{bodyRec}
 use Rattle.definition.specs.Records.{Room}
 use Rattle.definition.specs.Spaces.{count}
-use Rattle.definition.specs.Read.{Seen, nothingSeen, seenAfter, bodyAfter, recordIn, oneRecord, beginsIn, atEnd, withRecord, records, read}
+use Rattle.definition.specs.Read.{Seen, nothingSeen, seenAfter, bodyAfter, recordIn, oneRecord, beginsIn, atEnd, records, read}
 use Rattle.laws.specs.Steps.{total}
 use Rattle.stream.specs.declared.record.Place.{Place}
 use Rattle.stream.specs.declared.pass.Count.{Count}
@@ -33,11 +34,26 @@ depthOf (some k) = k + 1
 unfoldable pub placeAfter : Place → Rec Identifier → ℕ → Place
 placeAfter p x next = record { at = next; rec = p .rec + 1; depth = depthOf (bodyAfter (bodyOf (p .depth)) x) }
 
--- the record at a place, and the place after it; the 4,097th is refused
-unfoldable pub recordAt : Room → Place → Bytes → Answer (Rec Identifier × Place)
+-- what was read, and the place after it; a refusal leaves the place where it was
+abbrev pub movedBy : Place → Step (Rec Identifier) → Answer (Rec Identifier) × Place
+movedBy p (got x next) = (ok x, placeAfter p x next)
+movedBy p (fault n) = (refused n (p .rec), p)
+
+-- a field's record at a place, a record of a body, and the one that may stand there
+unfoldable pub fieldRecordAt : Room → Place → Bytes → Answer (Rec Identifier) × Place
+fieldRecordAt free p s = movedBy p (recordIn free none s (p .at))
+
+unfoldable pub bodyRecordAt : Place → Bytes → Answer (Rec Identifier) × Place
+bodyRecordAt p s = movedBy p (bodyRec (p .depth - 1) s (p .at))
+
+unfoldable pub nextRecordAt : Room → Place → Bytes → Answer (Rec Identifier) × Place
+nextRecordAt free p s = movedBy p (recordIn free (bodyOf (p .depth)) s (p .at))
+
+-- the 4,097th is refused
+unfoldable pub recordAt : Room → Place → Bytes → Answer (Rec Identifier) × Place
 recordAt free p s =
-    if leb 4096 (p .rec) then refused (if beginsIn (getD s (p .at) 0) (bodyOf (p .depth)) then 7 else 4) (p .rec) else
-    withRecord (p .rec) (λ x next. ok (x, placeAfter p x next)) (recordIn free (bodyOf (p .depth)) s (p .at))
+    if leb 4096 (p .rec) then (refused (if beginsIn (getD s (p .at) 0) (bodyOf (p .depth)) then 7 else 4) (p .rec), p) else
+    nextRecordAt free p s
 
 -- ## The pass, record by record
 

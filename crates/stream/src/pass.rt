@@ -1,7 +1,7 @@
 // The pass over all records.
 use crate::counting::with_field;
 use crate::record::Place;
-use crate::record::RecordAt;
+use crate::record::Record;
 use crate::record::read_record;
 use sources::Seen;
 ghost use mathlib.Core.Path.{_≡_};
@@ -17,14 +17,14 @@ pub enum Count {
 }
 
 // Where a body ended: the place and the record after it.
-fn put_end(work: &mut [u32], n: u32, at: u32, rec: u32)
-    requires { ⌜ 16384 ≤ length (now work) ⌝ }
-    ensures { λ _. ⌜ now (work .exit) ≡ endPut (now (work .entry)) n at rec ⌝ }
+fn put_end(work: &mut [u32], n: u32, p: Place)
+    requires { ⌜ (16384 ≤ length (now work)) × (p .at < 2 ^ 32) ⌝ }
+    ensures { λ _. ⌜ now (work .exit) ≡ endPut (now (work .entry)) n (p .at) (p .rec) ⌝ }
 {
     if n < 256 {
         let i = 8 + 2 * (n as usize);
-        work[i] = at;
-        work[i + 1] = rec;
+        work[i] = p.at as u32;
+        work[i + 1] = p.rec;
     }
 }
 
@@ -60,21 +60,20 @@ fn walk(s: &[u8], work: &mut [u32]) -> Count
             put_counts(work, seen);
             return Count::Records(p.rec);
         }
-        match read_record(s, p, seen) {
-            RecordAt::Field(f, q) => {
+        let r = read_record(s, p, seen);
+        let what = r.what;
+        p = r.place;
+        match what {
+            Record::Field(f) => {
                 seen = with_field(seen, f);
-                p = q;
             }
-            RecordAt::Instr(_, q) => {
-                p = q;
-            }
-            RecordAt::End(q) => {
-                put_end(work, ended, q.at as u32, q.rec);
+            Record::Instr(_) => {}
+            Record::End => {
+                put_end(work, ended, p);
                 ended += 1;
-                p = q;
             }
-            RecordAt::Refused(n, r) => {
-                return Count::Refused(n, r);
+            Record::Refused(n) => {
+                return Count::Refused(n, p.rec);
             }
         }
     }

@@ -1,4 +1,5 @@
 // One record at the running place, and the place after it.
+use crate::thin::next_record;
 use fields::Field;
 use fields::FieldAt;
 use instr::BodyAt;
@@ -8,11 +9,12 @@ use sources::Own;
 use sources::Seen;
 use sources::Source;
 ghost use mathlib.Core.Path.{_≡_};
+ghost use Prim.Native.Nat.{_≤_, _<_};
 ghost use lib.ListN.{getD};
 ghost use Rattle.definition.specs.Basic.{if_then_else_};
 ghost use Rattle.definition.specs.Read as Read;
 ghost use Rattle.sources.specs.Views.{roomOf};
-ghost use Rattle.stream.specs.Pass.{bodyOf, recordAt};
+ghost use Rattle.stream.specs.Pass.{bodyOf, fieldRecordAt, bodyRecordAt, recordAt};
 ghost use Rattle.stream.specs.Answers.{recordAnswer, fieldDepth, instrDepth, Few};
 
 // The running place: a byte, the number of its record, and how deep it stands: 0 outside a body, in one the number of open blocks and one more.
@@ -22,12 +24,19 @@ pub struct Place {
     pub depth: u32,
 }
 
-pub enum RecordAt {
-    Field(Field, Place),
-    Instr(Instr, Place),
+// What a record is.
+pub enum Record {
+    Field(Field),
+    Instr(Instr),
     // a body's end
-    End(Place),
-    Refused(u8, u32),
+    End,
+    Refused(u8),
+}
+
+// What was read, and the place after it. A refusal leaves the place where it was.
+pub struct RecordAt {
+    pub what: Record,
+    pub place: Place,
 }
 
 // An own function begins a body.
@@ -135,48 +144,74 @@ fn too_many(s: &[u8], p: Place) -> u8
     4
 }
 
-// The record at a place, and the place after it. Outside a body it is a field, for which `seen` says what may still come.
-pub fn read_record(s: &[u8], p: Place, seen: Seen) -> RecordAt
-    ensures { λ r. ⌜ recordAt (roomOf seen) p (now (s .entry)) ≡ recordAnswer (now (s .entry)) r ⌝ }
+// A field's record, for which `seen` says what may still come.
+pub fn field_record(s: &[u8], p: Place, seen: Seen) -> RecordAt
+    requires { ⌜ p .rec < 4096 ⌝ }
+    ensures { λ r. ⌜ fieldRecordAt (roomOf seen) p (now (s .entry)) ≡ recordAnswer (now (s .entry)) (r .what) (r .place) ⌝ }
 {
-    let rec = p.rec;
-    if 4096 <= rec {
-        return RecordAt::Refused(too_many(s, p), rec);
-    }
-    let depth = p.depth;
-    if depth < 1 {
-        return match fields::read_field(s, p.at, seen) {
-            FieldAt::Got(f, at) => {
-                let d = field_depth(f);
-                RecordAt::Field(
-                    f,
-                    Place {
-                        at,
-                        rec: rec + 1,
-                        depth: d,
-                    },
-                )
-            }
-            FieldAt::Fault(n) => RecordAt::Refused(n, rec),
-        };
-    }
-    match instr::read_body(s, p.at, depth - 1) {
-        BodyAt::Got(i, at) => {
-            let d = instr_depth(i, depth);
-            RecordAt::Instr(
-                i,
-                Place {
+    match fields::read_field(s, p.at, seen) {
+        FieldAt::Got(f, at) => {
+            let depth = field_depth(f);
+            let what = Record::Field(f);
+            RecordAt {
+                what,
+                place: Place {
                     at,
-                    rec: rec + 1,
-                    depth: d,
+                    rec: p.rec + 1,
+                    depth,
                 },
-            )
+            }
         }
-        BodyAt::End(at) => RecordAt::End(Place {
-            at,
-            rec: rec + 1,
-            depth: 0,
-        }),
-        BodyAt::Fault(n) => RecordAt::Refused(n, rec),
+        FieldAt::Fault(n) => {
+            let what = Record::Refused(n);
+            RecordAt { what, place: p }
+        }
     }
+}
+
+// A record of a body.
+pub fn body_record(s: &[u8], p: Place) -> RecordAt
+    requires { ⌜ (p .rec < 4096) × (1 ≤ p .depth) ⌝ }
+    ensures { λ r. ⌜ bodyRecordAt p (now (s .entry)) ≡ recordAnswer (now (s .entry)) (r .what) (r .place) ⌝ }
+{
+    match instr::read_body(s, p.at, p.depth - 1) {
+        BodyAt::Got(i, at) => {
+            let depth = instr_depth(i, p.depth);
+            let what = Record::Instr(i);
+            RecordAt {
+                what,
+                place: Place {
+                    at,
+                    rec: p.rec + 1,
+                    depth,
+                },
+            }
+        }
+        BodyAt::End(at) => {
+            let what = Record::End;
+            RecordAt {
+                what,
+                place: Place {
+                    at,
+                    rec: p.rec + 1,
+                    depth: 0,
+                },
+            }
+        }
+        BodyAt::Fault(n) => {
+            let what = Record::Refused(n);
+            RecordAt { what, place: p }
+        }
+    }
+}
+
+// The record at a place. Outside a body it is a field, for which `seen` says what may still come.
+pub fn read_record(s: &[u8], p: Place, seen: Seen) -> RecordAt
+    ensures { λ r. ⌜ recordAt (roomOf seen) p (now (s .entry)) ≡ recordAnswer (now (s .entry)) (r .what) (r .place) ⌝ }
+{
+    if 4096 <= p.rec {
+        let what = Record::Refused(too_many(s, p));
+        return RecordAt { what, place: p };
+    }
+    next_record(s, p, seen)
 }

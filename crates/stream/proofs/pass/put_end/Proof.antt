@@ -11,6 +11,9 @@ mul-i c = search needs
 add-i : tie.Need-add-i
 add-i c = search needs
 
+cast-work : tie.Need-cast-work
+cast-work c = search needs
+
 mul-work : tie.Need-mul-work
 mul-work c = search needs
 
@@ -43,6 +46,7 @@ put-end-spec =
     (tie.spec
     mul-i
     add-i
+    cast-work
     mul-work
     slice-write-work
     add-work

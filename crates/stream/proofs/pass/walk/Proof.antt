@@ -34,8 +34,8 @@ returns-2 c = search end-accepted
 read-record-requires : tie.Need-read-record-requires Inv-loop μ-loop
 read-record-requires c κs = search needs
 
-enum-known-f : tie.Need-enum-known-f Inv-loop μ-loop
-enum-known-f c = search needs
+enum-known-what : tie.Need-enum-known-what Inv-loop μ-loop
+enum-known-what c = search needs
 
 with-field-requires : tie.Need-with-field-requires Inv-loop μ-loop
 with-field-requires c κs = search needs
@@ -46,8 +46,8 @@ loop-less c = search less-field
 loop-again : tie.Need-loop-again Inv-loop μ-loop
 loop-again c = search again-field
 
-enum-known-q : tie.Need-enum-known-q Inv-loop μ-loop
-enum-known-q c = search needs
+enum-told : tie.Need-enum-told Inv-loop μ-loop
+enum-told c = search needs
 
 loop-less-2 : tie.Need-loop-less-2 Inv-loop μ-loop
 loop-less-2 c = search less-instr
@@ -55,14 +55,11 @@ loop-less-2 c = search less-instr
 loop-again-2 : tie.Need-loop-again-2 Inv-loop μ-loop
 loop-again-2 c = search again-instr
 
-enum-known-q-2 : tie.Need-enum-known-q-2 Inv-loop μ-loop
-enum-known-q-2 c = search needs
-
-cast-put-end : tie.Need-cast-put-end Inv-loop μ-loop
-cast-put-end c = search end-fits
+enum-told-2 : tie.Need-enum-told-2 Inv-loop μ-loop
+enum-told-2 c = search needs
 
 put-end-requires : tie.Need-put-end-requires Inv-loop μ-loop
-put-end-requires c κs = search needs
+put-end-requires c κs = (search needs, search end-fits)
 
 add-ended : tie.Need-add-ended Inv-loop μ-loop
 add-ended c = search ended-fits
@@ -73,8 +70,8 @@ loop-less-3 c = search less-end
 loop-again-3 : tie.Need-loop-again-3 Inv-loop μ-loop
 loop-again-3 c = search again-end
 
-enum-known-n : tie.Need-enum-known-n Inv-loop μ-loop
-enum-known-n c = search needs
+enum-known-what-2 : tie.Need-enum-known-what-2 Inv-loop μ-loop
+enum-known-what-2 c = search needs
 
 same-length-3 : tie.Need-same-length-3 Inv-loop μ-loop
 same-length-3 c = search needs
@@ -96,19 +93,18 @@ walk-spec =
     same-length-2
     returns-2
     read-record-requires
-    enum-known-f
+    enum-known-what
     with-field-requires
     loop-less
     loop-again
-    enum-known-q
+    enum-told
     loop-less-2
     loop-again-2
-    enum-known-q-2
-    cast-put-end
+    enum-told-2
     put-end-requires
     add-ended
     loop-less-3
     loop-again-3
-    enum-known-n
+    enum-known-what-2
     same-length-3
     returns-3)

@@ -1,0 +1,28 @@
+use Rattle.stream.proofs.Records.{record-ways}
+use borrow.Author.Needs.{needs}
+use Rattle.stream.proofs.record.field_record.Statement.{statement}
+use Rattle.stream.proofs.record.field_record.Tie as tie
+
+read-field-requires : tie.Need-read-field-requires
+read-field-requires c κs = search needs
+
+enum-known-f : tie.Need-enum-known-f
+enum-known-f c = search needs
+
+field-depth-requires : tie.Need-field-depth-requires
+field-depth-requires c κs = search needs
+
+add-t12 : tie.Need-add-t12
+add-t12 c = search needs
+
+enum-known-n : tie.Need-enum-known-n
+enum-known-n c = search needs
+
+returns : tie.Need-returns
+returns c = search (record-ways) depth 8
+
+returns-2 : tie.Need-returns-2
+returns-2 c = search (record-ways) depth 8
+
+pub field-record-spec : {M : Type 1} → statement M
+field-record-spec = tie.close (tie.spec read-field-requires enum-known-f field-depth-requires add-t12 enum-known-n returns returns-2)
