@@ -16,7 +16,7 @@ words (10) or bytes (18), some more. Exit status 1 on any disagreement.
 With --names it is the call that also writes the name section (document 02, §1),
 and the streams are rich in names. There the crate has one known difference
 (docs/DIFFERENCES.md): it must then say, byte for byte, what the model says with
-that difference. Such streams are counted, and the smallest is shown.
+that difference. Such streams are counted, and one is shown.
 """
 import argparse
 import os
@@ -175,7 +175,7 @@ def main():
         for pair, case in sorted(found[sort].items(), key=lambda one: len(one[1][0]))[:options.findings]:
             show(judges, lambda answers: differ(answers) and pair_of(answers) == pair, *case)
     if differences:
-        print('known difference from the crate: %d streams, the smallest:' % len(differences))
+        print('known difference from the crate: %d streams, such as' % len(differences))
         show(judges, known, *min(differences, key=lambda case: (-case[2], len(case[0]))))
     print('%d streams, seed %d, %d disagree, %d s' % (sum(map(lambda tally: sum(tally.values()), tallies.values())),
                                                       options.seed, sum(bad.values()), time.monotonic() - start))

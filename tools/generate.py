@@ -729,6 +729,8 @@ class Namer(Maker):
         own = ['func'] * count + self.chance.choices(others, k=self.pick((0, 0, 1, 3)))
         self.chance.shuffle(head)
         self.chance.shuffle(own)
+        if self.fault(11):
+            own.insert(self.chance.randint(0, len(own)), 'import')
         return head + own
 
     def imported_kind(self):
@@ -790,7 +792,7 @@ def names(chance):
     if way < 0.75:
         return Namer(chance).stream()
     if way < 0.85:
-        return Namer(chance, {chance.choice((11, 13, 'local', 14, 15, 16)): 0.2}).stream()
+        return Namer(chance, {chance.choice((11, 13, 'local', 14, 15, 16, 17)): 0.2}).stream()
     if way < 0.95:
         return moved(chance, Namer(chance).stream())
     return chance.choice((name_sizes, name_sizes, long_named_module, far_locals, far_locals))(chance)
