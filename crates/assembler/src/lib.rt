@@ -1,4 +1,6 @@
 // The assembler: the passes in document 01's order.
+pub mod export;
+
 use module::module_len;
 use names::Registered;
 use order::Order;

@@ -14,7 +14,6 @@ use lent::{examine, Assemble, Said};
 use std::fmt::Write as _;
 use std::io::{Read, Write};
 
-#[cfg(feature = "library")]
 mod library {
     macro_rules! calls {
         ($($name:ident)*) => {
@@ -33,35 +32,6 @@ mod library {
     }
 
     calls! { barrizuppa_assemble barrizuppa_assemble_names }
-}
-
-#[cfg(not(feature = "library"))]
-mod library {
-    /// STUB: the empty module for the empty stream, 4 at 0 for any other.
-    pub unsafe extern "C" fn barrizuppa_assemble(
-        _stream: *const u8,
-        stream_len: usize,
-        work: *mut u32,
-        work_len: usize,
-        out: *mut u8,
-        out_len: usize,
-        answer: *mut [u32; 4],
-    ) -> u32 {
-        const MODULE: &[u8] = b"\0asm\x01\0\0\0";
-        work.write_bytes(0, work_len);
-        *answer = match (stream_len, out_len) {
-            (0, 8..) => [0, 0, 8, 0],
-            (0, _) => [18, 0, 0, 0],
-            _ => [4, 0, 0, 0],
-        };
-        if (*answer)[0] == 0 {
-            out.copy_from(MODULE.as_ptr(), MODULE.len());
-        }
-        (*answer)[0]
-    }
-
-    /// STUB: the empty stream has no names.
-    pub use barrizuppa_assemble as barrizuppa_assemble_names;
 }
 
 /// What is asked, and the words and bytes it is lent.
