@@ -48,7 +48,8 @@ NAME_SLIPS = [('model.py',) + slip for slip in [
     ('a function with locals numbered without the imports', 'enumerate(self.locals, self.imported_functions)',
      'enumerate(self.locals)'),
     ('a function with a name numbered without the imports', 'functions = name_map(self.names[FUNC])',
-     'functions = name_map({name: abs(number - self.imported_functions) for name, number in self.names[FUNC].items()})'),
+     'functions = name_map({name: abs(number - self.imported_functions)\n'
+     '                              for name, number in self.names[FUNC].items()})'),
     ('imports without their names', 'functions = name_map(self.names[FUNC])',
      'functions = name_map({name: number for name, number in self.names[FUNC].items()\n'
      '                              if number >= self.imported_functions})'),
@@ -56,7 +57,8 @@ NAME_SLIPS = [('model.py',) + slip for slip in [
     ('the names of types too', 'functions = name_map(self.names[FUNC])',
      'functions = name_map({**self.names[TYPE], **self.names[FUNC]})'),
     ('local names of imports', 'self.imported_functions += 1',
-     'self.locals.append(({name: place for place, (name, _) in enumerate(field.description.parameters) if name}, False))'),
+     'self.locals.append(({name: place\n'
+     '                                 for place, (name, _) in enumerate(field.description.parameters) if name}, False))'),
     ('a local one too far', 'vector(name_map(names))',
      'vector(name_map({name: place + 1 for name, place in names.items()}))'),
     ('parameters without their names', 'self.locals.append((names,',
