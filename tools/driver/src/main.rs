@@ -1,34 +1,43 @@
 //! Asks the assembler of many streams, for tools/compare.py.
 //!
-//!   driver [--bare] [--work WORDS] [--room BYTES] < STREAMS
+//!   driver [--names] [--bare] [--work WORDS] [--room BYTES] < STREAMS
 //!
 //! Each stream comes after its length in 4 bytes, low first. One line for each:
 //! `ok HEX` or `refused N at R`, and behind it ` but ...` whatever is wrong with
 //! what the call left: the output beyond the module or after a refusal, the work
 //! area, the answer's four words. 16,384 words and 65,536 bytes are lent if
 //! nothing else is said. With --bare they are lent as they come from the heap,
-//! for a run under a memory checker.
+//! for a run under a memory checker. With --names the call that also writes the
+//! name section is asked.
 mod lent;
 
-use lent::{examine, examine_bare, Said};
+use lent::{examine, examine_bare, Assemble, Said};
 use std::fmt::Write as _;
 use std::io::{Read, Write};
 
 mod library {
-    extern "C" {
-        pub fn barrizuppa_assemble(
-            stream: *const u8,
-            stream_len: usize,
-            work: *mut u32,
-            work_len: usize,
-            out: *mut u8,
-            out_len: usize,
-            answer: *mut [u32; 4],
-        ) -> u32;
+    macro_rules! calls {
+        ($($name:ident)*) => {
+            extern "C" {$(
+                pub fn $name(
+                    stream: *const u8,
+                    stream_len: usize,
+                    work: *mut u32,
+                    work_len: usize,
+                    out: *mut u8,
+                    out_len: usize,
+                    answer: *mut [u32; 4],
+                ) -> u32;
+            )*}
+        };
     }
+
+    calls! { barrizuppa_assemble barrizuppa_assemble_names }
 }
 
+/// What is asked, and the words and bytes it is lent.
 struct Options {
+    assemble: Assemble,
     bare: bool,
     work: usize,
     room: usize,
@@ -37,7 +46,7 @@ struct Options {
 /// A stream's line.
 fn line(stream: &[u8], options: &Options) -> String {
     let examine = if options.bare { examine_bare } else { examine };
-    let (said, wrong) = examine(library::barrizuppa_assemble, stream, options.work, options.room);
+    let (said, wrong) = examine(options.assemble, stream, options.work, options.room);
     let mut line = match said {
         Said::Module { bytes, .. } => bytes.iter().fold("ok ".to_string(), |mut line, byte| {
             write!(line, "{byte:02X}").unwrap();
@@ -53,10 +62,12 @@ fn line(stream: &[u8], options: &Options) -> String {
 
 /// None where the arguments make no sense.
 fn options() -> Option<Options> {
-    let mut options = Options { bare: false, work: 16_384, room: 65_536 };
+    let mut options =
+        Options { assemble: library::barrizuppa_assemble, bare: false, work: 16_384, room: 65_536 };
     let mut arguments = std::env::args().skip(1);
     while let Some(argument) = arguments.next() {
         match argument.as_str() {
+            "--names" => options.assemble = library::barrizuppa_assemble_names,
             "--bare" => options.bare = true,
             "--work" => options.work = arguments.next()?.parse().ok()?,
             "--room" => options.room = arguments.next()?.parse().ok()?,
@@ -68,7 +79,7 @@ fn options() -> Option<Options> {
 
 fn main() -> std::io::Result<()> {
     let Some(options) = options() else {
-        eprintln!("usage: driver [--bare] [--work WORDS] [--room BYTES]");
+        eprintln!("usage: driver [--names] [--bare] [--work WORDS] [--room BYTES]");
         std::process::exit(2);
     };
     let mut set = Vec::new();
