@@ -17,8 +17,9 @@ use Rattle.stream.specs.Export.{Told}
 use Rattle.stream.specs.declared.pass.Count.{Count}
 use Rattle.stream.specs.declared.pass.Count.the-variants as C
 use Rattle.assembler.specs.Run.{outcomeOf}
+use Rattle.assembler.specs.Export.{handed}
 use Rattle.assembler.specs.declared.Said.{Said}
-use Rattle.promises.specs.Promise.{Assembles, Exports}
+use Rattle.promises.specs.Promise.{Assembles, AssemblesNames, Exports, ExportsNames}
 
 -- ## The assembler
 
@@ -30,10 +31,23 @@ pub assemble-one : (s work old : List ℕ) (r r′ : Said) (out out′ w w′ : 
     → (r ≡ r′) × (out ≡ out′) × (w ≡ w′)
 assemble-one s work old r r′ out out′ w w′ k k′ = outcome-one r r′ out out′ w w′ (k ∙ sym k′)
 
+pub assemble-names-one : (s work old : List ℕ) (r r′ : Said) (out out′ w w′ : List ℕ) → AssemblesNames s work old r out w → AssemblesNames s work old r′ out′ w′
+    → (r ≡ r′) × (out ≡ out′) × (w ≡ w′)
+assemble-names-one s work old r r′ out out′ w w′ k k′ = outcome-one r r′ out out′ w w′ (k ∙ sym k′)
+
+-- what is handed over says all of an answer
+handed-one : (r r′ : ℕ) (a a′ out out′ w w′ : List ℕ) → handed r a out w ≡ handed r′ a′ out′ w′ → (r ≡ r′) × (a ≡ a′) × (out ≡ out′) × (w ≡ w′)
+handed-one r r′ a a′ out out′ w w′ e = (λ i. e i .number, λ i. e i .answer, λ i. e i .output, λ i. e i .work)
+
 -- `barrizuppa_assemble`
 pub export-one : (s work old : List ℕ) (r r′ : ℕ) (a a′ out out′ w w′ : List ℕ) → Exports s work old r a out w → Exports s work old r′ a′ out′ w′
     → (r ≡ r′) × (a ≡ a′) × (out ≡ out′) × (w ≡ w′)
-export-one s work old r r′ a a′ out out′ w w′ k k′ = let e = k ∙ sym k′ in (λ i. e i .number, λ i. e i .answer, λ i. e i .output, λ i. e i .work)
+export-one s work old r r′ a a′ out out′ w w′ k k′ = handed-one r r′ a a′ out out′ w w′ (k ∙ sym k′)
+
+-- `barrizuppa_assemble_names`
+pub export-names-one : (s work old : List ℕ) (r r′ : ℕ) (a a′ out out′ w w′ : List ℕ) → ExportsNames s work old r a out w → ExportsNames s work old r′ a′ out′ w′
+    → (r ≡ r′) × (a ≡ a′) × (out ≡ out′) × (w ≡ w′)
+export-names-one s work old r r′ a a′ out out′ w w′ k k′ = handed-one r r′ a a′ out out′ w w′ (k ∙ sym k′)
 
 -- ## The reading pass
 

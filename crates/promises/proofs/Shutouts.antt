@@ -9,7 +9,7 @@ use native.Mathlib.Omega.{arith}
 use Rattle.definition.specs.Basic.{if_then_else_, Answer, ok, refused}
 use Rattle.definition.specs.Syntax.{Bytes}
 use Rattle.definition.specs.Assemble as Assemble
-use Rattle.definition.specs.Assemble.{refusal, say, assemble, outputAfter, outcome, call}
+use Rattle.definition.specs.Assemble.{refusal, say, assembleBy, assemble, outputAfter, outcome, callBy, call}
 use Rattle.renaming.proofs.Examples.{computing, S7}
 use Rattle.assembler.specs.declared.Said.{Said}
 use Rattle.promises.specs.Promise.{Assembles}
@@ -52,7 +52,7 @@ module _ (work : List ℕ) (h : 16384 ≤ length work) (old : Bytes) (r : Said) 
   -- what is said decides the answer
   answer : (s : Bytes) (a : Assemble.Said) → assemble s (length work) (length old) ≡ a → Assembles s work old r out w
       → (r ≡ record { number = a .number; rec = a .rec; len = length (a .bytes) }) × (out ≡ a .bytes ++ drop (length (a .bytes)) old)
-  unfolding call outcome outputAfter
+  unfolding call callBy assemble outcome outputAfter
   answer s a e k =
       let x = k ∙ ap (outcome old work) e in
       (λ i. record { number = x i .number; rec = x i .rec; len = x i .written }, λ i. x i .output)
