@@ -1,7 +1,7 @@
 #!/usr/bin/env python3
 """Chooses a fixed list of streams and writes the oracle's answers to them.
 
-usage: make_answers.py [--names] [--oracle PROGRAM] [--seed S] FOLDER
+usage: make_answers.py [--oracle PROGRAM] [--seed S] FOLDER
 
 The streams of samples.py come first, all of them, and must have the answers that
 document 01 gives. Then streams of generate.py, and those of tests/modules, are
@@ -10,8 +10,8 @@ before it shows:
   an opcode, a form of a field, an index, a constant or limits, in a module
   a refusal at a record that begins with this byte
   one of the slips of slips.py
-With --names the list is for the call that also writes the name section (document
-02, §1), and a stream is kept for:
+After them come streams for the call that also writes the name section (document
+02, §1), each kept for:
   which names there are, with imports before them and without
   a form of a function's type use, and which of its parameters and locals are
   named; a number or a size of two groups; a longest identifier
@@ -19,7 +19,8 @@ With --names the list is for the call that also writes the name section (documen
   one of the slips below
 The list is always the same for a seed. FOLDER/stdin has the streams, each after
 its length in seven-bit groups (the batch form of reading_model.py), and
-FOLDER/stdout the answers, a line each: `ok HEX` or `refused N at R`. They are
+FOLDER/stdout two answers to each, a line without names and one with them: `ok HEX`
+or `refused N at R`. They are
 the crate's; for our own refusals (1 to 9, 12, 18) they are those on which the
 oracle's front and model.py agree. Where the crate's name section has its known
 difference (docs/DIFFERENCES.md) they are the model's.
@@ -266,7 +267,7 @@ def choose(seed, by):
 
 
 def write(folder, streams, lines):
-    """The list as the gate's programs read it, and what they must print."""
+    """The list as the gate's program reads it, and what it must print."""
     os.makedirs(folder, exist_ok=True)
     with open(os.path.join(folder, 'stdin'), 'wb') as file:
         file.write(reading_model.batch(streams))
@@ -274,33 +275,41 @@ def write(folder, streams, lines):
         file.writelines(line + '\n' for line in lines)
 
 
+def ask(oracle, streams, names):
+    """The answers on which oracle and model agree, but for the known difference."""
+    answers = compare.Judges(oracle, None, names).ask(streams, model.WORK, model.ROOM)
+    for stream, said in zip(streams, answers):
+        assert not compare.differ(said), (stream.hex(), said)
+    if names:
+        print('%d with the known difference from the crate' % sum(map(compare.known, answers)))
+    return [said['model'] for said in answers]
+
+
+def shows_all(seen, opcodes):
+    """Every refusal but 10 and, in a plain list, every opcode."""
+    numbers = {one[1] for one in seen if one[0] == 'refused'}
+    missing = set(range(1, 19)) - {10} - numbers
+    if missing or opcodes and not {('opcode', one) for one in opcodes} <= seen:
+        sys.exit('not shown: refusals %s' % sorted(missing))
+
+
 def main():
     parser = argparse.ArgumentParser(description=__doc__, formatter_class=argparse.RawDescriptionHelpFormatter)
-    parser.add_argument('--names', action='store_true')
     parser.add_argument('--oracle', default=compare.ORACLE)
     parser.add_argument('--seed', type=int, default=1)
     parser.add_argument('folder')
     options = parser.parse_args()
-    by = NAMED if options.names else PLAIN
-    kept, seen, unseen = choose(options.seed, by)
-    answers = compare.Judges(options.oracle, None, by.names).ask(kept, model.WORK, model.ROOM)
-    for stream, said in zip(kept, answers):
-        assert not compare.differ(said), (stream.hex(), said)
-    lines = [said['model'] for said in answers]
-    write(options.folder, kept, lines)
-    tally = Counter(map(compare.sort_of, lines))
-    opcodes = sum(1 for one in seen if one[0] == 'opcode')
+    kept = []
+    for by, opcodes in ((PLAIN, reading_model.OPCODES), (NAMED, ())):
+        streams, seen, unseen = choose(options.seed, by)
+        shows_all(seen, opcodes)
+        kept += [stream for stream in streams if stream not in kept]
+        print('%d streams; %d slips, of which they cannot show: %s' % (len(streams), len(by.slips), ', '.join(unseen) or 'none'))
+    plain, named = (ask(options.oracle, kept, names) for names in (False, True))
+    write(options.folder, kept, [line for pair in zip(plain, named) for line in pair])
+    tally = Counter(map(compare.sort_of, plain))
     print('%d streams, %d bytes' % (len(kept), sum(map(len, kept))))
     print(', '.join('%s: %d' % one for one in sorted(tally.items(), key=lambda one: (len(one[0]), one))))
-    print('%d slips, of which it cannot show: %s' % (len(by.slips), ', '.join(unseen)))
-    if by.names:
-        print('%d with the known difference from the crate' % sum(map(compare.known, answers)))
-    else:
-        print('%d opcodes of %d' % (opcodes, len(reading_model.OPCODES)))
-    numbers = {one[1] for one in seen if one[0] == 'refused'}
-    missing = set(range(1, 19)) - {10} - numbers
-    if missing or not by.names and opcodes < len(reading_model.OPCODES):
-        sys.exit('not shown: refusals %s' % sorted(missing))
 
 
 if __name__ == '__main__':

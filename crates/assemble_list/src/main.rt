@@ -1,5 +1,5 @@
-// Reads streams from standard input, each preceded by its length in seven-bit groups, and prints a line for each: `ok` and its module in
-// hex, or its refusal. A list that ends inside a stream is said to be cut.
+// Reads streams from standard input, each preceded by its length in seven-bit groups, and prints two lines for each, of the call without names
+// and of the one with them: `ok` and the module in hex, or the refusal. A list that ends inside a stream is said to be cut.
 use assembler::Said;
 use console::Next;
 ghost use mathlib.Core.Path.{_≡_};
@@ -72,6 +72,14 @@ fn report(r: Said, out: &[u8], hex: &mut [u8]) {
     }
 }
 
+// A stream's two lines.
+fn both(s: &[u8], work: &mut [u32], out: &mut [u8], hex: &mut [u8]) {
+    let plain = assembler::assemble(s, work, out);
+    report(plain, out, hex);
+    let named = assembler::assemble_names(s, work, out);
+    report(named, out, hex);
+}
+
 // One stream of the list; false where there is none.
 fn one(buf: &mut [u8], work: &mut [u32], out: &mut [u8], hex: &mut [u8]) -> bool {
     match console::next_stream(buf) {
@@ -79,8 +87,7 @@ fn one(buf: &mut [u8], work: &mut [u32], out: &mut [u8], hex: &mut [u8]) -> bool
             if buf.len() < n {
                 return false;
             }
-            let r = assembler::assemble(&buf[0..n], work, out);
-            report(r, out, hex);
+            both(&buf[0..n], work, out, hex);
             true
         }
         Next::End => false,
