@@ -1,8 +1,8 @@
 -- The loop over all fields.
-use Prim.Native.Nat.{ℕ, zero, suc, _+_, _*_, _^_, _≤_, _<_}
+use Prim.Native.Nat.{ℕ, zero, suc, _+_, _*_, _^_, _≤_, _<_, min, max}
 use mathlib.Core.Path.{_≡_, refl, sym, _∙_, ap, subst}
 use mathlib.Core.List.{List, [], _∷_, _++_, append-assoc, append-nil}
-use lib.ListN.{length, getD}
+use lib.ListN.{length, getD, length-append}
 use native.Mathlib.Omega.{arith}
 use Rattle.definition.specs.Basic.{each, _>>=_, concatMap}
 use Rattle.definition.specs.Syntax.{Bytes, Identifier, FuncType}
@@ -10,7 +10,7 @@ use Rattle.definition.specs.Deinline.{Numbered}
 use Rattle.definition.specs.Types.{Uses, uses, fieldUses, typeNumber}
 use Rattle.definition.specs.Names.{Scope, resolveAll}
 use Rattle.definition.specs.Binary.{entries, inSection, joined}
-use Rattle.emit.specs.Put.{Put}
+use Rattle.emit.specs.Put.{Put, past}
 use Rattle.emit.proofs.Laws.{put-none, put-then, put-is}
 use Rattle.space.specs.Kept.{Kept}
 use Rattle.space.proofs.Kept.{kept-same, kept-then, kept-less}
@@ -61,6 +61,25 @@ none-in : (k : ℕ) (Γ : Scope Identifier) → bytesIn k (entriesOf Γ []) ≡ 
 unfolding bytesIn entriesOf resolveAll each _>>=_ inSection joined concatMap
 none-in k Γ = refl
 
+-- more bytes that move the place no further are none, or the place has saturated
+put-all : (cs : Bytes) {old new bs all : Bytes} {at o : ℕ} → Put old at bs o new → bs ++ cs ≡ all → past at (length all) ≤ o → Put old at all o new
+unfolding past
+put-all cs {old} {new} {bs} {all} {at} {o} p e h =
+    let n : length all ≡ length bs + length cs = ap length (sym e) ∙ length-append bs cs in
+    record {
+      place = omega (arith, p .place, n);
+      bytes = λ g.
+          (let z : length cs ≡ 0 = omega (arith, p .place, n) in
+          let x : all ≡ bs = sym e ∙ ap (λ y. bs ++ y) (empty cs z) ∙ append-nil bs in
+          rw x (p .bytes (omega (arith, n))));
+      long = p .long;
+      short = p .short;
+    }
+  where
+    empty : (ys : Bytes) → length ys ≡ 0 → ys ≡ []
+    empty [] z = refl
+    empty (y ∷ ys) z = absurd (omega (arith, z))
+
 -- the fields before the cursor are done
 pub record Emitting (k : ℕ) (s w₀ old : List ℕ) (at : ℕ) (c : Cursor) (o : ℕ) (out w : List ℕ) : Type 0 where
   pub stream : length s ≤ 65536
@@ -93,6 +112,11 @@ module _ (k : ℕ) (s w₀ old : List ℕ) (at : ℕ) (c : Cursor) (o : ℕ) (ou
 
   pub emitting-area : length w ≡ length w₀
   emitting-area = v .area .long
+
+  -- no byte is left
+  pub emitting-stop : (end : ℕ) → past at (length (bytesIn k (entriesOf (scopeIn s w₀) (fieldsIn s)))) ≤ end → end ≤ o
+      → Writes (bytesIn k (entriesOf (scopeIn s w₀) (fieldsIn s))) old at o out w₀ w
+  emitting-stop end h g = record { put = put-all (bytesIn k (entriesOf (scopeIn s w) (fieldsAhead c s))) (v .so-far) (v .same) (omega (arith, h, g)); area = v .area }
 
   module _ (m : Met) (told : visitIn (c .left) c s ≡ visitOf s m) where
     -- no field is left

@@ -70,6 +70,11 @@ writable-same s w w′ k v =
       fine = rw d (v .fine);
     }
 
+-- a place goes as far by a measure that has saturated
+past-more : (at m n : ℕ) → past at m ≤ past at (past 0 (m + n))
+unfolding past
+past-more at m n = omega arith
+
 -- ## The content
 
 module _ (k declared : ℕ) (s w w′ old : List ℕ) (at : ℕ) where
@@ -89,6 +94,17 @@ module _ (k declared : ℕ) (s w w′ old : List ℕ) (at : ℕ) where
         put = put-is (put-then (p .put) q′) (sym (joined-append (inSection k es) (inSection k ts)) ∙ ap joined (sym (in-append k es ts)));
         area = p .area;
       }
+
+  -- the fields' entries end where all do, or before
+  pub entries-reach : (size end : ℕ) → size ≡ past 0 (length (joined (inSection k (allEntries declared s w)))) → end ≡ past at size
+      → past at (length (bytesIn k (entriesOf (scopeIn s w) (fieldsIn s)))) ≤ end
+  unfolding allEntries bytesIn
+  entries-reach size end e d =
+      let es = kept (entriesOf (scopeIn s w) (fieldsIn s)) in
+      let ts = typeEntries (drop declared (typesIn s w)) in
+      let n : length (joined (inSection k (es ++ ts))) ≡ length (joined (inSection k es)) + length (joined (inSection k ts)) =
+      ap (λ z. length (joined z)) (in-append k es ts) ∙ ap length (joined-append (inSection k es) (inSection k ts)) ∙ length-append (joined (inSection k es)) (joined (inSection k ts)) in
+      rw (d, e, n) (past-more at (length (joined (inSection k es))) (length (joined (inSection k ts))))
 
   pub content-start : (r : ℕ) (new : Bytes) → k ≡ 8 → Writes (joined (inSection k (allEntries declared s w))) old at r new w w′
       → Writes (content k (inSection k (allEntries declared s w))) old at r new w w′
@@ -151,6 +167,9 @@ unfolding past
 past-some n e = omega arith
 
 module _ (t : Tally) (es : Entries) (c : Counted t es) (k : ℕ) (h : k < 12) where
+  pub size-is : getD (t .sizes) k 0 ≡ past 0 (length (joined (inSection k es)))
+  size-is = size-of c k h
+
   pub counts-are : Counts (getD (t .counts) k 0) k es
   counts-are = record { number = count-of c k h; few = c .good .each k }
 

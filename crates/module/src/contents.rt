@@ -5,6 +5,9 @@ use content::Three;
 use fields::Field;
 use walk::Cursor;
 use walk::What;
+ghost use Prim.Native.Nat.{_≤_};
+ghost use lib.ListN.{length};
+ghost use Rattle.emit.specs.Put.{past};
 ghost use Rattle.walk.specs.Walk.{fieldsIn};
 ghost use Rattle.scope.specs.Scope.{scopeIn};
 ghost use Rattle.content.specs.Entry.{three, entryIn, threeIn, entriesOf};
@@ -87,14 +90,24 @@ fn emit_field(
     emit_three(k, s, work, out, at, x, c.rec)
 }
 
-// Those of all fields.
-pub fn emit_fields(k: u8, s: &[u8], work: &mut [u32], out: &mut [u8], at: usize) -> usize
-    requires { ⌜ Writable (now s) (now work) ⌝ }
+// Those of all fields. None is left where the place has come to `end`, and the fields that are left are not read.
+pub fn emit_fields(
+    k: u8,
+    s: &[u8],
+    work: &mut [u32],
+    out: &mut [u8],
+    at: usize,
+    end: usize,
+) -> usize
+    requires { ⌜ Writable (now s) (now work) × (past at (length (bytesIn k (entriesOf (scopeIn (now s) (now work)) (fieldsIn (now s))))) ≤ end) ⌝ }
     ensures { λ r. ⌜ Writes (bytesIn k (entriesOf (scopeIn (now (s .entry)) (now (work .entry))) (fieldsIn (now (s .entry))))) (now (out .entry)) at r (now (out .exit)) (now (work .entry)) (now (work .exit)) ⌝ }
 {
     let mut c = walk::start();
     let mut o = at;
     loop {
+        if end <= o {
+            return o;
+        }
         let m = walk::visit(s, work, c);
         let what = m.what;
         match what {

@@ -8,7 +8,7 @@ ghost use mathlib.Core.List.{_∷_};
 ghost use Prim.Native.Nat.{_≤_, _<_};
 ghost use lib.ListN.{length};
 ghost use Rattle.definition.specs.Binary as Binary;
-ghost use Rattle.emit.specs.Put.{Put};
+ghost use Rattle.emit.specs.Put.{Put, past};
 ghost use Rattle.sections.specs.Tally.{tallies, noTally};
 ghost use Rattle.module.specs.Length.{Counted, sectionsFrom};
 ghost use Rattle.module.specs.Write.{Writes, Writable, Counts, allEntries, addedIn, moduleItems};
@@ -31,18 +31,27 @@ fn put_added(k: u8, declared: u32, s: &[u8], work: &[u32], out: &mut [u8], at: u
     at
 }
 
-// All entries of a section.
-fn put_entries(k: u8, declared: u32, s: &[u8], work: &mut [u32], out: &mut [u8], at: usize) -> usize
-    requires { ⌜ Writable (now s) (now work) ⌝ }
+// All entries of a section, `size` bytes.
+fn put_entries(
+    k: u8,
+    size: usize,
+    declared: u32,
+    s: &[u8],
+    work: &mut [u32],
+    out: &mut [u8],
+    at: usize,
+) -> usize
+    requires { ⌜ Writable (now s) (now work) × (size ≡ past 0 (length (Binary.joined (Binary.inSection k (allEntries declared (now s) (now work)))))) ⌝ }
     ensures { λ r. ⌜ Writes (Binary.joined (Binary.inSection k (allEntries declared (now (s .entry)) (now (work .entry))))) (now (out .entry)) at r (now (out .exit)) (now (work .entry)) (now (work .exit)) ⌝ }
 {
-    let a = emit_fields(k, s, work, out, at);
+    let a = emit_fields(k, s, work, out, at, emit::tally(at, size));
     put_added(k, declared, s, work, out, a)
 }
 
 // The start section holds no count.
 fn put_content(
     k: u8,
+    size: usize,
     count: u64,
     declared: u32,
     s: &[u8],
@@ -50,14 +59,14 @@ fn put_content(
     out: &mut [u8],
     at: usize,
 ) -> usize
-    requires { ⌜ Writable (now s) (now work) × Counts count k (allEntries declared (now s) (now work)) ⌝ }
+    requires { ⌜ Writable (now s) (now work) × (size ≡ past 0 (length (Binary.joined (Binary.inSection k (allEntries declared (now s) (now work)))))) × Counts count k (allEntries declared (now s) (now work)) ⌝ }
     ensures { λ r. ⌜ Writes (Binary.content k (Binary.inSection k (allEntries declared (now (s .entry)) (now (work .entry))))) (now (out .entry)) at r (now (out .exit)) (now (work .entry)) (now (work .exit)) ⌝ }
 {
     if k == 8 {
-        return put_entries(k, declared, s, work, out, at);
+        return put_entries(k, size, declared, s, work, out, at);
     }
     let a = leb::put_u(out, at, count);
-    put_entries(k, declared, s, work, out, a)
+    put_entries(k, size, declared, s, work, out, a)
 }
 
 // A section's number and the length of its content.
@@ -88,9 +97,10 @@ fn put_section(
     if count == 0 {
         return at;
     }
-    let n = content_len(k, sizes[i] as usize, count);
+    let size = sizes[i] as usize;
+    let n = content_len(k, size, count);
     let a = put_head(k, n, out, at);
-    put_content(k, count, declared, s, work, out, a)
+    put_content(k, size, count, declared, s, work, out, a)
 }
 
 // Sections 1 to 11 in order.

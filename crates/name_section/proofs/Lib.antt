@@ -1,3 +1,4 @@
 pub mod Maps
+pub mod Locals
 pub mod Walking
 pub mod Subsections

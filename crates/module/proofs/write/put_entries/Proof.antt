@@ -1,10 +1,13 @@
-use Rattle.module.proofs.Sections.{area-room, entries-put}
+use Rattle.module.proofs.Sections.{area-room, entries-reach, entries-put}
 use borrow.Author.Needs.{needs}
 use Rattle.module.proofs.write.put_entries.Statement.{statement}
 use Rattle.module.proofs.write.put_entries.Tie as tie
 
+tally-requires : tie.Need-tally-requires
+tally-requires c κs = search needs
+
 emit-fields-requires : tie.Need-emit-fields-requires
-emit-fields-requires c κs = search needs
+emit-fields-requires c κs = search (entries-reach, needs)
 
 put-added-requires : tie.Need-put-added-requires
 put-added-requires c κs = search area-room
@@ -20,4 +23,4 @@ returns c = search entries-put
 
 pub put-entries-spec : {M : Type 1} → statement M
 put-entries-spec =
-    tie.close (tie.spec emit-fields-requires put-added-requires same-length same-length-2 returns)
+    tie.close (tie.spec tally-requires emit-fields-requires put-added-requires same-length same-length-2 returns)

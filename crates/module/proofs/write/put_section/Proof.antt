@@ -1,4 +1,4 @@
-use Rattle.module.proofs.Sections.{counts-are, section-none, section-some}
+use Rattle.module.proofs.Sections.{size-is, counts-are, section-none, section-some}
 use borrow.Author.Needs.{needs}
 use Rattle.module.proofs.write.put_section.Statement.{statement}
 use Rattle.module.proofs.write.put_section.Tie as tie
@@ -12,11 +12,11 @@ array-read-count c = search needs
 returns : tie.Need-returns
 returns c = search section-none
 
-mul-content-len : tie.Need-mul-content-len
-mul-content-len c = search needs
+mul-size : tie.Need-mul-size
+mul-size c = search needs
 
-array-read-content-len : tie.Need-array-read-content-len
-array-read-content-len c = search needs
+array-read-size : tie.Need-array-read-size
+array-read-size c = search needs
 
 content-len-requires : tie.Need-content-len-requires
 content-len-requires c κs = search needs
@@ -25,7 +25,7 @@ put-head-requires : tie.Need-put-head-requires
 put-head-requires c κs = search needs
 
 put-content-requires : tie.Need-put-content-requires
-put-content-requires c κs = search counts-are
+put-content-requires c κs = search (size-is, counts-are, needs)
 
 same-length : tie.Need-same-length
 same-length c = search needs
@@ -43,8 +43,8 @@ put-section-spec =
     mul-count
     array-read-count
     returns
-    mul-content-len
-    array-read-content-len
+    mul-size
+    array-read-size
     content-len-requires
     put-head-requires
     put-content-requires

@@ -1,4 +1,4 @@
-use Rattle.name_section.proofs.Walking.{entry-none, entry-some}
+use Rattle.name_section.proofs.Locals.{entry-none, entry-some}
 use borrow.Author.Needs.{needs}
 use Rattle.name_section.proofs.functions.put_entry.Statement.{statement}
 use Rattle.name_section.proofs.functions.put_entry.Tie as tie

@@ -1,4 +1,4 @@
-use Rattle.name_section.proofs.Walking.{few-zero, few-list, inline-put}
+use Rattle.name_section.proofs.Locals.{few-zero, few-list, inline-put}
 use borrow.Author.Needs.{needs}
 use Rattle.name_section.proofs.functions.put_inline.Statement.{statement}
 use Rattle.name_section.proofs.functions.put_inline.Tie as tie

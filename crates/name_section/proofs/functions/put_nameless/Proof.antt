@@ -1,4 +1,4 @@
-use Rattle.name_section.proofs.Walking.{few-first, nameless-put}
+use Rattle.name_section.proofs.Locals.{few-first, nameless-put}
 use borrow.Author.Needs.{needs}
 use Rattle.name_section.proofs.functions.put_nameless.Statement.{statement}
 use Rattle.name_section.proofs.functions.put_nameless.Tie as tie

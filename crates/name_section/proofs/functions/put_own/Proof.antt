@@ -1,4 +1,4 @@
-use Rattle.name_section.proofs.Walking.{own-typed, own-refused}
+use Rattle.name_section.proofs.Locals.{own-typed, own-refused}
 use borrow.Author.Needs.{needs}
 use Rattle.name_section.proofs.functions.put_own.Statement.{statement}
 use Rattle.name_section.proofs.functions.put_own.Tie as tie

@@ -1,4 +1,4 @@
-use Rattle.name_section.proofs.Walking.{typed-inline, typed-nameless}
+use Rattle.name_section.proofs.Locals.{typed-inline, typed-nameless}
 use borrow.Author.Needs.{needs}
 use Rattle.name_section.proofs.functions.put_typed.Statement.{statement}
 use Rattle.name_section.proofs.functions.put_typed.Tie as tie
