@@ -1,5 +1,6 @@
 //! With the feature `proved`: links libstream.a, made by `rt staticlib stream`.
-//! BARRIZUPPA_STATICLIB names its folder if it is not ../target/staticlib.
+//! BARRIZUPPA_STATICLIB names its folder if it is not ../target/staticlib. The
+//! assembler's library is linked by its own wrapper.
 use std::env;
 use std::path::PathBuf;
 

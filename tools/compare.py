@@ -1,7 +1,7 @@
 #!/usr/bin/env python3
 """Holds the assembler to the crate's own code and to a plain model.
 
-usage: compare.py [--streams N] [--seed S] [--without-library] [...]
+usage: compare.py [--names] [--streams N] [--seed S] [--without-library] [...]
 
 Makes N streams (generate.py), in pieces, and asks three judges of each:
   library   the assembler, through tools/driver
@@ -12,6 +12,11 @@ A line is printed for each sort of streams. Where two judges disagree, the
 stream is made smaller and shown in hex with the answers, one for each pair of
 sorts of answers. Most pieces are lent 16,384 words and 65,536 bytes; some fewer
 words (10) or bytes (18), some more. Exit status 1 on any disagreement.
+
+With --names it is the call that also writes the name section (document 02, §1),
+and the streams are rich in names. There the crate has one known difference
+(docs/DIFFERENCES.md): it must then say, byte for byte, what the model says with
+that difference. Such streams are counted, and one is shown.
 """
 import argparse
 import os
@@ -34,6 +39,10 @@ PATIENCE = 60           # seconds for a program's answer to one piece
 
 # Of each hundred pieces, how many are of a sort.
 SHARES = (('rich', 34), ('faulty', 36), ('damaged', 26), ('edges', 4))
+NAME_SHARES = (('names', 60), ('rich', 14), ('faulty', 10), ('damaged', 10), ('edges', 6))
+
+# The model with the crate's known difference.
+AS_CRATE = 'as crate'
 
 # (words, bytes) lent; the first to nearly all pieces.
 LENDINGS = ((16384, 65536),) * 12 + ((16383, 65536), (0, 65536), (16384, 60), (16384, 0), (16384, 200),
@@ -61,24 +70,37 @@ def run(command, streams):
 class Judges:
     """Those who are asked; the model always is."""
 
-    def __init__(self, oracle, driver):
+    def __init__(self, oracle, driver, names=False):
         self.oracle = oracle
         self.driver = driver                    # None without the library
+        self.names = names                      # whether it is the call with names
 
     def ask(self, streams, work, room):
         """For each stream the judges' answers, as {judge: line}."""
-        told = {'model': [model.line(model.assemble(stream, work, room)) for stream in streams]}
+        option = ['--names'] if self.names else []
+        told = {'model': [model.line(model.assemble(stream, work, room, self.names)) for stream in streams]}
         if self.oracle and work >= model.WORK:
-            told['oracle'] = run([self.oracle, '--batch', '--room', str(room)], streams)
+            if self.names:
+                told[AS_CRATE] = [model.line(model.assemble(stream, work, room, True, True)) for stream in streams]
+            told['oracle'] = run([self.oracle, '--batch', '--room', str(room), *option], streams)
         if self.driver:
-            told['library'] = run([self.driver, '--work', str(work), '--room', str(room)], streams)
+            told['library'] = run([self.driver, '--work', str(work), '--room', str(room), *option], streams)
         return [dict(zip(told, lines)) for lines in zip(*told.values())]
 
 
 def differ(answers):
     """Whether the judges disagree; 'ours' is the oracle's word for a refusal
-    that the crate does not have."""
-    return len({line.replace('ours', 'refused') for line in answers.values()}) > 1
+    that the crate does not have. The oracle is held to the model with the known
+    difference, where there is one."""
+    right = answers['model']
+    of_crate = answers.get(AS_CRATE, right)
+    return (answers.get('library', right) != right
+            or answers.get('oracle', of_crate).replace('ours', 'refused') != of_crate)
+
+
+def known(answers):
+    """Whether the crate says something else because of the known difference."""
+    return not differ(answers) and answers.get(AS_CRATE, answers['model']) != answers['model']
 
 
 def sort_of(line):
@@ -86,10 +108,10 @@ def sort_of(line):
     return 'ok' if line.startswith('ok') else line.split(' at ')[0]
 
 
-def pieces(count):
+def pieces(count, shares):
     """(sort, first number, size, words, bytes) of each piece. Each sort has
     its share of the streams, and has some of all lendings."""
-    for sort, share in SHARES:
+    for sort, share in shares:
         wanted = count * share // 100
         for number, first in enumerate(range(0, wanted, PIECE)):
             yield (sort, first, min(PIECE, wanted - first)) + LENDINGS[number % len(LENDINGS)]
@@ -100,11 +122,11 @@ def pair_of(answers):
     return tuple(map(sort_of, answers.values()))
 
 
-def show(judges, pair, stream, work, room):
-    """The smallest stream found with this pair of answers, and the answers."""
-    wrong = lambda some: [one for one, answers in zip(some, judges.ask(some, work, room))
-                          if differ(answers) and pair_of(answers) == pair]
-    stream = shrink.smaller(stream, wrong)
+def show(judges, is_like, stream, work, room):
+    """The smallest stream found whose answers are like this one's, and the
+    answers."""
+    like = lambda some: [one for one, answers in zip(some, judges.ask(some, work, room)) if is_like(answers)]
+    stream = shrink.smaller(stream, like)
     print('  lent %d words and %d bytes: %s' % (work, room, stream.hex(' ').upper() or '-'))
     for judge, line in judges.ask([stream], work, room)[0].items():
         print('    %-8s %s' % (judge, line if len(line) < 400 else line[:400] + '...'), flush=True)
@@ -112,6 +134,7 @@ def show(judges, pair, stream, work, room):
 
 def main():
     parser = argparse.ArgumentParser(description=__doc__, formatter_class=argparse.RawDescriptionHelpFormatter)
+    parser.add_argument('--names', action='store_true', help='the call that also writes the name section')
     parser.add_argument('--streams', type=int, default=20000, metavar='N')
     parser.add_argument('--seed', type=int, default=1)
     parser.add_argument('--oracle', default=ORACLE, metavar='PROGRAM')
@@ -121,22 +144,26 @@ def main():
     parser.add_argument('--findings', type=int, default=5, metavar='N', help='disagreements to shrink for each sort')
     options = parser.parse_args()
     judges = Judges(None if options.without_oracle else options.oracle,
-                    None if options.without_library else options.driver)
+                    None if options.without_library else options.driver, options.names)
+    shares = NAME_SHARES if options.names else SHARES
     for program in (judges.oracle, judges.driver):
         if program and not os.path.exists(program):
             parser.error('%s is not there; see docs/TESTING.md' % program)
     if not judges.oracle and not judges.driver:
         parser.error('nobody to compare the model with')
     start = time.monotonic()
-    tallies = {sort: Counter() for sort, _ in SHARES}
-    found = {sort: {} for sort, _ in SHARES}    # pair of answers -> (stream, work, room), the shortest
+    tallies = {sort: Counter() for sort, _ in shares}
+    found = {sort: {} for sort, _ in shares}    # pair of answers -> (stream, work, room), the shortest
     bad = Counter()
-    for sort, first, size, work, room in pieces(options.streams):
+    differences = []                            # (stream, work, room) with the known difference
+    for sort, first, size, work, room in pieces(options.streams, shares):
         if not judges.driver:
             work = max(work, model.WORK)        # the oracle knows no 10
         streams = [generate.stream(sort, options.seed, number) for number in range(first, first + size)]
         for stream, answers in zip(streams, judges.ask(streams, work, room)):
             tallies[sort][sort_of(answers['model'])] += 1
+            if known(answers):
+                differences.append((stream, work, room))
             if differ(answers):
                 bad[sort] += 1
                 pair = pair_of(answers)
@@ -146,7 +173,10 @@ def main():
         counts = ', '.join('%s: %d' % one for one in sorted(tally.items(), key=lambda one: (len(one[0]), one)))
         print('%s: %d streams, %d disagree (%s)' % (sort, sum(tally.values()), bad[sort], counts), flush=True)
         for pair, case in sorted(found[sort].items(), key=lambda one: len(one[1][0]))[:options.findings]:
-            show(judges, pair, *case)
+            show(judges, lambda answers: differ(answers) and pair_of(answers) == pair, *case)
+    if differences:
+        print('known difference from the crate: %d streams, such as' % len(differences))
+        show(judges, known, *min(differences, key=lambda case: (-case[2], len(case[0]))))
     print('%d streams, seed %d, %d disagree, %d s' % (sum(map(lambda tally: sum(tally.values()), tallies.values())),
                                                       options.seed, sum(bad.values()), time.monotonic() - start))
     sys.exit(1 if bad else 0)

@@ -10,7 +10,10 @@ Sorts:
   faulty    the same with two or three sorts of faults (11 to 17) in one stream
   edges     a ceiling, an end of a number's form or the output's end, one below,
             at and one above it
-  damaged   a stream of the other sorts with bytes changed, cut, moved or padded
+  damaged   a stream of these sorts with bytes changed, cut, moved or padded
+  names     rich in names: functions, parameters and locals with and without
+            identifiers, after imports, and every form of a type use; some
+            faulty, with records moved, or at an end of the name section's form
 
 A stream is known by its sort, seed and number alone. Writes the batch form of
 batch.py, or with --hex a line for each stream.
@@ -23,7 +26,7 @@ import batch
 import shrink
 from reading_model import IDCHARS, OPCODES, groups
 
-SORTS = ('rich', 'faulty', 'edges', 'damaged')
+SORTS = ('rich', 'faulty', 'edges', 'damaged', 'names')
 
 I32, I64, F32, F64, FUNCREF, EXTERNREF = 0x7F, 0x7E, 0x7D, 0x7C, 0x70, 0x6F
 VALUE_TYPES = (I32, I64, F32, F64, FUNCREF, EXTERNREF)
@@ -55,7 +58,11 @@ EDGES32, EDGES64 = edge_numbers(32), edge_numbers(64)
 
 class Maker:
     """One stream. `faults` gives, for a refusal, how often a place that can
-    have it gets it; 13 is for items, 'local' for a function's names."""
+    have it gets it; 13 is for items, 'local' for a function's names. `unnamed`
+    gives for both how often there is no name, and `pool` has the names."""
+
+    unnamed = {13: 0.35, 'local': 0.35}
+    pool = NAMES
 
     def __init__(self, chance, faults=None):
         self.chance = chance
@@ -96,10 +103,10 @@ class Maker:
         """None, a name that is not taken, or with that fault one that is."""
         if taken and self.fault(refusal):
             return self.pick(taken)
-        if self.random() < 0.35:
+        if self.random() < self.unnamed[refusal]:
             return None
         for _ in range(3):
-            name = self.pick(NAMES)
+            name = self.pick(self.pool)
             if name not in taken:
                 return name
         return None
@@ -228,8 +235,8 @@ class Maker:
 
     # ---- fields ----
 
-    def plan(self):
-        """What fields there are, in order: (what, space or None, name)."""
+    def planned_fields(self):
+        """What fields there are, in order."""
         own = ['type', 'func', 'table', 'memory', 'global', 'export', 'elem', 'data']
         head = ['import'] * self.pick((0, 0, 1, 2, 5)) + ['type'] * self.pick((0, 1, 2, 4))
         head += self.chance.choices(['export', 'elem', 'data'], k=self.pick((0, 0, 0, 1, 2)))
@@ -239,11 +246,19 @@ class Maker:
             fields.insert(self.chance.randint(0, len(fields)), 'start')
         if self.fault(11):
             fields.insert(self.chance.randint(0, len(fields)), 'import')
+        return fields
+
+    def imported_kind(self):
+        """The kind of an import."""
+        return self.chance.randrange(4)
+
+    def plan(self):
+        """The fields, in order: (what, space or None, name)."""
         spaces = {'func': FUNC, 'table': TABLE, 'memory': MEMORY, 'global': GLOBAL, 'type': TYPE, 'elem': ELEM,
                   'data': DATA}
         planned = []
-        for what in fields:
-            space = self.chance.randrange(4) if what == 'import' else spaces.get(what)
+        for what in self.planned_fields():
+            space = self.imported_kind() if what == 'import' else spaces.get(what)
             name = None
             if space is not None:
                 name = self.fresh(self.names[space])
@@ -694,6 +709,96 @@ def edges(chance):
 
 
 # ---------------------------------------------------------------------------
+# Names, for the call that writes the name section
+
+class Namer(Maker):
+    """Functions above all. A stream has names for nearly all of its items, or
+    for some or none; and so for its parameters and locals."""
+
+    def __init__(self, chance, faults=None):
+        super().__init__(chance, faults)
+        often = (0, 0.2, 0.5, 0.8, 1)
+        self.unnamed = {13: self.pick(often), 'local': self.pick(often)}
+        self.pool = NAMES + [named(number) for number in range(self.pick((0, 10, 300)))]
+
+    def planned_fields(self):
+        """Seldom more functions than numbers of one group."""
+        count = self.pick((0, 1, 1, 2, 4, 8)) if self.random() < 0.98 else self.pick((120, 127, 128, 129, 200))
+        head = ['import'] * self.pick((0, 0, 1, 3, 9)) + ['type'] * self.pick((0, 1, 3))
+        others = ['type', 'table', 'memory', 'global', 'export', 'elem', 'data']
+        own = ['func'] * count + self.chance.choices(others, k=self.pick((0, 0, 1, 3)))
+        self.chance.shuffle(head)
+        self.chance.shuffle(own)
+        if self.fault(11):
+            own.insert(self.chance.randint(0, len(own)), 'import')
+        return head + own
+
+    def imported_kind(self):
+        """Mostly functions, which count before the own ones."""
+        return FUNC if self.random() < 0.6 else super().imported_kind()
+
+
+def names_filling(size, most):
+    """Distinct names that take `size` bytes in name maps of at most so many
+    entries, each with its number and its length."""
+    some = []
+    while size > 2:
+        head = len(groups(len(some) % most)) + 1
+        length = min(64, size - head)
+        if 0 < size - head - length < 4:
+            length -= 4                         # leaves enough for one more
+        some.append(named(len(some)).ljust(length, b'x') if length > 4 else b'x' * length)
+        size -= head + length
+    return some
+
+
+def name_sizes(chance):
+    """A subsection or the section where its size gets longer."""
+    size = chance.choice((128, 16384)) - chance.randint(0, 16)
+    if chance.random() < 0.5:
+        return b''.join(b'\3' + sized(name) + FUNCTION[2:] + b'\xFF' for name in names_filling(size, 256))
+    some = names_filling(size, 64)
+    out = []
+    for first in range(0, len(some), 64):
+        variables = [sized(name) + bytes([I32]) for name in some[first:first + 64]]
+        out.append(FUNCTION[:-1] + groups(len(variables)) + b''.join(variables) + b'\xFF')
+    return b''.join(out)
+
+
+def long_named_module(chance):
+    """A module of about 65,536 bytes with its name section: 46 and the data of
+    a passive segment. Without the section it has room."""
+    size = near(chance, 65536) - 46
+    return b'\3\1f' + FUNCTION[2:] + b'\xFF' + b'\x0A\0\0' + groups(size) + (chance.randbytes(16) * 4096)[:size]
+
+
+def far_locals(chance):
+    """Locals after many parameters, named or not; or after a type that is not
+    there."""
+    parameters = bytes(chance.choices(VALUE_TYPES, k=chance.choice((0, 1, 63, 64))))
+    declared = type_record(b't', parameters)
+    variables = groups(64) + b''.join(sized(named(number)) + b'\x7F' for number in range(64))
+    given = b''.join(sized(b'p%d' % number) + bytes([one]) for number, one in enumerate(parameters))
+    inline = groups(len(parameters)) + given + b'\0'
+    using = chance.choice((b'\0' + inline, b'\2\1t' + inline, b'\2\1t\0\0', b'\1\0\0\0',
+                           b'\1' + groups(chance.choice((1, 2, 2**32 - 1))) + b'\0\0'))
+    imports = b'\2\1m\1n\0\0' + use() if chance.random() < 0.5 else b''
+    return declared + imports + b'\3\0\0\0' + using + variables + b'\x20\2' + sized(b'n63') + b'\xFF'
+
+
+def names(chance):
+    """Rich in names."""
+    way = chance.random()
+    if way < 0.75:
+        return Namer(chance).stream()
+    if way < 0.85:
+        return Namer(chance, {chance.choice((11, 13, 'local', 14, 15, 16, 17)): 0.2}).stream()
+    if way < 0.95:
+        return moved(chance, Namer(chance).stream())
+    return chance.choice((name_sizes, name_sizes, long_named_module, far_locals, far_locals))(chance)
+
+
+# ---------------------------------------------------------------------------
 
 def damaged(chance):
     """Bytes changed, mostly refused while reading; or whole records moved."""
@@ -752,7 +857,7 @@ def moved(chance, stream):
     return b''.join(records)
 
 
-MAKERS = {'rich': rich, 'faulty': faulty, 'edges': edges, 'damaged': damaged}
+MAKERS = {'rich': rich, 'faulty': faulty, 'edges': edges, 'damaged': damaged, 'names': names}
 
 
 def stream(sort, seed, number):

@@ -1,15 +1,17 @@
 #!/usr/bin/env python3
-"""A plain model of the whole of document 01: what a call says of a stream.
+"""A plain model of the whole of document 01, and of document 02's call with
+names (§1): what a call says of a stream.
 
-It says what document 01 and the standard's chapter 5 say, in their order, and
-shares nothing with the definition, the proved code or the crate; but whoever
-wrote it had read the crate's passes. The reading rules (2 to 9) are those of
-reading_model.py. What document 01 leaves to oracle runs is as the oracle
-answered (docs/DECISIONS.md, 13 and 14).
+It says what the documents and the standard's chapter 5 and appendix (the name
+section) say, in their order, and shares nothing with the definition, the proved
+code or the crate; but whoever wrote it had read the crate's passes. The reading
+rules (2 to 9) are those of reading_model.py. What document 01 leaves to oracle
+runs is as the oracle answered (docs/DECISIONS.md, 13 and 14).
 
 As a module:   assemble(stream) -> ('ok', module) or ('refused', number, record)
 As a program:  streams on standard input, each after its length in 4 bytes, low
-first; a line for each, `ok HEX` or `refused N at R`.
+first; a line for each, `ok HEX` or `refused N at R`. With --names each module
+has its name section.
 """
 import sys
 from collections import namedtuple
@@ -291,6 +293,11 @@ def locals_in_runs(variables):
     return vector([groups(count) + bytes([value_type]) for count, value_type in runs])
 
 
+def name_map(names):
+    """Numbers with their names, sorted by number, from names to numbers."""
+    return [groups(number) + sized(name) for number, name in sorted((number, name) for name, number in names.items())]
+
+
 # ---------------------------------------------------------------------------
 # The passes
 
@@ -312,6 +319,8 @@ class Assembler:
         self.types = []                         # signatures, by number
         self.first_of = {}                      # a signature's first number
         self.names = [{} for _ in range(7)]
+        self.imported_functions = 0
+        self.locals = []                        # of each own function: names to numbers, and is_beyond
         self.sections = {number: [] for number in range(1, 12)}
 
     def run(self):
@@ -321,7 +330,6 @@ class Assembler:
         self.register()
         for record, field in self.fields:
             self.resolve(record, field)
-        return self.module()
 
     def import_order(self):
         """11: imports come before own items."""
@@ -423,6 +431,7 @@ class Assembler:
         elif sort is Func:
             number = self.type_number(record, field.use)
             names = self.local_names(record, field, number)
+            self.locals.append((names, self.is_beyond(field.use, number)))
             code = locals_in_runs(field.locals) + Body(self, names).code(field.body) + b'\x0B'
             sections[3].append(groups(number))
             sections[10].append(sized(code))
@@ -446,6 +455,7 @@ class Assembler:
     def imported(self, record, field):
         """An import section's entry."""
         if field.kind == FUNC:
+            self.imported_functions += 1
             description = groups(self.type_number(record, field.description))
         elif field.kind == TABLE:
             element, size = field.description
@@ -504,6 +514,22 @@ class Assembler:
                 content = entries[0] if number == 8 else vector(entries)
                 out.append(bytes([number]) + sized(content))
         return b''.join(out)
+
+    def is_beyond(self, use, number):
+        """A use by its index only, whose number is out of range."""
+        return not use.parameters and not use.results and number >= len(self.types)
+
+    def name_section(self, as_crate):
+        """Document 02, §1: a custom section (number 0) after all others, with
+        functions and locals, or nothing. Imports are functions too, so own
+        functions are counted after them; they bring no local names."""
+        functions = name_map(self.names[FUNC])
+        of_each = [groups(number) + vector(name_map(names))
+                   for number, (names, beyond) in enumerate(self.locals, self.imported_functions)
+                   if names and not (beyond and as_crate)]
+        subsections = [bytes([number]) + sized(vector(entries))
+                       for number, entries in ((1, functions), (2, of_each)) if entries]
+        return b'\0' + sized(sized(b'name') + b''.join(subsections)) if subsections else b''
 
 
 class Body:
@@ -589,8 +615,11 @@ class Body:
         return given                            # a float's bytes
 
 
-def assemble(stream, work=WORK, room=ROOM):
-    """What a call says, with this much work area (words) and output (bytes)."""
+def assemble(stream, work=WORK, room=ROOM, names=False, as_crate=False):
+    """What a call says, with this much work area (words) and output (bytes).
+    With `names` it is the call that also writes the name section; `as_crate`
+    gives it the one known difference of the crate's (docs/DIFFERENCES.md): no
+    locals of a function whose type number is out of range."""
     if len(stream) > reading_model.STREAM:
         return 'refused', 1, 0
     if work < WORK:
@@ -598,10 +627,12 @@ def assemble(stream, work=WORK, room=ROOM):
     read = reading_model.read(stream)
     if read[0] == 'refused':
         return read
+    assembler = Assembler(Parser(stream).whole())
     try:
-        module = Assembler(Parser(stream).whole()).run()
+        assembler.run()
     except Refused as refused:
         return ('refused',) + refused.args
+    module = assembler.module() + (assembler.name_section(as_crate) if names else b'')
     if len(module) > room:
         return 'refused', 18, read[1]
     return 'ok', module
@@ -615,8 +646,11 @@ def line(answer):
 
 
 def main():
+    names = sys.argv[1:] == ['--names']
+    if sys.argv[1:] and not names:
+        sys.exit('usage: model.py [--names]')
     for stream in batch.unpack(sys.stdin.buffer.read()):
-        print(line(assemble(stream)))
+        print(line(assemble(stream, names=names)))
 
 
 if __name__ == '__main__':

@@ -1,53 +1,57 @@
-//! Measures the reading pass.
+//! Measures the proved code beside plain Rust that does the same job.
 //!
-//!   bench [ROUNDS]          both readers agree on all inputs; ns per byte of each
-//!   bench --batch plain     reads the batch form, prints a line for each stream,
-//!   bench --batch proved    for tools/compare_reading.py
+//!   bench JOB [ROUNDS]              all rivals agree on all inputs; ns per byte of each
+//!   bench JOB --batch plain|proved  reads the batch form of tools/reading_model.py, and
+//!                                   prints a line for each stream
+//!   bench --streams SIZE            the streams of a size as oracle --time reads them
 //!
-//! The two readers run in turn on the same streams, in one process. A round is
-//! passes over ALL bytes of different streams of a size, more than a branch
-//! predictor learns by heart; the best round counts. The work area is made once
-//! and not cleared between calls.
+//! JOB is `reading` (the reading pass alone) or `assembling` (the whole call).
+//! In a round each rival goes over ALL bytes of different streams of a size, more
+//! than a branch predictor learns by heart, in turn, in one process. Of each
+//! stream the best round counts. What is lent is made once and not cleared
+//! between calls.
 mod plain;
 #[cfg(feature = "proved")]
 mod proved;
+mod reader;
+mod reading;
+mod rivals;
 mod template;
+mod tree;
 
-use plain::Answer;
+use rivals::{rivals, Rival};
 use std::hint::black_box;
 use std::io::{Read, Write};
-use std::time::Instant;
+use std::time::{Duration, Instant};
 
 const SIZES: [usize; 4] = [1_024, 5 * 1_024, 20 * 1_024, 40 * 1_024];
 /// Bytes of different streams of one size.
 const ALL: usize = 320 * 1_024;
-/// Passes over them by one reader in one round.
-const PASSES: usize = 6;
 /// Damaged streams of one size, beside the whole ones.
 const DAMAGED: usize = 4_000;
+const ROUNDS: usize = 200;
 
-type Reader = Box<dyn FnMut(&[u8]) -> Answer>;
+type Rivals = Vec<(&'static str, Box<dyn Rival>)>;
 
-fn readers() -> Vec<(&'static str, Reader)> {
-    #[allow(unused_mut)]
-    let mut list: Vec<(&'static str, Reader)> = vec![("plain", Box::new(plain::read))];
-    #[cfg(feature = "proved")]
-    {
-        let mut work = Box::new([0; proved::WORK]);
-        list.push(("proved", Box::new(move |stream| proved::read(stream, &mut work))));
-    }
-    list
+/// The streams of a size, always the same.
+fn streams(size: usize) -> Vec<Vec<u8>> {
+    (1..=ALL / size).map(|seed| template::stream(size, seed as u64)).collect()
 }
 
-fn line(answer: Answer) -> String {
-    match answer {
-        Ok(records) => format!("records {records}"),
+fn line(rival: &mut dyn Rival, stream: &[u8]) -> String {
+    match rival.call(stream) {
         Err((number, record)) => format!("refused {number} at {record}"),
+        // A module is never empty; the reading pass writes nothing.
+        Ok(records) if rival.output().is_empty() => format!("records {records}"),
+        Ok(_) => {
+            let hex: String = rival.output().iter().map(|byte| format!("{byte:02X}")).collect();
+            format!("ok {hex}")
+        }
     }
 }
 
-/// The batch form of tools/reading_model.py; stops where the set is broken.
-fn batch(reader: &mut Reader) -> std::io::Result<()> {
+/// A line for each stream of a set; stops where the set is broken.
+fn batch(rival: &mut dyn Rival) -> std::io::Result<()> {
     let mut set = Vec::new();
     std::io::stdin().read_to_end(&mut set)?;
     let mut out = std::io::BufWriter::new(std::io::stdout());
@@ -58,19 +62,29 @@ fn batch(reader: &mut Reader) -> std::io::Result<()> {
         if groups > 5 || length > 1 << 24 || groups + length > rest.len() {
             return Err(std::io::Error::other("the set is broken"));
         }
-        writeln!(out, "{}", line(reader(&rest[groups..groups + length])))?;
+        writeln!(out, "{}", line(rival, &rest[groups..groups + length]))?;
         rest = &rest[groups + length..];
     }
     Ok(())
 }
 
-/// What the bench reads, whole, cut and with a byte changed: the plain reader
-/// accepts the whole ones, and all readers agree.
-fn agree(readers: &mut [(&'static str, Reader)], streams: &[Vec<u8>]) -> usize {
+/// Each stream after its length in 4 bytes, low first.
+fn print_streams(size: usize) -> std::io::Result<()> {
+    let mut out = std::io::stdout().lock();
+    for stream in streams(size) {
+        out.write_all(&(stream.len() as u32).to_le_bytes())?;
+        out.write_all(&stream)?;
+    }
+    Ok(())
+}
+
+/// What the bench times, whole, cut and with a byte changed: the first rival
+/// accepts the whole ones, and all agree.
+fn agree(rivals: &mut Rivals, streams: &[Vec<u8>]) -> usize {
     let mut count = 0;
     let mut chance = template::Chance::new(99);
     for stream in streams {
-        assert!(plain::read(stream).is_ok(), "a stream of the bench is refused");
+        assert!(rivals[0].1.call(stream).is_ok(), "a stream of the bench is refused");
         let mut inputs = vec![stream.clone()];
         for _ in 0..DAMAGED / 2 / streams.len() {
             let at = chance.below(stream.len());
@@ -80,66 +94,75 @@ fn agree(readers: &mut [(&'static str, Reader)], streams: &[Vec<u8>]) -> usize {
             inputs.push(changed);
         }
         for input in inputs {
-            let first = readers[0].1(&input);
-            for (name, reader) in readers[1..].iter_mut() {
-                let other = reader(&input);
-                assert!(first == other, "plain: {}, {name}: {}", line(first), line(other));
-            }
+            let lines: Vec<String> = rivals.iter_mut().map(|(_, rival)| line(&mut **rival, &input)).collect();
+            assert!(lines.iter().all(|line| *line == lines[0]), "the rivals differ: {lines:?}");
             count += 1;
         }
     }
     count
 }
 
-/// Nanoseconds per byte over one round.
-fn round(reader: &mut Reader, streams: &[Vec<u8>]) -> f64 {
-    let size: usize = streams.iter().map(Vec::len).sum();
-    let start = Instant::now();
-    for _ in 0..PASSES {
-        for stream in streams {
-            black_box(reader(black_box(stream)).is_ok());
-        }
+/// One round: each stream's time, where it is better than before.
+fn round(rival: &mut dyn Rival, streams: &[Vec<u8>], best: &mut [Duration]) {
+    for (stream, best) in streams.iter().zip(best) {
+        let start = Instant::now();
+        let said = rival.call(black_box(stream));
+        black_box((said.is_ok(), rival.output()));
+        *best = start.elapsed().min(*best);
     }
-    start.elapsed().as_nanos() as f64 / (PASSES * size) as f64
 }
 
-fn main() {
-    let arguments: Vec<String> = std::env::args().skip(1).collect();
-    let mut readers = readers();
-    if arguments.first().map(String::as_str) == Some("--batch") {
-        let wanted = arguments.get(1).map_or("plain", String::as_str);
-        let found = readers.iter_mut().find(|(name, _)| *name == wanted);
-        let Some((_, reader)) = found else {
-            eprintln!("bench: no reader {wanted}; the feature `proved` may be off");
-            std::process::exit(2);
-        };
-        if let Err(error) = batch(reader) {
-            eprintln!("bench: {error}");
-            std::process::exit(2);
-        }
-        return;
-    }
-    let rounds = arguments.first().map_or(200, |text| text.parse().expect("a count of rounds"));
+fn measure(rivals: &mut Rivals, rounds: usize) {
     for size in SIZES {
-        let streams: Vec<Vec<u8>> = (1..=ALL / size).map(|seed| template::stream(size, seed as u64)).collect();
-        let inputs = agree(&mut readers, &streams);
-        let records: u32 = streams.iter().map(|stream| plain::read(stream).unwrap()).sum();
-        let mut best = vec![f64::INFINITY; readers.len()];
+        let streams = streams(size);
+        let inputs = agree(rivals, &streams);
+        let records: u32 = streams.iter().map(|stream| reading::read(stream).unwrap()).sum();
+        let mut best = vec![vec![Duration::MAX; streams.len()]; rivals.len()];
         for _ in 0..rounds {
-            for ((_, reader), best) in readers.iter_mut().zip(&mut best) {
-                *best = best.min(round(reader, &streams));
+            for ((_, rival), best) in rivals.iter_mut().zip(&mut best) {
+                round(&mut **rival, &streams, best);
             }
         }
         print!("{size:6} bytes, {:4} records", records as usize / streams.len());
-        if readers.len() > 1 {
+        if rivals.len() > 1 {
             print!(", {inputs} inputs agree");
         }
-        for ((name, _), best) in readers.iter().zip(&best) {
-            print!(", {name} {best:.3} ns/byte");
+        let bytes = size * streams.len();
+        let times: Vec<f64> =
+            best.iter().map(|best| best.iter().sum::<Duration>().as_nanos() as f64 / bytes as f64).collect();
+        for ((name, _), time) in rivals.iter().zip(&times) {
+            print!(", {name} {time:.2} ns/byte");
         }
-        match best[..] {
+        match times[..] {
             [plain, proved] => println!(", ratio {:.2}", proved / plain),
             _ => println!(),
         }
     }
+}
+
+fn usage() -> ! {
+    eprintln!("usage: bench reading|assembling [ROUNDS | --batch plain|proved], or bench --streams SIZE");
+    eprintln!("`proved` needs the feature of that name");
+    std::process::exit(2);
+}
+
+fn main() -> std::io::Result<()> {
+    let arguments: Vec<String> = std::env::args().skip(1).collect();
+    let words: Vec<&str> = arguments.iter().map(String::as_str).collect();
+    let (job, options) = words.split_first().unwrap_or_else(|| usage());
+    if let ("--streams", [size]) = (*job, options) {
+        return print_streams(size.parse().unwrap_or_else(|_| usage()));
+    }
+    let mut rivals = rivals(job);
+    match options {
+        _ if rivals.is_empty() => usage(),
+        ["--batch", wanted] => match rivals.iter_mut().find(|(name, _)| name == wanted) {
+            Some((_, rival)) => return batch(&mut **rival),
+            None => usage(),
+        },
+        [] => measure(&mut rivals, ROUNDS),
+        [rounds] => measure(&mut rivals, rounds.parse().unwrap_or_else(|_| usage())),
+        _ => usage(),
+    }
+    Ok(())
 }

@@ -1,446 +1,521 @@
-//! A plain reader of document 01's record stream: refusals 1 to 9, every
-//! ceiling, one loop over a slice with a position. What one would write in Rust
-//! without proofs; the measure for the proved one.
+//! A plain assembler: document 01's job as one would do it in Rust without
+//! proofs. The stream becomes a tree (tree.rs), hash maps hold names and
+//! signatures, and each field is resolved and put into its section, a vector.
+use crate::reader::*;
+use crate::tree::*;
+use std::collections::HashMap;
 
-/// The count of records, or a refusal's number and record.
-pub type Answer = Result<u32, (u32, u32)>;
+const TYPES: usize = 256;
+const SECTIONS: usize = 11;
 
-/// A step that may end in a refusal's number; the record is the reader's.
-type Step<T> = Result<T, u32>;
+/// The module, or a refusal.
+pub type Answer = Result<Vec<u8>, Refusal>;
 
-const STREAM: usize = 65_536;
-const RECORDS: u32 = 4_096;
-const ITEMS: u32 = 256;
-const PARAMETERS: u32 = 64;
-const RESULTS: u32 = 16;
-const LOCALS: u32 = 64;
-const OPEN_BLOCKS: u32 = 128;
-const INDICES: u32 = 1_024;
-const EXPORTS: u32 = 8;
-const IDENTIFIER: u32 = 64;
-const STRING: u32 = 255;
-const ALIGNMENT: u8 = 32;
-
-const FUNC: usize = 0;
-const TABLE: usize = 1;
-const MEMORY: usize = 2;
-const GLOBAL: usize = 3;
-const TYPE: usize = 4;
-const ELEM: usize = 5;
-const DATA: usize = 6;
-
-const IDCHAR: [bool; 256] = {
-    let mut table = [false; 256];
-    let mut byte = 0x21;
-    while byte < 0x7F {
-        table[byte] = !matches!(byte as u8, b'"' | b'(' | b')' | b',' | b';' | b'[' | b']' | b'{' | b'}');
-        byte += 1;
+/// The answer on a stream, with `room` bytes of output.
+pub fn assemble(stream: &[u8], room: usize) -> Answer {
+    let Tree { fields, records } = read(stream)?;
+    check_import_order(&fields)?;
+    let mut assembler = Assembler::new();
+    assembler.intern(&fields)?;
+    assembler.register(&fields)?;
+    for field in &fields {
+        assembler.put_field(field).map_err(|(number, after)| (number, field.record + after))?;
     }
-    table
-};
-
-struct Reader<'a> {
-    stream: &'a [u8],
-    at: usize,
-    record: u32,
-    open_blocks: u32,
-    items: [u32; 7],
-    started: bool,
+    let module = assembler.module();
+    if module.len() > room {
+        return Err((18, records));
+    }
+    Ok(module)
 }
 
-pub fn read(stream: &[u8]) -> Answer {
-    if stream.len() > STREAM {
-        return Err((1, 0));
-    }
-    let mut reader = Reader { stream, at: 0, record: 0, open_blocks: 0, items: [0; 7], started: false };
-    while reader.at < stream.len() {
-        if let Err(number) = reader.field() {
-            return Err((number, reader.record));
+fn check_import_order(fields: &[Field]) -> Result<(), Refusal> {
+    let mut own = false;
+    for field in fields {
+        match field.kind {
+            FieldKind::Import(..) if own => return Err((11, field.record)),
+            FieldKind::Function(_) | FieldKind::Table(..) | FieldKind::Memory(_) | FieldKind::Global(..) => own = true,
+            _ => {}
         }
     }
-    Ok(reader.record)
+    Ok(())
 }
 
-impl Reader<'_> {
-    #[inline]
-    fn byte(&mut self) -> Step<u8> {
-        let byte = *self.stream.get(self.at).ok_or(2u32)?;
-        self.at += 1;
-        Ok(byte)
+fn put_u64(out: &mut Vec<u8>, mut value: u64) {
+    while value >= 0x80 {
+        out.push(value as u8 | 0x80);
+        value >>= 7;
     }
+    out.push(value as u8);
+}
 
-    /// One of the forms 0 to `last`.
-    fn form(&mut self, last: u8) -> Step<u8> {
-        let byte = self.byte()?;
-        if byte > last {
-            return Err(4);
+fn put_u32(out: &mut Vec<u8>, value: u32) {
+    put_u64(out, value.into());
+}
+
+fn put_signed(out: &mut Vec<u8>, mut value: i64) {
+    while !(-64..64).contains(&value) {
+        out.push(value as u8 | 0x80);
+        value >>= 7;
+    }
+    out.push(value as u8 & 0x7F);
+}
+
+/// Bytes after their length.
+fn put_sized(out: &mut Vec<u8>, bytes: &[u8]) {
+    put_u64(out, bytes.len() as u64);
+    out.extend_from_slice(bytes);
+}
+
+fn put_limits(out: &mut Vec<u8>, limits: &Limits) {
+    out.push(limits.flags);
+    put_u64(out, limits.minimum);
+    if let Some(maximum) = limits.maximum {
+        put_u64(out, maximum);
+    }
+}
+
+/// Equal neighbours in one run.
+fn put_locals(out: &mut Vec<u8>, locals: &[Variable]) {
+    let runs = || locals.chunk_by(|one, next| one.value_type == next.value_type);
+    put_u64(out, runs().count() as u64);
+    for run in runs() {
+        put_u64(out, run.len() as u64);
+        out.push(run[0].value_type);
+    }
+}
+
+#[derive(Default)]
+struct Section {
+    count: u32,
+    bytes: Vec<u8>,
+}
+
+/// A refusal's number, and how many records after its field's it stands.
+type After<T> = Result<T, (u32, u32)>;
+
+struct Assembler<'a> {
+    types: Vec<Signature>,
+    /// Each signature's first number.
+    type_numbers: HashMap<Signature, u32>,
+    names: [HashMap<Name<'a>, u32>; SPACES],
+    sections: [Section; SECTIONS],
+}
+
+impl<'a> Assembler<'a> {
+    fn new() -> Self {
+        Assembler {
+            types: Vec::new(),
+            type_numbers: HashMap::new(),
+            names: Default::default(),
+            sections: Default::default(),
         }
-        Ok(byte)
     }
 
-    #[inline]
-    fn u32(&mut self) -> Step<u32> {
-        let mut value = 0;
-        for shift in [0, 7, 14, 21] {
-            let group = self.byte()?;
-            value |= u32::from(group & 0x7F) << shift;
-            if group < 0x80 {
-                return Ok(value);
+    // ---- types and names, over all fields ----
+
+    /// Declared types are seen first, wherever they stand; then uses.
+    fn intern(&mut self, fields: &[Field]) -> Result<(), Refusal> {
+        for field in fields {
+            if let FieldKind::Type(signature) = &field.kind {
+                self.add_type(signature.clone());
             }
         }
-        let group = self.byte()?;
-        if group > 0x0F {
-            return Err(3);
-        }
-        Ok(value | u32::from(group) << 28)
-    }
-
-    fn u64(&mut self) -> Step<()> {
-        for _ in 0..9 {
-            if self.byte()? < 0x80 {
-                return Ok(());
-            }
-        }
-        if self.byte()? > 0x01 {
-            return Err(3);
-        }
-        Ok(())
-    }
-
-    fn up_to(&mut self, ceiling: u32, refusal: u32) -> Step<u32> {
-        let value = self.u32()?;
-        if value > ceiling {
-            return Err(refusal);
-        }
-        Ok(value)
-    }
-
-    fn raw(&mut self, length: usize) -> Step<()> {
-        if length > self.stream.len() - self.at {
-            return Err(2);
-        }
-        self.at += length;
-        Ok(())
-    }
-
-    /// A wrong byte comes before an early end.
-    #[inline]
-    fn text(&mut self, length: u32, allowed: impl Fn(u8) -> bool, refusal: u32) -> Step<()> {
-        let rest = &self.stream[self.at..];
-        let length = length as usize;
-        let part = &rest[..length.min(rest.len())];
-        if !part.iter().all(|&byte| allowed(byte)) {
-            return Err(refusal);
-        }
-        if part.len() < length {
-            return Err(2);
-        }
-        self.at += length;
-        Ok(())
-    }
-
-    fn identifier(&mut self) -> Step<()> {
-        let length = self.up_to(IDENTIFIER, 5)?;
-        self.text(length, |byte| IDCHAR[byte as usize], 5)
-    }
-
-    fn string(&mut self) -> Step<()> {
-        let length = self.up_to(STRING, 6)?;
-        self.text(length, |byte| (0x20..0x7F).contains(&byte), 6)
-    }
-
-    fn two_strings(&mut self) -> Step<()> {
-        self.string()?;
-        self.string()
-    }
-
-    fn optional_index(&mut self) -> Step<()> {
-        match self.byte()? {
-            0 => Ok(()),
-            1 => self.u32().map(|_| ()),
-            2 => self.name(),
-            _ => Err(4),
-        }
-    }
-
-    fn index(&mut self) -> Step<()> {
-        match self.byte()? {
-            1 => self.u32().map(|_| ()),
-            2 => self.name(),
-            _ => Err(4),
-        }
-    }
-
-    fn name(&mut self) -> Step<()> {
-        let length = self.up_to(IDENTIFIER, 5)?;
-        if length == 0 {
-            return Err(5);
-        }
-        self.text(length, |byte| IDCHAR[byte as usize], 5)
-    }
-
-    fn indices(&mut self, count: u32) -> Step<()> {
-        for _ in 0..count {
-            self.index()?;
-        }
-        Ok(())
-    }
-
-    fn value_type(&mut self) -> Step<()> {
-        match self.byte()? {
-            0x7C..=0x7F | 0x6F | 0x70 => Ok(()),
-            _ => Err(4),
-        }
-    }
-
-    fn reference(&mut self) -> Step<()> {
-        match self.byte()? {
-            0x6F | 0x70 => Ok(()),
-            _ => Err(4),
-        }
-    }
-
-    fn value_types(&mut self, ceiling: u32) -> Step<()> {
-        for _ in 0..self.up_to(ceiling, 7)? {
-            self.value_type()?;
-        }
-        Ok(())
-    }
-
-    fn named_types(&mut self, ceiling: u32) -> Step<()> {
-        for _ in 0..self.up_to(ceiling, 7)? {
-            self.identifier()?;
-            self.value_type()?;
-        }
-        Ok(())
-    }
-
-    fn type_use(&mut self) -> Step<()> {
-        self.optional_index()?;
-        self.named_types(PARAMETERS)?;
-        self.value_types(RESULTS)
-    }
-
-    fn limits(&mut self) -> Step<()> {
-        match self.byte()? {
-            0 => self.u32().map(|_| ()),
-            1 => self.u32().and_then(|_| self.u32()).map(|_| ()),
-            4 => self.u64(),
-            5 => self.u64().and_then(|_| self.u64()),
-            _ => Err(4),
-        }
-    }
-
-    fn table_type(&mut self) -> Step<()> {
-        self.reference()?;
-        self.limits()
-    }
-
-    fn global_type(&mut self) -> Step<()> {
-        self.value_type()?;
-        self.form(1).map(|_| ())
-    }
-
-    fn constant(&mut self) -> Step<()> {
-        match self.byte()? {
-            0 => self.u32().map(|_| ()),
-            1 => self.u64(),
-            2 => self.raw(4),
-            3 => self.raw(8),
-            4 | 6 => self.index(),
-            5 => self.reference(),
-            _ => Err(4),
-        }
-    }
-
-    fn item(&mut self, space: usize) -> Step<()> {
-        if self.items[space] == ITEMS {
-            return Err(7);
-        }
-        self.items[space] += 1;
-        Ok(())
-    }
-
-    fn field(&mut self) -> Step<()> {
-        let first = self.byte()?;
-        if !(0x01..=0x0A).contains(&first) {
-            return Err(4);
-        }
-        if self.record == RECORDS {
-            return Err(7);
-        }
-        match first {
-            0x01 => {
-                self.item(TYPE)?;
-                self.identifier()?;
-                self.value_types(PARAMETERS)?;
-                self.value_types(RESULTS)?;
-            }
-            0x02 => {
-                self.two_strings()?;
-                let kind = self.form(3)?;
-                self.item(kind as usize)?;
-                self.identifier()?;
-                match kind {
-                    0 => self.type_use()?,
-                    1 => self.table_type()?,
-                    2 => self.limits()?,
-                    _ => self.global_type()?,
-                }
-            }
-            0x03 => {
-                let form = self.head(FUNC, 1)?;
-                self.type_use()?;
-                if form == 0 {
-                    self.named_types(LOCALS)?;
-                    self.record += 1;
-                    return self.body();
-                }
-            }
-            0x04 => {
-                if self.head(TABLE, 2)? < 2 {
-                    self.table_type()?;
-                } else {
-                    self.item(ELEM)?;
-                    self.is_64_bit()?;
-                    let count = self.up_to(INDICES, 7)?;
-                    self.indices(count)?;
-                }
-            }
-            0x05 => {
-                if self.head(MEMORY, 2)? < 2 {
-                    self.limits()?;
-                } else {
-                    self.item(DATA)?;
-                    self.is_64_bit()?;
-                    let length = self.u32()?;
-                    self.raw(length as usize)?;
-                }
-            }
-            0x06 => {
-                let form = self.head(GLOBAL, 1)?;
-                self.global_type()?;
-                if form == 0 {
-                    self.constant()?;
-                }
-            }
-            0x07 => {
-                self.string()?;
-                self.form(3)?;
-                self.index()?;
-            }
-            0x08 => {
-                if self.started {
-                    return Err(9);
-                }
-                self.started = true;
-                self.index()?;
-            }
-            0x09 => {
-                self.segment(ELEM)?;
-                let count = self.up_to(INDICES, 7)?;
-                self.indices(count)?;
-            }
-            _ => {
-                self.segment(DATA)?;
-                let length = self.u32()?;
-                self.raw(length as usize)?;
-            }
-        }
-        self.record += 1;
-        Ok(())
-    }
-
-    /// Identifier, exports, form, and the two strings of form 1.
-    fn head(&mut self, space: usize, last: u8) -> Step<u8> {
-        self.item(space)?;
-        self.identifier()?;
-        for _ in 0..self.up_to(EXPORTS, 7)? {
-            self.string()?;
-        }
-        let form = self.form(last)?;
-        if form == 1 {
-            self.two_strings()?;
-        }
-        Ok(form)
-    }
-
-    fn is_64_bit(&mut self) -> Step<()> {
-        match self.byte()? {
-            0 | 4 => Ok(()),
-            _ => Err(4),
-        }
-    }
-
-    fn segment(&mut self, space: usize) -> Step<()> {
-        self.item(space)?;
-        self.identifier()?;
-        if self.form(1)? == 1 {
-            self.optional_index()?;
-            self.constant()?;
-        }
-        Ok(())
-    }
-
-    fn body(&mut self) -> Step<()> {
-        loop {
-            let opcode = self.byte()?;
-            if !matches!(opcode, 0x00..=0x05 | 0x0B..=0x11 | 0x1A | 0x1B | 0x20..=0x24 | 0x28..=0xC4
-                | 0xD0..=0xD2 | 0xFF)
-            {
-                return Err(4);
-            }
-            if self.record == RECORDS {
-                return Err(7);
-            }
-            match opcode {
-                0xFF => {
-                    if self.open_blocks > 0 {
-                        return Err(8);
+        for field in fields {
+            match &field.kind {
+                FieldKind::Import(_, Description::Function(type_use)) => self.see(type_use, field.record)?,
+                FieldKind::Function(function) => {
+                    self.see(&function.type_use, field.record)?;
+                    for (record, instruction) in (field.record + 1..).zip(&function.body) {
+                        match &instruction.operands {
+                            Operands::Block(_, type_use) if !type_use.is_short() => self.see(type_use, record)?,
+                            Operands::CallIndirect(_, type_use) => self.see(type_use, record)?,
+                            _ => {}
+                        }
                     }
-                    self.record += 1;
-                    return Ok(());
                 }
-                0x02..=0x04 => {
-                    if self.open_blocks == OPEN_BLOCKS {
-                        return Err(7);
-                    }
-                    self.open_blocks += 1;
-                    self.identifier()?;
-                    self.type_use()?;
-                }
-                0x05 | 0x0B => {
-                    if self.open_blocks == 0 {
-                        return Err(8);
-                    }
-                    if opcode == 0x0B {
-                        self.open_blocks -= 1;
-                    }
-                    self.identifier()?;
-                }
-                0x0C | 0x0D | 0x10 | 0x20..=0x24 | 0xD2 => self.index()?,
-                0x0E => {
-                    let count = self.up_to(INDICES, 7)?;
-                    self.indices(count + 1)?;
-                }
-                0x11 => {
-                    self.optional_index()?;
-                    self.type_use()?;
-                }
-                0x28..=0x3E => {
-                    self.form(ALIGNMENT)?;
-                    self.u32()?;
-                    self.optional_index()?;
-                }
-                0x3F | 0x40 => self.optional_index()?,
-                0x41 => self.u32().map(|_| ())?,
-                0x42 => self.u64()?,
-                0x43 => self.raw(4)?,
-                0x44 => self.raw(8)?,
-                0xD0 => self.reference()?,
                 _ => {}
             }
-            self.record += 1;
         }
+        Ok(())
+    }
+
+    /// The first equal signature wins.
+    fn add_type(&mut self, signature: Signature) {
+        let number = self.types.len() as u32;
+        self.type_numbers.entry(signature.clone()).or_insert(number);
+        self.types.push(signature);
+    }
+
+    /// A use without index adds its type if there is none like it.
+    fn see(&mut self, type_use: &TypeUse, record: u32) -> Result<(), Refusal> {
+        if type_use.index.is_some() {
+            return Ok(());
+        }
+        let signature = type_use.signature();
+        if !self.type_numbers.contains_key(&signature) {
+            if self.types.len() == TYPES {
+                return Err((12, record));
+            }
+            self.add_type(signature);
+        }
+        Ok(())
+    }
+
+    fn register(&mut self, fields: &[Field<'a>]) -> Result<(), Refusal> {
+        let mut counts = [0; SPACES];
+        for field in fields {
+            let space = match &field.kind {
+                FieldKind::Type(_) => TYPE,
+                FieldKind::Import(_, Description::Function(_)) | FieldKind::Function(_) => FUNC,
+                FieldKind::Import(_, Description::Table(..)) | FieldKind::Table(..) => TABLE,
+                FieldKind::Import(_, Description::Memory(_)) | FieldKind::Memory(_) => MEMORY,
+                FieldKind::Import(_, Description::Global(_)) | FieldKind::Global(..) => GLOBAL,
+                FieldKind::Elem(..) => ELEM,
+                FieldKind::Data(..) => DATA,
+                FieldKind::Export(..) | FieldKind::Start(_) => continue,
+            };
+            if let Some(name) = field.name {
+                if self.names[space].insert(name, counts[space]).is_some() {
+                    return Err((13, field.record));
+                }
+            }
+            counts[space] += 1;
+        }
+        Ok(())
+    }
+
+    // ---- indices to numbers ----
+
+    fn number(&self, space: usize, index: Index) -> Step<u32> {
+        match index {
+            Index::Number(number) => Ok(number),
+            Index::Name(name) => self.names[space].get(name).copied().ok_or(14),
+        }
+    }
+
+    /// An absent index means 0.
+    fn number_or_0(&self, space: usize, index: Option<Index>) -> Step<u32> {
+        index.map_or(Ok(0), |index| self.number(space, index))
+    }
+
+    fn type_number(&self, type_use: &TypeUse) -> Step<u32> {
+        let Some(index) = type_use.index else {
+            return Ok(self.type_numbers[&type_use.signature()]);
+        };
+        let number = self.number(TYPE, index)?;
+        if type_use.is_inline() {
+            let signature = self.types.get(number as usize).ok_or(15u32)?;
+            if !type_use.has(signature) {
+                return Err(16);
+            }
+        }
+        Ok(number)
+    }
+
+    /// With an inline type the parameters bring their names; without one the
+    /// named type's parameters take nameless places.
+    fn locals(&self, function: &Function<'a>, number: u32) -> Step<HashMap<Name<'a>, u32>> {
+        let type_use = &function.type_use;
+        let mut locals = HashMap::new();
+        let mut first = type_use.parameters.len() as u32;
+        if !type_use.is_inline() {
+            first = self.types.get(number as usize).map_or(0, |signature| signature.parameters.len() as u32);
+        }
+        for (number, one) in (0..).zip(&type_use.parameters).chain((first..).zip(&function.locals)) {
+            if let Some(name) = one.name {
+                if locals.insert(name, number).is_some() {
+                    return Err(13);
+                }
+            }
+        }
+        Ok(locals)
+    }
+
+    // ---- fields to their sections ----
+
+    /// One more entry of a section.
+    fn entry(&mut self, section: usize) -> &mut Vec<u8> {
+        let section = &mut self.sections[section - 1];
+        section.count += 1;
+        &mut section.bytes
+    }
+
+    fn put_field(&mut self, field: &Field<'a>) -> After<()> {
+        let at_field = |number| (number, 0);
+        match &field.kind {
+            FieldKind::Type(_) => Ok(()),
+            FieldKind::Import(strings, description) => self.put_import(strings, description).map_err(at_field),
+            FieldKind::Function(function) => self.put_function(function),
+            FieldKind::Table(element, limits) => {
+                let out = self.entry(4);
+                out.push(*element);
+                put_limits(out, limits);
+                Ok(())
+            }
+            FieldKind::Memory(limits) => {
+                put_limits(self.entry(5), limits);
+                Ok(())
+            }
+            FieldKind::Global(global_type, constant) => self.put_global(*global_type, *constant).map_err(at_field),
+            FieldKind::Export(name, kind, index) => {
+                let number = self.number((*kind).into(), *index).map_err(at_field)?;
+                let out = self.entry(7);
+                put_sized(out, name);
+                out.push(*kind);
+                put_u32(out, number);
+                Ok(())
+            }
+            FieldKind::Start(index) => {
+                let number = self.number(FUNC, *index).map_err(at_field)?;
+                put_u32(self.entry(8), number);
+                Ok(())
+            }
+            FieldKind::Elem(place, functions) => self.put_elem(place, functions).map_err(at_field),
+            FieldKind::Data(place, data) => self.put_data(place, data).map_err(at_field),
+        }
+    }
+
+    fn put_import(&mut self, (module, name): &(Name, Name), description: &Description) -> Step<()> {
+        let mut entry = Vec::new();
+        put_sized(&mut entry, module);
+        put_sized(&mut entry, name);
+        match description {
+            Description::Function(type_use) => {
+                entry.push(FUNC as u8);
+                put_u32(&mut entry, self.type_number(type_use)?);
+            }
+            Description::Table(element, limits) => {
+                entry.extend_from_slice(&[TABLE as u8, *element]);
+                put_limits(&mut entry, limits);
+            }
+            Description::Memory(limits) => {
+                entry.push(MEMORY as u8);
+                put_limits(&mut entry, limits);
+            }
+            Description::Global([value_type, mutable]) => {
+                entry.extend_from_slice(&[GLOBAL as u8, *value_type, *mutable]);
+            }
+        }
+        self.entry(2).extend_from_slice(&entry);
+        Ok(())
+    }
+
+    /// A constant expression, with its end.
+    fn put_constant(&self, out: &mut Vec<u8>, constant: Constant) -> Step<()> {
+        match constant {
+            Constant::I32(value) => {
+                out.push(0x41);
+                put_signed(out, (value as i32).into());
+            }
+            Constant::I64(value) => {
+                out.push(0x42);
+                put_signed(out, value as i64);
+            }
+            Constant::F32(bytes) => {
+                out.push(0x43);
+                out.extend_from_slice(bytes);
+            }
+            Constant::F64(bytes) => {
+                out.push(0x44);
+                out.extend_from_slice(bytes);
+            }
+            Constant::GlobalGet(index) => {
+                out.push(0x23);
+                put_u32(out, self.number(GLOBAL, index)?);
+            }
+            Constant::RefNull(heap) => out.extend_from_slice(&[0xD0, heap]),
+            Constant::RefFunc(index) => {
+                out.push(0xD2);
+                put_u32(out, self.number(FUNC, index)?);
+            }
+        }
+        out.push(0x0B);
+        Ok(())
+    }
+
+    fn put_global(&mut self, global_type: [u8; 2], constant: Constant) -> Step<()> {
+        let mut entry = global_type.to_vec();
+        self.put_constant(&mut entry, constant)?;
+        self.entry(6).extend_from_slice(&entry);
+        Ok(())
+    }
+
+    /// Form 1 passive, 0 without a table index, 2 with one.
+    fn put_elem(&mut self, place: &Place, functions: &[Index]) -> Step<()> {
+        let mut entry = Vec::new();
+        match place {
+            None => entry.extend_from_slice(&[1, 0]),
+            Some((None, constant)) => {
+                entry.push(0);
+                self.put_constant(&mut entry, *constant)?;
+            }
+            Some((Some(table), constant)) => {
+                entry.push(2);
+                put_u32(&mut entry, self.number(TABLE, *table)?);
+                self.put_constant(&mut entry, *constant)?;
+                entry.push(0);
+            }
+        }
+        put_u64(&mut entry, functions.len() as u64);
+        for function in functions {
+            put_u32(&mut entry, self.number(FUNC, *function)?);
+        }
+        self.entry(9).extend_from_slice(&entry);
+        Ok(())
+    }
+
+    /// Form 1 passive, 0 on memory 0, 2 on another.
+    fn put_data(&mut self, place: &Place, data: &[u8]) -> Step<()> {
+        let mut entry = Vec::new();
+        match place {
+            None => entry.push(1),
+            Some((memory, constant)) => {
+                match self.number_or_0(MEMORY, *memory)? {
+                    0 => entry.push(0),
+                    memory => {
+                        entry.push(2);
+                        put_u32(&mut entry, memory);
+                    }
+                }
+                self.put_constant(&mut entry, *constant)?;
+            }
+        }
+        let out = self.entry(11);
+        out.extend_from_slice(&entry);
+        put_sized(out, data);
+        Ok(())
+    }
+
+    fn put_function(&mut self, function: &Function<'a>) -> After<()> {
+        let at_field = |number| (number, 0);
+        let number = self.type_number(&function.type_use).map_err(at_field)?;
+        let locals = self.locals(function, number).map_err(at_field)?;
+        let mut code = Vec::new();
+        put_locals(&mut code, &function.locals);
+        let mut body = Body { assembler: self, locals, labels: Vec::new() };
+        for (after, instruction) in (1..).zip(&function.body) {
+            body.put(&mut code, instruction).map_err(|number| (number, after))?;
+        }
+        code.push(0x0B);
+        put_u32(self.entry(3), number);
+        put_sized(self.entry(10), &code);
+        Ok(())
+    }
+
+    fn put_types(&mut self) {
+        let section = &mut self.sections[0];
+        section.count = self.types.len() as u32;
+        for signature in &self.types {
+            section.bytes.push(0x60);
+            put_sized(&mut section.bytes, &signature.parameters);
+            put_sized(&mut section.bytes, &signature.results);
+        }
+    }
+
+    /// Sections in order, empty ones left out.
+    fn module(mut self) -> Vec<u8> {
+        self.put_types();
+        let mut out = b"\0asm\x01\0\0\0".to_vec();
+        for (number, section) in (1..).zip(&self.sections) {
+            if section.count == 0 {
+                continue;
+            }
+            let mut count = Vec::new();
+            // The start section has no count.
+            if number != 8 {
+                put_u32(&mut count, section.count);
+            }
+            out.push(number);
+            put_u64(&mut out, (count.len() + section.bytes.len()) as u64);
+            out.extend_from_slice(&count);
+            out.extend_from_slice(&section.bytes);
+        }
+        out
+    }
+}
+
+/// A function's locals, and the labels of its open blocks, the outermost first.
+struct Body<'s, 'a> {
+    assembler: &'s Assembler<'a>,
+    locals: HashMap<Name<'a>, u32>,
+    labels: Vec<Option<Name<'a>>>,
+}
+
+impl<'a> Body<'_, 'a> {
+    fn local(&self, index: Index) -> Step<u32> {
+        match index {
+            Index::Number(number) => Ok(number),
+            Index::Name(name) => self.locals.get(name).copied().ok_or(14),
+        }
+    }
+
+    /// From the innermost block outward, the first that carries the name.
+    fn depth(&self, index: Index) -> Step<u32> {
+        match index {
+            Index::Number(number) => Ok(number),
+            Index::Name(name) => {
+                let depth = self.labels.iter().rev().position(|label| *label == Some(name));
+                depth.map(|depth| depth as u32).ok_or(14)
+            }
+        }
+    }
+
+    fn put(&mut self, out: &mut Vec<u8>, instruction: &Instruction<'a>) -> Step<()> {
+        let Instruction { opcode, operands } = instruction;
+        let assembler = self.assembler;
+        out.push(*opcode);
+        match operands {
+            Operands::None => {}
+            Operands::Block(label, type_use) => {
+                self.labels.push(*label);
+                if type_use.is_short() {
+                    out.push(type_use.results.first().copied().unwrap_or(0x40));
+                } else {
+                    put_signed(out, assembler.type_number(type_use)?.into());
+                }
+            }
+            Operands::Label(label) => {
+                let open = if *opcode == 0x05 { self.labels.last().copied() } else { self.labels.pop() };
+                if label.is_some() && open != Some(*label) {
+                    return Err(17);
+                }
+            }
+            Operands::Index(index) => {
+                let number = match opcode {
+                    0x0C | 0x0D => self.depth(*index)?,
+                    0x20..=0x22 => self.local(*index)?,
+                    0x23 | 0x24 => assembler.number(GLOBAL, *index)?,
+                    _ => assembler.number(FUNC, *index)?,
+                };
+                put_u32(out, number);
+            }
+            Operands::BrTable(labels) => {
+                put_u64(out, labels.len() as u64 - 1);
+                for label in labels {
+                    put_u32(out, self.depth(*label)?);
+                }
+            }
+            Operands::CallIndirect(table, type_use) => {
+                let table = assembler.number_or_0(TABLE, *table)?;
+                put_u32(out, assembler.type_number(type_use)?);
+                put_u32(out, table);
+            }
+            Operands::Access { exponent, offset, memory } => {
+                match assembler.number_or_0(MEMORY, *memory)? {
+                    0 => out.push(*exponent),
+                    memory => {
+                        out.push(exponent + 64);
+                        put_u32(out, memory);
+                    }
+                }
+                put_u32(out, *offset);
+            }
+            Operands::Memory(memory) => put_u32(out, assembler.number_or_0(MEMORY, *memory)?),
+            Operands::I32(value) => put_signed(out, (*value as i32).into()),
+            Operands::I64(value) => put_signed(out, *value as i64),
+            Operands::Float(bytes) => out.extend_from_slice(bytes),
+            Operands::Reference(heap) => out.push(*heap),
+        }
+        Ok(())
     }
 }

@@ -1,6 +1,6 @@
-//! The proved reading pass, through its C boundary. Nothing checks this
+//! The proved reading pass alone, through its C boundary. Nothing checks this
 //! declaration against the Rattle source.
-use crate::plain::Answer;
+use crate::reader::Refusal;
 
 extern "C" {
     fn barrizuppa_read(
@@ -10,10 +10,8 @@ extern "C" {
     ) -> u32;
 }
 
-/// The least work area that document 01 allows, in words.
-pub const WORK: usize = 16_384;
-
-pub fn read(stream: &[u8], work: &mut [u32; WORK]) -> Answer {
+/// The count of records.
+pub fn read(stream: &[u8], work: &mut [u32]) -> Result<u32, Refusal> {
     // Neither 0 nor a record number, so that an unwritten answer is noticed.
     let mut answer = [u32::MAX; 2];
     // SAFETY: each pointer comes with the length of a slice that outlives the

@@ -1,15 +1,12 @@
-//! With the feature `library`: links the static library that `rt staticlib`
-//! made. BARRIZUPPA_LIBRARY is its name if it is not `assembler`, and
-//! BARRIZUPPA_STATICLIB its folder if it is not target/staticlib.
+//! Links the static library that `rt staticlib` made. BARRIZUPPA_LIBRARY is its
+//! name if it is not `assembler`, and BARRIZUPPA_STATICLIB its folder if it is
+//! not target/staticlib.
 use std::env;
 use std::path::PathBuf;
 
 fn main() {
     println!("cargo:rerun-if-env-changed=BARRIZUPPA_LIBRARY");
     println!("cargo:rerun-if-env-changed=BARRIZUPPA_STATICLIB");
-    if env::var_os("CARGO_FEATURE_LIBRARY").is_none() {
-        return;
-    }
     let here = PathBuf::from(env::var_os("CARGO_MANIFEST_DIR").unwrap());
     let folder = env::var_os("BARRIZUPPA_STATICLIB").map_or(here.join("../../target/staticlib"), PathBuf::from);
     let name = env::var("BARRIZUPPA_LIBRARY").unwrap_or("assembler".to_string());

@@ -1,7 +1,8 @@
-// Reads a stream from standard input, and writes its module, or the line "refused N at R".
+// Reads a stream from standard input, and writes its module, or the line "refused N at R". With the argument --names the module has a name
+// section.
 use assembler::Said;
+use libc::STDERR_FILENO;
 use libc::STDIN_FILENO;
-use libc::STDOUT_FILENO;
 ghost use mathlib.Core.Path.{_≡_};
 ghost use lib.ListN.{length};
 
@@ -24,41 +25,59 @@ fn out_buffer() -> [u8; 65536]
     [0; 65536]
 }
 
-fn text(s: &[u8]) {
-    io::write_all(STDOUT_FILENO, s);
-}
-
-fn number(n: u32) {
-    io::print_decimal(STDOUT_FILENO, n as u64);
-}
-
 fn report(r: Said, out: &[u8]) {
     if r.number == 0 {
         let len = r.len;
         if len <= out.len() {
-            text(&out[0..len]);
+            console::text(&out[0..len]);
         }
         return;
     }
-    text(b"refused ");
-    number(r.number as u32);
-    text(b" at ");
-    number(r.rec);
-    text(b"\n");
+    console::refused(r.number, r.rec);
 }
 
-fn run(buf: &mut [u8], work: &mut [u32], out: &mut [u8]) {
+fn assembled(s: &[u8], work: &mut [u32], out: &mut [u8], names: bool) -> Said {
+    if names {
+        return assembler::assemble_names(s, work, out);
+    }
+    assembler::assemble(s, work, out)
+}
+
+fn run(buf: &mut [u8], work: &mut [u32], out: &mut [u8], names: bool) {
     let n = io::read_full(STDIN_FILENO, buf);
     if buf.len() < n {
         return;
     }
-    let r = assembler::assemble(&buf[0..n], work, out);
+    let r = assembled(&buf[0..n], work, out, names);
     report(r, out);
 }
 
-fn main() {
+// Lends what a call needs.
+fn with_buffers(names: bool) {
     let mut buf = stream_buffer();
     let mut work = work_area();
     let mut out = out_buffer();
-    run(&mut buf, &mut work, &mut out);
+    run(&mut buf, &mut work, &mut out, names);
+}
+
+// The only argument is --names. Of one that has no room nothing is read.
+fn asks_names() -> bool {
+    let mut word = [0u8; 7];
+    let n = os::arg(1, &mut word);
+    if os::arg_count() != 2 {
+        return false;
+    }
+    check::same(&word[..n], b"--names")
+}
+
+fn main() {
+    if os::arg_count() < 2 {
+        with_buffers(false);
+        return;
+    }
+    if asks_names() {
+        with_buffers(true);
+        return;
+    }
+    io::write_all(STDERR_FILENO, b"usage: assemble [--names] <STREAM >MODULE\n");
 }

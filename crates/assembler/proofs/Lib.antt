@@ -1,2 +1,4 @@
+pub mod Exported
 pub mod Stages
+pub mod Writers
 pub mod Whole

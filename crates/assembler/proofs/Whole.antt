@@ -1,21 +1,21 @@
 -- The stages before, the join with the records, and the whole call.
-use Prim.Native.Nat.{ℕ, zero, suc, _+_, _≤_, _<_}
+use Prim.Native.Nat.{ℕ, _+_, _≤_}
 use mathlib.Core.Path.{_≡_, refl, sym, _∙_, ap}
 use mathlib.Core.Bool.{Bool, true, false}
-use mathlib.Core.List.{List, [], _∷_, _++_, map}
-use lib.Dec.{leb, ltb}
-use lib.ListN.{length, drop, replicate}
-use borrow.Author.Tests.{lt-ltb, le-ltb}
+use mathlib.Core.List.{List, [], _∷_, _++_}
+use lib.Dec.{ltb}
+use lib.ListN.{length, replicate}
 use native.Mathlib.Omega.{arith}
 use Rattle.definition.specs.Basic.{if_then_else_, Answer, ok, refused, _>>=_, sameBytes}
-use Rattle.definition.specs.Syntax.{Bytes, Identifier, Space, Rec, Item, typeI, FuncType}
+use Rattle.definition.specs.Syntax.{Bytes, Identifier, Rec, Item, FuncType}
 use Rattle.definition.specs.Read.{read}
 use Rattle.definition.specs.Deinline.{Numbered, importOrder, deinline}
-use Rattle.definition.specs.Types as Types
 use Rattle.definition.specs.Types.{Uses, uses, allTypes, declared}
-use Rattle.definition.specs.Names.{Scope, Items, space, register, resolveAll}
+use Rattle.definition.specs.Names.{Scope, space}
 use Rattle.definition.specs.Binary.{module′}
-use Rattle.definition.specs.Assemble.{items, resolved, moduleIn, say, sayRead, assemble, outputAfter, workAfter, outcome, call, refusal}
+use Rattle.definition.specs.Assemble.{scope, itemsIn, items, resolved, fitting, Maker, moduleIn, namedModuleIn}
+use Rattle.definition.specs.Assemble.{refusal, say, sayRead, assembleBy, outputAfter, workAfter, Outcome, outcome, callBy, call, callNames}
+use Rattle.laws.proofs.Passes.{scope-then}
 use Rattle.laws.specs.Steps.{total}
 use Rattle.stream.specs.Pass.{reading, counted, Reads}
 use Rattle.stream.specs.declared.pass.Count.{Count}
@@ -26,22 +26,30 @@ use Rattle.signatures.specs.Table.{typesIn}
 use Rattle.walk.specs.Walk.{begin, fieldsIn, Ahead}
 use Rattle.walk.proofs.Steps.{ahead-kept}
 use Rattle.walk.proofs.Join.{fields-in}
-use Rattle.walk.proofs.Begin.{reads-accepted, reads-short, Accepted}
+use Rattle.walk.proofs.Begin.{reads-accepted, Accepted}
 use Rattle.order.specs.Order.{ordered}
 use Rattle.order.specs.declared.Order as Ordered
 use Rattle.order.specs.declared.Order.the-variants as O
 use Rattle.types.specs.Pass as Pass
-use Rattle.types.specs.Pass.{TypesDone, HasTypes, NoTypes}
+use Rattle.types.specs.Pass.{TypesDone, HasTypes}
 use Rattle.types.specs.declared.pass.Typed.{Typed}
 use Rattle.types.specs.declared.pass.Typed.the-variants as T
-use Rattle.names.specs.Register.{Registers, Stands, tableOf}
+use Rattle.names.specs.Register.{Registers, Stands}
 use Rattle.names.specs.declared.register.Registered.{Registered}
 use Rattle.names.specs.declared.register.Registered.the-variants as R
 use Rattle.scope.specs.Scope.{scopeIn, Recalled}
 use Rattle.scope.proofs.Frames.{types-kept, recalled-kept}
-use Rattle.assembler.specs.Run.{Told, heard, told, Does, Runs, outcomeOf, fitted, fromNames, fromTypes, fromOrder, fromFields}
+use Rattle.sections.specs.Tally.{tallies, noTally}
+use Rattle.sections.specs.declared.tally.Tally.{Tally}
+use Rattle.sections.specs.declared.tally.Verdict.{Verdict}
+use Rattle.sections.specs.declared.tally.Verdict.the-variants as V′
+use Rattle.module.specs.Write.{Writable, allEntries, moduleItems}
+use Rattle.name_section.specs.Section.{namesIn}
+use Rattle.assembler.specs.Run.{Found, fromNames, fromTypes, fromOrder, fromFields, Ready, PassesBy, Passes}
+use Rattle.assembler.specs.Run.{heard, Does, makes, writes, saidBy, ReadyBy, Prepares, Runs, outcomeOf}
 use Rattle.assembler.specs.declared.Said.{Said}
-use Rattle.assembler.proofs.Stages.{refuses}
+use Rattle.assembler.specs.declared.Passed.{Passed}
+use Rattle.assembler.proofs.Stages.{refuses, passes-on}
 
 -- ## Registration
 
@@ -63,22 +71,18 @@ module _ (s w : List ℕ) (q : Registered) (w₁ : List ℕ) (h : Registers s w 
     pub register-recalled : (us : Uses) → Recalled w (typesIn s w) us → Recalled w₁ (typesIn s w₁) us
     register-recalled us a = rw types (recalled-kept w (typesIn s w) w₁ 5897 us (stands e .kept) (omega arith) a)
 
-    scope : _≡_ {A = Scope Identifier} (record { eq = sameBytes; names = λ k. space k (stands e .items); allTypes = typesIn s w }) (scopeIn s w₁)
+    scope-is : _≡_ {A = Scope Identifier} (record { eq = sameBytes; names = λ k. space k (stands e .items); allTypes = typesIn s w }) (scopeIn s w₁)
     unfolding scopeIn
-    scope = λ i. record { eq = sameBytes; names = λ k. stands e .tables .each k i; allTypes = sym types i }
+    scope-is = λ i. record { eq = sameBytes; names = λ k. stands e .tables .each k i; allTypes = sym types i }
 
-    pub register-done : (count d : ℕ) (old : List ℕ) (z : Said) (w₂ new : List ℕ) → d ≡ length (declared (fieldsIn s))
-        → Does count (fromNames (scopeIn s w₁) (fieldsIn s) (drop d (typesIn s w₁)) (length old) count) w₁ old z w₂ new
-        → Does count (fromTypes (fieldsIn s) (typesIn s w) (length old) count) w old z w₂ new
+    pub register-done : (count : ℕ) (p : Passed) (w₂ : List ℕ) → Passes (fromNames (fieldsIn s) (scopeIn s w₁)) count s w₁ p w₂
+        → Passes (fromTypes (fieldsIn s) (typesIn s w)) count s w p w₂
     unfolding fromTypes _>>=_
-    register-done count d old z w₂ new g y =
-        let a = stands e .says in
-        record { says = y .says ∙ sym (rw (a, scope, ← g, ← types) refl); long = y .long ∙ stands e .kept .long }
+    register-done count p w₂ y = let a = stands e .says in passes-on _ _ count s w w₁ p w₂ (rw (a, scope-is) refl) (stands e .kept .long) y
 
-  pub register-not : (count : ℕ) (old : List ℕ) (n r : ℕ) → q ≡ R.Refused n r
-      → Does count (fromTypes (fieldsIn s) (typesIn s w) (length old) count) w old (record { number = n; rec = r; len = 0 }) w₁ old
+  pub register-not : (count : ℕ) (p : Passed) (n r : ℕ) → q ≡ R.Refused n r → p .verdict ≡ V′.Refused n r → Passes (fromTypes (fieldsIn s) (typesIn s w)) count s w p w₁
   unfolding fromTypes _>>=_ Registers
-  register-not count old n r e = (let g = rw e at h in let a = g .0 in refuses count n r _ w old w₁ (rw a refl) (g .1))
+  register-not count p n r e v = (let g = rw e at h in let a = g .0 in refuses _ count s w p w₁ n r (rw a refl) v (g .1))
 
 -- ## Types
 
@@ -106,71 +110,77 @@ module _ (s w : List ℕ) (q : Typed) (w₁ : List ℕ) (h : TypesDone s w q w�
     pub types-declared : n ≡ length (declared (fieldsIn s))
     types-declared = has .declares
 
-    pub types-done : (count : ℕ) (old : List ℕ) (z : Said) (w₂ new : List ℕ) → Does count (fromTypes (fieldsIn s) (typesIn s w₁) (length old) count) w₁ old z w₂ new
-        → Does count (fromOrder (fieldsIn s) (length old) count) w old z w₂ new
+    pub types-done : (count : ℕ) (p : Passed) (w₂ : List ℕ) → Passes (fromTypes (fieldsIn s) (typesIn s w₁)) count s w₁ p w₂
+        → Passes (fromOrder (fieldsIn s)) count s w p w₂
     unfolding fromOrder _>>=_
-    types-done count old z w₂ new y = let a = has .all in record { says = y .says ∙ sym (rw a refl); long = y .long ∙ has .kept .long }
+    types-done count p w₂ y = let a = has .all in passes-on _ _ count s w w₁ p w₂ (rw a refl) (has .kept .long) y
 
-  pub types-not : (count : ℕ) (old : List ℕ) (n r : ℕ) → q ≡ T.Refused n r → Does count (fromOrder (fieldsIn s) (length old) count) w old (record { number = n; rec = r; len = 0 }) w₁ old
+  pub types-not : (count : ℕ) (p : Passed) (n r : ℕ) → q ≡ T.Refused n r → p .verdict ≡ V′.Refused n r → Passes (fromOrder (fieldsIn s)) count s w p w₁
   unfolding fromOrder _>>=_ TypesDone
-  types-not count old n r e = (let g = rw e at h in let a = g .says in refuses count n r _ w old w₁ (rw a refl) (g .long))
+  types-not count p n r e v = (let g = rw e at h in let a = g .says in refuses _ count s w p w₁ n r (rw a refl) v (g .long))
 
 -- ## Import order
 
 module _ (s w : List ℕ) (q : Ordered.Order) (h : importOrder (fieldsIn s) ≡ ordered q) where
-  pub order-done : (count : ℕ) (old : List ℕ) (z : Said) (w₂ new : List ℕ) → q ≡ O.Kept → Does count (fromOrder (fieldsIn s) (length old) count) w old z w₂ new
-      → Does count (fromFields (fieldsIn s) (length old) count) w old z w₂ new
+  pub order-done : (count : ℕ) (p : Passed) (w₂ : List ℕ) → q ≡ O.Kept → Passes (fromOrder (fieldsIn s)) count s w p w₂ → Passes (fromFields (fieldsIn s)) count s w p w₂
   unfolding fromFields _>>=_
-  order-done count old z w₂ new e y = record { says = y .says ∙ sym (rw (h, e) refl); long = y .long }
+  order-done count p w₂ e y = passes-on _ _ count s w w p w₂ (rw (h, e) refl) refl y
 
-  pub order-not : (count : ℕ) (old : List ℕ) (n r : ℕ) → q ≡ O.Refused n r → Does count (fromFields (fieldsIn s) (length old) count) w old (record { number = n; rec = r; len = 0 }) w old
+  pub order-not : (count : ℕ) (p : Passed) (n r : ℕ) → q ≡ O.Refused n r → p .verdict ≡ V′.Refused n r → Passes (fromFields (fieldsIn s)) count s w p w
   unfolding fromFields _>>=_
-  order-not count old n r e = refuses count n r _ w old w (rw (h, e) refl) refl
+  order-not count p n r e v = refuses _ count s w p w n r (rw (h, e) refl) v refl
 
 -- ## The records
 
 -- the stages are the definition's passes
-stages-are : (room : ℕ) (rs : List (Rec Identifier)) → fromFields (deinline rs) room (length rs) ≡ moduleIn sameBytes room rs
-unfolding fromFields fromOrder fromTypes fromNames moduleIn resolved items fitted _>>=_
-stages-are room rs = go (importOrder (deinline rs)) (allTypes (deinline rs)) (register sameBytes [] (deinline rs))
+fields-found : (fs : Numbered Identifier) → fromFields fs ≡ (scope sameBytes fs >>= fromNames fs)
+unfolding fromFields fromOrder fromTypes
+fields-found fs = sym (scope-then sameBytes fs (fromNames fs))
+
+-- what follows them, on what they find and on the items alone
+found-then : (fs : Numbered Identifier) (a : Answer (Scope Identifier)) (k : Found → Answer Bytes) → (a >>= λ Γ. itemsIn Γ fs >>= λ is. k (Γ, is)) ≡ (a >>= fromNames fs >>= k)
+unfolding fromNames _>>=_
+found-then fs (refused n r) k = refl
+found-then fs (ok Γ) k = go (itemsIn Γ fs)
   where
-    Scoped : Items Identifier → List FuncType → Scope Identifier
-    Scoped xs ts = record { eq = sameBytes; names = λ k. space k xs; allTypes = ts }
+    go : (b : Answer (List Item)) → (b >>= λ is. k (Γ, is)) ≡ (_>>=_ {B = Found} b (λ is. ok (Γ, is)) >>= k)
+    go (ok is) = refl
+    go (refused n r) = refl
 
-    last : (a : Answer (List Item)) (added : List FuncType)
-        → (a >>= λ is. (if leb (length (module′ (is ++ map typeI added))) room then ok (module′ (is ++ map typeI added)) else refused 18 (length rs)))
-        ≡ ((a >>= λ is. ok (is ++ map typeI added)) >>= λ is. (if leb (length (module′ is)) room then ok (module′ is) else refused 18 (length rs)))
-    last (ok is) added = refl
-    last (refused n r) added = refl
+items-then : (fs : Numbered Identifier) (a : Answer (Scope Identifier)) (k : List Item → Answer Bytes) → ((a >>= λ Γ. itemsIn Γ fs) >>= k) ≡ (a >>= λ Γ. itemsIn Γ fs >>= k)
+unfolding _>>=_
+items-then fs (ok Γ) k = refl
+items-then fs (refused n r) k = refl
 
-    go : (a : Answer (Unit {0})) (b : Answer (List FuncType)) (c : Answer (Items Identifier))
-        → (a >>= λ _. b >>= λ ts. c >>= λ xs. fromNames (Scoped xs ts) (deinline rs) (drop (length (declared (deinline rs))) ts) room (length rs))
-        ≡ ((a >>= λ _. b >>= λ ts. c >>= λ xs. resolveAll (Scoped xs ts) (deinline rs) >>= λ is. ok (is ++ map typeI (drop (length (declared (deinline rs))) ts)))
-        >>= λ is. (if leb (length (module′ is)) room then ok (module′ is) else refused 18 (length rs)))
-    go (ok u) (ok ts) (ok xs) = last (resolveAll (Scoped xs ts) (deinline rs)) (drop (length (declared (deinline rs))) ts)
-    go (ok u) (ok ts) (refused n r) = refl
-    go (ok u) (refused n r) c = refl
-    go (refused n r) b c = refl
+-- a call is its writer after the passes
+made : (names : Bool) (room : ℕ) (rs : List (Rec Identifier)) → makes names room rs ≡ (fromFields (deinline rs) >>= λ x. fitting room (length rs) (writes names (deinline rs) x))
+unfolding moduleIn resolved items namedModuleIn
+made false room rs =
+    rw (fields-found (deinline rs))
+    (items-then (deinline rs) (scope sameBytes (deinline rs)) (λ is. fitting room (length rs) (module′ is))
+    ∙ found-then (deinline rs) (scope sameBytes (deinline rs)) (λ x. fitting room (length rs) (writes false (deinline rs) x)))
+made true room rs =
+    rw (fields-found (deinline rs)) (found-then (deinline rs) (scope sameBytes (deinline rs)) (λ x. fitting room (length rs) (writes true (deinline rs) x)))
 
 -- what reading refuses the call refuses
-read-not : (s : Bytes) (work room n q : ℕ) → reading s work ≡ refused n q → assemble s work room ≡ refusal n q
-unfolding reading assemble sayRead
-read-not s work room n q e = go (ltb 65536 (length s)) (ltb work 16384) (read s) e
+read-not : (make : Maker) (s : Bytes) (work room n q : ℕ) → reading s work ≡ refused n q → assembleBy make s work room ≡ refusal n q
+unfolding reading assembleBy sayRead
+read-not make s work room n q e = go (ltb 65536 (length s)) (ltb work 16384) (read s) e
   where
     go : (a b : Bool) (c : Answer (List (Rec Identifier))) → (if a then refused 1 0 else if b then refused 10 0 else total 0 c) ≡ refused n q
-        → (if a then refusal 1 0 else if b then refusal 10 0 else sayRead room c) ≡ refusal n q
+        → (if a then refusal 1 0 else if b then refusal 10 0 else sayRead make room c) ≡ refusal n q
     go true b c e = let x : 1 ≡ n = cc in let y : 0 ≡ q = cc in rw (x, y) refl
     go false true c e = let x : 10 ≡ n = cc in let y : 0 ≡ q = cc in rw (x, y) refl
     go false false (ok rs) e = let z : _≡_ {A = ℕ} 0 1 = cc in absurd (omega arith)
     go false false (refused m p) e = let x : m ≡ n = cc in let y : p ≡ q = cc in rw (x, y) refl
 
 -- what it accepts is assembled
-read-ok : (s : Bytes) (work room n : ℕ) (rs : List (Rec Identifier)) → read s ≡ ok rs → reading s work ≡ ok n → assemble s work room ≡ say n (moduleIn sameBytes room rs)
-unfolding reading assemble sayRead
-read-ok s work room n rs d e = go (ltb 65536 (length s)) (ltb work 16384) e
+read-ok : (make : Maker) (s : Bytes) (work room n : ℕ) (rs : List (Rec Identifier)) → read s ≡ ok rs → reading s work ≡ ok n → assembleBy make s work room ≡ say n (make room rs)
+unfolding reading assembleBy sayRead
+read-ok make s work room n rs d e = go (ltb 65536 (length s)) (ltb work 16384) e
   where
     go : (a b : Bool) → (if a then refused 1 0 else if b then refused 10 0 else total 0 (read s)) ≡ ok n
-        → (if a then refusal 1 0 else if b then refusal 10 0 else sayRead room (read s)) ≡ say n (moduleIn sameBytes room rs)
+        → (if a then refusal 1 0 else if b then refusal 10 0 else sayRead make room (read s)) ≡ say n (make room rs)
     go true b e = let z : _≡_ {A = ℕ} 0 1 = cc in absurd (omega arith)
     go false true e = let z : _≡_ {A = ℕ} 0 1 = cc in absurd (omega arith)
     go false false e =
@@ -189,13 +199,13 @@ count-of s work n rs d e = go (ltb 65536 (length s)) (ltb work 16384) e
     go false true e = let z : _≡_ {A = ℕ} 0 1 = cc in absurd (omega arith)
     go false false e = let f : ok (0 + length rs) ≡ ok n = (let g = e in rw d at g) in let x : 0 + length rs ≡ n = cc in omega arith
 
-module _ (s w : List ℕ) (q : Count) (w₁ : List ℕ) (h : Reads s w q w₁) (l : length w₁ ≡ length w) (old : List ℕ) where
-  pub run-not : (n r : ℕ) → q ≡ C.Refused n r → Runs s w old (record { number = n; rec = r; len = 0 }) w₁ old
-  unfolding heard outputAfter
-  run-not n r e = record { says = rw (read-not s (length w) (length old) n r (h .says ∙ ap counted e)) refl; long = l }
+module _ (s w : List ℕ) (q : Count) (w₁ : List ℕ) (h : Reads s w q w₁) (l : length w₁ ≡ length w) (p : Passed) where
+  pub prepare-not : (n r : ℕ) → q ≡ C.Refused n r → p .verdict ≡ V′.Refused n r → Prepares s w p w₁
+  prepare-not n r e v = record { says = λ names room. rw v (read-not (makes names) s (length w) room n r (h .says ∙ ap counted e)); ready = rw v tt; long = l }
 
-  pub run-done : (n : ℕ) (z : Said) (w₂ new : List ℕ) → q ≡ C.Records n → Does n (fromFields (fieldsIn s) (length old) n) w₁ old z w₂ new → Runs s w old z w₂ new
-  run-done n z w₂ new e y = record { says = y .says ∙ ap (heard old) (sym whole); long = y .long ∙ l }
+  pub prepare-done : (n : ℕ) (w₂ : List ℕ) → q ≡ C.Records n → Passes (fromFields (fieldsIn s)) n s w₁ p w₂ → Prepares s w p w₂
+  unfolding _>>=_ say
+  prepare-done n w₂ e y = record { says = λ names room. whole names room ∙ ends names room (p .verdict) (y .says); ready = ready (p .verdict) (y .says); long = y .long ∙ l }
     where
       a : Accepted s
       a = reads-accepted s w w₁ q h n e
@@ -206,15 +216,73 @@ module _ (s w : List ℕ) (q : Count) (w₁ : List ℕ) (h : Reads s w q w₁) (
       number : length (a .recs) ≡ n
       number = count-of s (length w) n (a .recs) (a .is) told-n
 
-      whole : assemble s (length w) (length old) ≡ say n (fromFields (fieldsIn s) (length old) n)
-      whole =
-          read-ok s (length w) (length old) n (a .recs) (a .is) told-n
-          ∙ ap (say n) (sym (stages-are (length old) (a .recs)) ∙ rw (fields-in s (a .recs) (a .is), number) refl)
+      whole : (names : Bool) (room : ℕ)
+          → assembleBy (makes names) s (length w) room ≡ say n (fromFields (fieldsIn s) >>= λ x. fitting room n (writes names (fieldsIn s) x))
+      whole names room =
+          let m : makes names room (a .recs) ≡ (fromFields (fieldsIn s) >>= λ x. fitting room n (writes names (fieldsIn s) x)) =
+          made names room (a .recs) ∙ rw (fields-in s (a .recs) (a .is), number) refl in
+          read-ok (makes names) s (length w) room n (a .recs) (a .is) told-n ∙ ap (say n) m
 
--- ## The whole call
+      ends : (names : Bool) (room : ℕ) (v : Verdict) → PassesBy v (fromFields (fieldsIn s)) n s p w₂
+          → say n (fromFields (fieldsIn s) >>= λ x. fitting room n (writes names (fieldsIn s) x))
+          ≡ saidBy v (p .count) room (writes names (fieldsIn s) (scopeIn s w₂, moduleItems (p .declared) s w₂))
+      ends names room V′.Fine z = let f = z .found in let c = z .records in rw (f, c) refl
+      ends names room (V′.Refused m r) z = rw z refl
 
-pub call-is : (s w old : List ℕ) (r : Said) (w′ w″ new : List ℕ) → Runs s w old r w′ new → w″ ≡ replicate (length w′) 0 → outcomeOf r new w″ ≡ call s w old
-unfolding call outcome workAfter heard
-call-is s w old r w′ w″ new h e =
+      ready : (v : Verdict) → PassesBy v (fromFields (fieldsIn s)) n s p w₂ → ReadyBy v s p w₂
+      ready V′.Fine z = z .ready
+      ready (V′.Refused m r) z = tt
+
+-- ## The calls
+
+module _ (s w : List ℕ) (p : Passed) (w₁ : List ℕ) (h : Prepares s w p w₁) (v : Verdict) (g : v ≡ p .verdict) where
+  is-ready : v ≡ V′.Fine → Ready s p w₁
+  is-ready e = go (p .verdict) (sym g ∙ e) (h .ready)
+    where
+      go : (u : Verdict) → u ≡ V′.Fine → ReadyBy u s p w₁ → Ready s p w₁
+      go u f z = rw f at z
+
+  pub run-writable : v ≡ V′.Fine → Writable s w₁
+  run-writable e = is-ready e .writable
+
+  pub run-tally : (t : Tally) → t ≡ p .tally → v ≡ V′.Fine → t ≡ tallies noTally (allEntries (p .declared) s w₁)
+  run-tally t i e = i ∙ is-ready e .tally
+
+  -- the writer does the rest
+  writer-done : (names : Bool) (old : List ℕ) (z : Said) (w₂ new : List ℕ) → v ≡ V′.Fine
+      → Does (p .count) (writes names (fieldsIn s) (scopeIn s w₁, moduleItems (p .declared) s w₁)) w₁ old z w₂ new → Runs (makes names) s w old z w₂ new
+  writer-done names old z w₂ new e y =
+      let f : p .verdict ≡ V′.Fine = sym g ∙ e in
+      let x = h .says names (length old) in
+      record { says = y .says ∙ ap (heard old) (sym (rw f at x)); long = y .long ∙ h .long }
+
+  pub run-names : (names : Bool) (old : List ℕ) (z : Said) (w₂ new : List ℕ) → v ≡ V′.Fine → names ≡ true
+      → Does (p .count) (module′ (moduleItems (p .declared) s w₁) ++ namesIn s w₁) w₁ old z w₂ new → Runs (makes names) s w old z w₂ new
+  unfolding namesIn
+  run-names names old z w₂ new e b y = rw b (writer-done true old z w₂ new e y)
+
+  pub run-module : (names : Bool) (old : List ℕ) (z : Said) (w₂ new : List ℕ) → v ≡ V′.Fine → names ≡ false
+      → Does (p .count) (module′ (moduleItems (p .declared) s w₁)) w₁ old z w₂ new → Runs (makes names) s w old z w₂ new
+  run-module names old z w₂ new e b y = rw b (writer-done false old z w₂ new e y)
+
+  -- a pass has refused
+  pub run-not : (names : Bool) (old : List ℕ) (n r : ℕ) → v ≡ V′.Refused n r → Runs (makes names) s w old (record { number = n; rec = r; len = 0 }) w₁ old
+  unfolding heard outputAfter
+  run-not names old n r e =
+      let f : p .verdict ≡ V′.Refused n r = sym g ∙ e in
+      let x = h .says names (length old) in
+      record { says = ap (heard old) (sym (rw f at x)); long = h .long }
+
+pub call-is : (make : Maker) (s w old : List ℕ) (r : Said) (w′ w″ new : List ℕ) → Runs make s w old r w′ new → w″ ≡ replicate (length w′) 0 → outcomeOf r new w″ ≡ callBy make s w old
+unfolding callBy outcome workAfter heard
+call-is make s w old r w′ w″ new h e =
     let z : w″ ≡ replicate (length w) 0 = e ∙ ap (λ n. replicate n 0) (h .long) in
     λ i. record { number = h .says i .number; rec = h .says i .rec; written = h .says i .written; output = h .says i .output; work = z i }
+
+pub plain-call : (s w old : List ℕ) (o : Outcome) → o ≡ callBy (makes false) s w old → o ≡ call s w old
+unfolding call
+plain-call s w old o e = e
+
+pub names-call : (s w old : List ℕ) (o : Outcome) → o ≡ callBy (makes true) s w old → o ≡ callNames s w old
+unfolding callNames
+names-call s w old o e = e

@@ -1,4 +1,6 @@
-// The assembler: the passes in document 01's order.
+// The assembler: the passes in document 01's order, and after them the writers.
+pub mod export;
+
 use module::module_len;
 use names::Registered;
 use order::Order;
@@ -7,22 +9,127 @@ use sections::Verdict;
 use stream::Count;
 use types::Typed;
 ghost use mathlib.Core.Path.{_≡_};
+ghost use mathlib.Core.List.{_++_};
 ghost use Prim.Native.Nat.{_≤_};
-ghost use lib.ListN.{length, drop};
+ghost use lib.ListN.{length};
 ghost use Rattle.definition.specs.Types as Types;
+ghost use Rattle.definition.specs.Binary as Binary;
 ghost use Rattle.definition.specs.Assemble as Assemble;
 ghost use Rattle.signatures.specs.Table.{typesIn};
 ghost use Rattle.walk.specs.Walk.{Ahead, begin, fieldsIn};
 ghost use Rattle.scope.specs.Scope.{scopeIn, Recalled};
 ghost use Rattle.sections.specs.Tally.{tallies, noTally};
 ghost use Rattle.module.specs.Write.{Writable, allEntries, moduleItems};
-ghost use Rattle.assembler.specs.Run.{Does, Runs, outcomeOf, fitted, fromNames, fromTypes, fromOrder, fromFields};
+ghost use Rattle.name_section.specs.Section.{namesIn};
+ghost use Rattle.assembler.specs.Run.{Passes, Prepares, noRoom, Does, Runs, fromNames, fromTypes, fromOrder, fromFields, makes, outcomeOf};
 
 // A number, a record, and how many bytes were written.
 pub struct Said {
     pub number: u8,
     pub rec: u32,
     pub len: usize,
+}
+
+// What the passes leave for a writer: how many records and declared types there are and how large the sections are; or their refusal.
+pub struct Passed {
+    pub count: u32,
+    pub declared: u32,
+    pub tally: Tally,
+    pub verdict: Verdict,
+}
+
+// ## The passes
+
+fn refuse(n: u8, q: u32) -> Passed
+    ensures { λ r. ⌜ r .verdict ≡ Verdict.Refused n q ⌝ }
+{
+    let tally = Tally {
+        sizes: [0; 12],
+        counts: [0; 12],
+    };
+    Passed {
+        count: 0,
+        declared: 0,
+        tally,
+        verdict: Verdict::Refused(n, q),
+    }
+}
+
+// The fields, resolved in order.
+fn resolve(s: &[u8], work: &mut [u32], count: u32, declared: u32) -> Passed
+    requires { ⌜ (length (now s) ≤ 65536) × (16384 ≤ length (now work)) × Ahead (now s) (now work) begin × Recalled (now work) (typesIn (now s) (now work)) (Types.uses (fieldsIn (now s))) × (declared ≡ length (Types.declared (fieldsIn (now s)))) ⌝ }
+    ensures { λ r. ⌜ Passes (fromNames (fieldsIn (now (s .entry))) (scopeIn (now (s .entry)) (now (work .entry)))) count (now (s .entry)) (now (work .entry)) r (now (work .exit)) ⌝ }
+{
+    let r = sections::check_fields(s, work);
+    let tally = r.tally;
+    let v = r.verdict;
+    match v {
+        Verdict::Fine => {
+            let tally = module::tally_types(s, work, declared, tally);
+            Passed {
+                count,
+                declared,
+                tally,
+                verdict: Verdict::Fine,
+            }
+        }
+        Verdict::Refused(n, q) => refuse(n, q),
+    }
+}
+
+// Every item in its table; then the fields.
+fn register(s: &[u8], work: &mut [u32], count: u32, declared: u32) -> Passed
+    requires { ⌜ (length (now s) ≤ 65536) × (16384 ≤ length (now work)) × Ahead (now s) (now work) begin × Recalled (now work) (typesIn (now s) (now work)) (Types.uses (fieldsIn (now s))) × (declared ≡ length (Types.declared (fieldsIn (now s)))) ⌝ }
+    ensures { λ r. ⌜ Passes (fromTypes (fieldsIn (now (s .entry))) (typesIn (now (s .entry)) (now (work .entry)))) count (now (s .entry)) (now (work .entry)) r (now (work .exit)) ⌝ }
+{
+    match names::register_all(s, work) {
+        Registered::Done => resolve(s, work, count, declared),
+        Registered::Refused(n, q) => refuse(n, q),
+    }
+}
+
+// The types; then the names.
+fn intern(s: &[u8], work: &mut [u32], count: u32) -> Passed
+    requires { ⌜ (length (now s) ≤ 65536) × (16384 ≤ length (now work)) × Ahead (now s) (now work) begin ⌝ }
+    ensures { λ r. ⌜ Passes (fromOrder (fieldsIn (now (s .entry)))) count (now (s .entry)) (now (work .entry)) r (now (work .exit)) ⌝ }
+{
+    match types::all_types(s, work) {
+        Typed::Types(declared) => register(s, work, count, declared),
+        Typed::Refused(n, q) => refuse(n, q),
+    }
+}
+
+// Imports first; then the types.
+fn in_order(s: &[u8], work: &mut [u32], count: u32) -> Passed
+    requires { ⌜ (length (now s) ≤ 65536) × (16384 ≤ length (now work)) × Ahead (now s) (now work) begin ⌝ }
+    ensures { λ r. ⌜ Passes (fromFields (fieldsIn (now (s .entry)))) count (now (s .entry)) (now (work .entry)) r (now (work .exit)) ⌝ }
+{
+    match order::import_order(s, work) {
+        Order::Kept => intern(s, work, count),
+        Order::Refused(n, q) => refuse(n, q),
+    }
+}
+
+// The records; then the passes over their fields.
+fn prepare(s: &[u8], work: &mut [u32]) -> Passed
+    ensures { λ r. ⌜ Prepares (now (s .entry)) (now (work .entry)) r (now (work .exit)) ⌝ }
+{
+    match stream::read_all(s, work) {
+        Count::Records(count) => in_order(s, work, count),
+        Count::Refused(n, q) => refuse(n, q),
+    }
+}
+
+// ## The writers
+
+fn no_room(count: u32) -> Said
+    ensures { λ r. ⌜ r ≡ noRoom count ⌝ }
+{
+    Said {
+        number: 18,
+        rec: count,
+        len: 0,
+    }
 }
 
 // The module, where it has room.
@@ -35,14 +142,10 @@ fn write_module(
     t: Tally,
 ) -> Said
     requires { ⌜ Writable (now s) (now work) × (t ≡ tallies noTally (allEntries declared (now s) (now work))) ⌝ }
-    ensures { λ r. ⌜ Does count (fitted (length (now (out .entry))) count (moduleItems declared (now (s .entry)) (now (work .entry)))) (now (work .entry)) (now (out .entry)) r (now (work .exit)) (now (out .exit)) ⌝ }
+    ensures { λ r. ⌜ Does count (Binary.module′ (moduleItems declared (now (s .entry)) (now (work .entry)))) (now (work .entry)) (now (out .entry)) r (now (work .exit)) (now (out .exit)) ⌝ }
 {
     if out.len() < module_len(t) {
-        return Said {
-            number: 18,
-            rec: count,
-            len: 0,
-        };
+        return no_room(count);
     }
     let len = module::put_module(t, declared, s, work, out);
     Said {
@@ -52,18 +155,46 @@ fn write_module(
     }
 }
 
-// The fields, resolved in order; then the module.
-fn resolve(s: &[u8], work: &mut [u32], out: &mut [u8], count: u32, declared: u32) -> Said
-    requires { ⌜ (length (now s) ≤ 65536) × (16384 ≤ length (now work)) × Ahead (now s) (now work) begin × Recalled (now work) (typesIn (now s) (now work)) (Types.uses (fieldsIn (now s))) ⌝ }
-    ensures { λ r. ⌜ Does count (fromNames (scopeIn (now (s .entry)) (now (work .entry))) (fieldsIn (now (s .entry))) (drop declared (typesIn (now (s .entry)) (now (work .entry)))) (length (now (out .entry))) count) (now (work .entry)) (now (out .entry)) r (now (work .exit)) (now (out .exit)) ⌝ }
+// The module and its name section, where both have room.
+fn write_names(
+    s: &[u8],
+    work: &mut [u32],
+    out: &mut [u8],
+    count: u32,
+    declared: u32,
+    t: Tally,
+) -> Said
+    requires { ⌜ Writable (now s) (now work) × (t ≡ tallies noTally (allEntries declared (now s) (now work))) ⌝ }
+    ensures { λ r. ⌜ Does count (Binary.module′ (moduleItems declared (now (s .entry)) (now (work .entry))) ++ namesIn (now (s .entry)) (now (work .entry))) (now (work .entry)) (now (out .entry)) r (now (work .exit)) (now (out .exit)) ⌝ }
 {
-    let r = sections::check_fields(s, work);
-    let tally = r.tally;
-    let v = r.verdict;
+    let n = name_section::measure(s, work);
+    if out.len() < emit::tally(module_len(t), name_section::section_len(n)) {
+        return no_room(count);
+    }
+    let at = module::put_module(t, declared, s, work, out);
+    let len = name_section::put_name_section(n, s, work, out, at);
+    Said {
+        number: 0,
+        rec: count,
+        len,
+    }
+}
+
+// ## The calls
+
+// The passes, and then the writer that is asked for.
+fn run(s: &[u8], work: &mut [u32], out: &mut [u8], names: bool) -> Said
+    ensures { λ r. ⌜ Runs (makes names) (now (s .entry)) (now (work .entry)) (now (out .entry)) r (now (work .exit)) (now (out .exit)) ⌝ }
+{
+    let p = prepare(s, work);
+    let t = p.tally;
+    let v = p.verdict;
     match v {
         Verdict::Fine => {
-            let t = module::tally_types(s, work, declared, tally);
-            write_module(s, work, out, count, declared, t)
+            if names {
+                return write_names(s, work, out, p.count, p.declared, t);
+            }
+            write_module(s, work, out, p.count, p.declared, t)
         }
         Verdict::Refused(n, q) => Said {
             number: n,
@@ -73,63 +204,13 @@ fn resolve(s: &[u8], work: &mut [u32], out: &mut [u8], count: u32, declared: u32
     }
 }
 
-// Every item in its table; then the fields.
-fn register(s: &[u8], work: &mut [u32], out: &mut [u8], count: u32, declared: u32) -> Said
-    requires { ⌜ (length (now s) ≤ 65536) × (16384 ≤ length (now work)) × Ahead (now s) (now work) begin × Recalled (now work) (typesIn (now s) (now work)) (Types.uses (fieldsIn (now s))) × (declared ≡ length (Types.declared (fieldsIn (now s)))) ⌝ }
-    ensures { λ r. ⌜ Does count (fromTypes (fieldsIn (now (s .entry))) (typesIn (now (s .entry)) (now (work .entry))) (length (now (out .entry))) count) (now (work .entry)) (now (out .entry)) r (now (work .exit)) (now (out .exit)) ⌝ }
+// The same with the work area cleared.
+fn call(s: &[u8], work: &mut [u32], out: &mut [u8], names: bool) -> Said
+    ensures { λ r. ⌜ outcomeOf r (now (out .exit)) (now (work .exit)) ≡ Assemble.callBy (makes names) (now (s .entry)) (now (work .entry)) (now (out .entry)) ⌝ }
 {
-    match names::register_all(s, work) {
-        Registered::Done => resolve(s, work, out, count, declared),
-        Registered::Refused(n, q) => Said {
-            number: n,
-            rec: q,
-            len: 0,
-        },
-    }
-}
-
-// The types; then the names.
-fn intern(s: &[u8], work: &mut [u32], out: &mut [u8], count: u32) -> Said
-    requires { ⌜ (length (now s) ≤ 65536) × (16384 ≤ length (now work)) × Ahead (now s) (now work) begin ⌝ }
-    ensures { λ r. ⌜ Does count (fromOrder (fieldsIn (now (s .entry))) (length (now (out .entry))) count) (now (work .entry)) (now (out .entry)) r (now (work .exit)) (now (out .exit)) ⌝ }
-{
-    match types::all_types(s, work) {
-        Typed::Types(declared) => register(s, work, out, count, declared),
-        Typed::Refused(n, q) => Said {
-            number: n,
-            rec: q,
-            len: 0,
-        },
-    }
-}
-
-// Imports first; then the types.
-fn in_order(s: &[u8], work: &mut [u32], out: &mut [u8], count: u32) -> Said
-    requires { ⌜ (length (now s) ≤ 65536) × (16384 ≤ length (now work)) × Ahead (now s) (now work) begin ⌝ }
-    ensures { λ r. ⌜ Does count (fromFields (fieldsIn (now (s .entry))) (length (now (out .entry))) count) (now (work .entry)) (now (out .entry)) r (now (work .exit)) (now (out .exit)) ⌝ }
-{
-    match order::import_order(s, work) {
-        Order::Kept => intern(s, work, out, count),
-        Order::Refused(n, q) => Said {
-            number: n,
-            rec: q,
-            len: 0,
-        },
-    }
-}
-
-// The records; then the passes over their fields.
-fn run(s: &[u8], work: &mut [u32], out: &mut [u8]) -> Said
-    ensures { λ r. ⌜ Runs (now (s .entry)) (now (work .entry)) (now (out .entry)) r (now (work .exit)) (now (out .exit)) ⌝ }
-{
-    match stream::read_all(s, work) {
-        Count::Records(count) => in_order(s, work, out, count),
-        Count::Refused(n, q) => Said {
-            number: n,
-            rec: q,
-            len: 0,
-        },
-    }
+    let r = run(s, work, out, names);
+    space::clear(work);
+    r
 }
 
 // Any stream to its module. The answer is a number, a record and a length; the output holds the module and beyond it its old bytes, or on a
@@ -137,7 +218,12 @@ fn run(s: &[u8], work: &mut [u32], out: &mut [u8]) -> Said
 pub fn assemble(s: &[u8], work: &mut [u32], out: &mut [u8]) -> Said
     ensures { λ r. ⌜ outcomeOf r (now (out .exit)) (now (work .exit)) ≡ Assemble.call (now (s .entry)) (now (work .entry)) (now (out .entry)) ⌝ }
 {
-    let r = run(s, work, out);
-    space::clear(work);
-    r
+    call(s, work, out, false)
+}
+
+// The same with the standard's name section after the module, for a debugger.
+pub fn assemble_names(s: &[u8], work: &mut [u32], out: &mut [u8]) -> Said
+    ensures { λ r. ⌜ outcomeOf r (now (out .exit)) (now (work .exit)) ≡ Assemble.callNames (now (s .entry)) (now (work .entry)) (now (out .entry)) ⌝ }
+{
+    call(s, work, out, true)
 }

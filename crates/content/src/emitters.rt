@@ -3,7 +3,6 @@ use crate::entry::Entry;
 use binary::Emitted;
 use entries::Ends;
 use scope::TypeAt;
-use token::IndexAt;
 use token::Part;
 use typeuse::List;
 use typeuse::TypeUse;
@@ -57,33 +56,11 @@ fn emit_type_no(out: &mut [u8], at: usize, s: &[u8], work: &[u32], t: TypeUse, r
     }
 }
 
-// How many functions an inline table has.
-fn count_funcs(s: &[u8], funcs: List) -> u64
-    ensures { λ r. ⌜ r ≡ length (listOf Token.present (now (s .entry)) funcs) ⌝ }
-{
-    let mut n: u64 = 0;
-    let mut here = funcs.at;
-    let mut left = funcs.count;
-    while 0 < left {
-        match token::read_present(s, here) {
-            IndexAt::Got(_, next) => {
-                n += 1;
-                here = next;
-                left -= 1;
-            }
-            IndexAt::Fault(_) => {
-                return n;
-            }
-        }
-    }
-    n
-}
-
 // The table that holds just the functions of its segment.
 fn put_inline_table(out: &mut [u8], at: usize, s: &[u8], is64: bool, funcs: List) -> usize
     ensures { λ r. ⌜ Put (now (out .entry)) at (Binary.tableType (record { element = 0x70; limits = Deinline.exactly is64 (length (listOf Token.present (now (s .entry)) funcs)) })) r (now (out .exit)) ⌝ }
 {
-    binary::put_inline_table(out, at, is64, count_funcs(s, funcs))
+    binary::put_inline_table(out, at, is64, entries::indices::count_indices(s, funcs))
 }
 
 // How many bytes an inline memory has.

@@ -1,4 +1,4 @@
--- The starred samples of document 01, and two more: one table, and one statement, proved by computing.
+-- The starred samples of document 01, two more, and those of the name section: one table, and one statement, proved by computing.
 use mathlib.Core.Path.{_≡_, refl}
 use Prim.Native.Nat.{ℕ}
 use mathlib.Core.Bool.{Bool, true, false, _&&_}
@@ -21,6 +21,7 @@ use Rattle.definition.specs.Deinline
 use Rattle.definition.specs.Types
 use Rattle.definition.specs.Names
 use Rattle.definition.specs.Binary
+use Rattle.definition.specs.NameSection
 use Rattle.definition.specs.Assemble
 
 -- ## What a row says
@@ -28,6 +29,8 @@ use Rattle.definition.specs.Assemble
 pub data Sample : Type 0 where
   -- a stream, its count of records, its module
   assembles : Bytes → ℕ → Bytes → Sample
+  -- the same with the name section after the module
+  assemblesNames : Bytes → ℕ → Bytes → Bytes → Sample
   -- a stream, a refusal's number and record
   refuses : Bytes → ℕ → ℕ → Sample
   -- a number, or an integer, and its groups
@@ -52,6 +55,9 @@ says a n r bs = eqb (a .number) n && eqb (a .rec) r && sameBytes (a .bytes) bs
 abbrev assembled : Bytes → Assemble.Said
 assembled stream = Assemble.assemble stream 16384 65536
 
+abbrev assembledNames : Bytes → Assemble.Said
+assembledNames stream = Assemble.assembleNames stream 16384 65536
+
 abbrev emptyScope : Names.Scope Identifier
 emptyScope = record { eq = sameBytes; names = λ k. []; allTypes = [] }
 
@@ -61,6 +67,7 @@ numbersAre us ns (refused n r) = false
 
 abbrev holds : Sample → Bool
 holds (assembles stream count bytes) = says (assembled stream) 0 count bytes
+holds (assemblesNames stream count bytes names) = says (assembledNames stream) 0 count (bytes ++ names)
 holds (refuses stream n r) = says (assembled stream) n r []
 holds (groups n bs) = sameBytes (Binary.u n) bs
 holds (signedGroups z bs) = sameBytes (Binary.s z) bs
@@ -125,6 +132,22 @@ takes ps = record { params = ps; results = [] }
 abbrev S7 : ℕ → Bytes
 S7 x = 0x03 ∷ 0x00 ∷ 0x01 ∷ 0x01 ∷ 0x66 ∷ 0x00 ∷ 0x00 ∷ 0x01 ∷ 0x01 ∷ 0x78 ∷ 0x7F ∷ 0x01 ∷ 0x7F ∷ 0x00 ∷ 0x20 ∷ 0x02 ∷ 0x01 ∷ x ∷ 0xFF ∷ []
 
+abbrev S7-module : Bytes
+S7-module = S1 ++ (0x01 ∷ 0x06 ∷ 0x01 ∷ 0x60 ∷ 0x01 ∷ 0x7F ∷ 0x01 ∷ 0x7F ∷ 0x03 ∷ 0x02 ∷ 0x01 ∷ 0x00 ∷ 0x07 ∷ 0x05 ∷ 0x01 ∷ 0x01 ∷ 0x66 ∷ 0x00 ∷ 0x00 ∷ 0x0A ∷ 0x06 ∷ 0x01 ∷ 0x04 ∷ 0x00 ∷ 0x20 ∷ 0x00 ∷ 0x0B ∷ [])
+
+abbrev S8 : Bytes
+S8 = 0x01 ∷ 0x00 ∷ 0x02 ∷ 0x7F ∷ 0x7E ∷ 0x00 ∷ 0x03 ∷ 0x00 ∷ 0x00 ∷ 0x00 ∷ 0x01 ∷ 0x00 ∷ 0x00 ∷ 0x00 ∷ 0x01 ∷ 0x01 ∷ 0x6C ∷ 0x7F ∷ 0x20 ∷ 0x02 ∷ 0x01 ∷ 0x6C ∷ 0xFF ∷ []
+
+abbrev S8-module : Bytes
+S8-module = S1 ++ (0x01 ∷ 0x06 ∷ 0x01 ∷ 0x60 ∷ 0x02 ∷ 0x7F ∷ 0x7E ∷ 0x00 ∷ 0x03 ∷ 0x02 ∷ 0x01 ∷ 0x00 ∷ 0x0A ∷ 0x08 ∷ 0x01 ∷ 0x06 ∷ 0x01 ∷ 0x01 ∷ 0x7F ∷ 0x20 ∷ 0x02 ∷ 0x0B ∷ [])
+
+-- an imported function g with a parameter y; then S7's function, called f
+abbrev called : Bytes
+called = 0x02 ∷ 0x00 ∷ 0x00 ∷ 0x00 ∷ 0x01 ∷ 0x67 ∷ 0x00 ∷ 0x01 ∷ 0x01 ∷ 0x79 ∷ 0x7F ∷ 0x00 ∷ 0x03 ∷ 0x01 ∷ 0x66 ∷ 0x01 ∷ 0x01 ∷ 0x66 ∷ 0x00 ∷ 0x00 ∷ 0x01 ∷ 0x01 ∷ 0x78 ∷ 0x7F ∷ 0x01 ∷ 0x7F ∷ 0x00 ∷ 0x20 ∷ 0x02 ∷ 0x01 ∷ 0x78 ∷ 0xFF ∷ []
+
+abbrev called-module : Bytes
+called-module = S1 ++ (0x01 ∷ 0x0A ∷ 0x02 ∷ 0x60 ∷ 0x01 ∷ 0x7F ∷ 0x00 ∷ 0x60 ∷ 0x01 ∷ 0x7F ∷ 0x01 ∷ 0x7F ∷ 0x02 ∷ 0x05 ∷ 0x01 ∷ 0x00 ∷ 0x00 ∷ 0x00 ∷ 0x00 ∷ 0x03 ∷ 0x02 ∷ 0x01 ∷ 0x01 ∷ 0x07 ∷ 0x05 ∷ 0x01 ∷ 0x01 ∷ 0x66 ∷ 0x00 ∷ 0x01 ∷ 0x0A ∷ 0x06 ∷ 0x01 ∷ 0x04 ∷ 0x00 ∷ 0x20 ∷ 0x00 ∷ 0x0B ∷ [])
+
 -- loads and stores with their natural exponents
 abbrev accesses : List (ℕ × ℕ)
 accesses =
@@ -165,12 +188,10 @@ samples =
     (takes (0x7F ∷ []) ∷ takes (0x7E ∷ []) ∷ takes [] ∷ takes (0x7E ∷ []) ∷ [])
     (0 ∷ 3 ∷ 1 ∷ 3 ∷ [])
     -- S7, and with the second x made y
-    ∷ assembles (S7 0x78) 3
-    (S1 ++ (0x01 ∷ 0x06 ∷ 0x01 ∷ 0x60 ∷ 0x01 ∷ 0x7F ∷ 0x01 ∷ 0x7F ∷ 0x03 ∷ 0x02 ∷ 0x01 ∷ 0x00 ∷ 0x07 ∷ 0x05 ∷ 0x01 ∷ 0x01 ∷ 0x66 ∷ 0x00 ∷ 0x00 ∷ 0x0A ∷ 0x06 ∷ 0x01 ∷ 0x04 ∷ 0x00 ∷ 0x20 ∷ 0x00 ∷ 0x0B ∷ []))
+    ∷ assembles (S7 0x78) 3 S7-module
     ∷ refuses (S7 0x79) 14 1
     -- S8: l is 2
-    ∷ assembles (0x01 ∷ 0x00 ∷ 0x02 ∷ 0x7F ∷ 0x7E ∷ 0x00 ∷ 0x03 ∷ 0x00 ∷ 0x00 ∷ 0x00 ∷ 0x01 ∷ 0x00 ∷ 0x00 ∷ 0x00 ∷ 0x01 ∷ 0x01 ∷ 0x6C ∷ 0x7F ∷ 0x20 ∷ 0x02 ∷ 0x01 ∷ 0x6C ∷ 0xFF ∷ []) 4
-    (S1 ++ (0x01 ∷ 0x06 ∷ 0x01 ∷ 0x60 ∷ 0x02 ∷ 0x7F ∷ 0x7E ∷ 0x00 ∷ 0x03 ∷ 0x02 ∷ 0x01 ∷ 0x00 ∷ 0x0A ∷ 0x08 ∷ 0x01 ∷ 0x06 ∷ 0x01 ∷ 0x01 ∷ 0x7F ∷ 0x20 ∷ 0x02 ∷ 0x0B ∷ []))
+    ∷ assembles S8 4 S8-module
     -- S9
     ∷ assembles (0x05 ∷ 0x00 ∷ 0x00 ∷ 0x02 ∷ 0x00 ∷ 0x03 ∷ 0x61 ∷ 0x62 ∷ 0x63 ∷ []) 1 (S1 ++ (0x05 ∷ 0x04 ∷ 0x01 ∷ 0x01 ∷ 0x01 ∷ 0x01 ∷ 0x0B ∷ 0x09 ∷ 0x01 ∷ 0x00 ∷ 0x41 ∷ 0x00 ∷ 0x0B ∷ 0x03 ∷ 0x61 ∷ 0x62 ∷ 0x63 ∷ []))
     -- a block with no index, no parameter and a single result adds no type
@@ -179,6 +200,13 @@ samples =
     -- the natural exponents: alignment byte, offset and memory index are 0
     ∷ assembles (function ++ concatMap (λ x. x .0 ∷ 0x00 ∷ 0x00 ∷ 0x00 ∷ []) accesses ++ bodyEnd) 25
     (oneFunction ++ (0x0A ∷ 0x49 ∷ 0x01 ∷ 0x47 ∷ 0x00 ∷ []) ++ concatMap (λ x. x .0 ∷ x .1 ∷ 0x00 ∷ []) accesses ++ (0x0B ∷ []))
+    -- no name, no section
+    ∷ assemblesNames [] 0 S1 []
+    -- S7's parameter x is 0, and its function has no identifier; S8's l is 2
+    ∷ assemblesNames (S7 0x78) 3 S7-module (0x00 ∷ 0x0D ∷ 0x04 ∷ 0x6E ∷ 0x61 ∷ 0x6D ∷ 0x65 ∷ 0x02 ∷ 0x06 ∷ 0x01 ∷ 0x00 ∷ 0x01 ∷ 0x00 ∷ 0x01 ∷ 0x78 ∷ [])
+    ∷ assemblesNames S8 4 S8-module (0x00 ∷ 0x0D ∷ 0x04 ∷ 0x6E ∷ 0x61 ∷ 0x6D ∷ 0x65 ∷ 0x02 ∷ 0x06 ∷ 0x01 ∷ 0x00 ∷ 0x01 ∷ 0x02 ∷ 0x01 ∷ 0x6C ∷ [])
+    -- g is 0, f is 1, and of parameters only f's x is named
+    ∷ assemblesNames called 4 called-module (0x00 ∷ 0x16 ∷ 0x04 ∷ 0x6E ∷ 0x61 ∷ 0x6D ∷ 0x65 ∷ 0x01 ∷ 0x07 ∷ 0x02 ∷ 0x00 ∷ 0x01 ∷ 0x67 ∷ 0x01 ∷ 0x01 ∷ 0x66 ∷ 0x02 ∷ 0x06 ∷ 0x01 ∷ 0x01 ∷ 0x01 ∷ 0x00 ∷ 0x01 ∷ 0x78 ∷ [])
     ∷ []
 
 pub samples-hold : every samples ≡ true
@@ -205,6 +233,9 @@ unfolding Basic._>>=_ Basic.each Basic.concatMap Basic.same Basic.sameBytes Basi
     Binary.fits7 Binary.signed Binary.s Binary.integer Binary.vec Binary.sized Binary.byte Binary.funcType Binary.limits Binary.tableType
     Binary.globalType Binary.externType Binary.blockType Binary.memarg Binary.imm Binary.instruction Binary.expr Binary.runs Binary.run
     Binary.func-code Binary.elem Binary.data′ Binary.entries Binary.inSection Binary.joined Binary.content Binary.section Binary.preamble
-    Binary.sectionNumbers Binary.sections Binary.module′ Assemble.items Assemble.resolved Assemble.moduleIn Assemble.say Assemble.sayRead
-    Assemble.assemble Assemble.outputAfter Assemble.workAfter Assemble.outcome Assemble.call
+    Binary.sectionNumbers Binary.sections Binary.module′ NameSection.namedFrom NameSection.importedFunction NameSection.ownFunction
+    NameSection.functionIn NameSection.functions NameSection.localNamesFrom NameSection.nameAssoc NameSection.indirectNameAssoc
+    NameSection.subsections NameSection.sectionName NameSection.nameSection Assemble.scope Assemble.itemsIn Assemble.items Assemble.resolved
+    Assemble.fitting Assemble.moduleIn Assemble.namedModuleIn Assemble.say Assemble.sayRead Assemble.assembleBy Assemble.assemble
+    Assemble.assembleNames
 samples-hold = refl

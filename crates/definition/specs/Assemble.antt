@@ -9,27 +9,47 @@ use Rattle.definition.specs.Syntax.{Bytes, Identifier, Rec, Item, typeI}
 use Rattle.definition.specs.Read.{read}
 use Rattle.definition.specs.Deinline.{deinline, importOrder, Numbered}
 use Rattle.definition.specs.Types.{allTypes, declared}
-use Rattle.definition.specs.Names.{space, register, resolveAll}
+use Rattle.definition.specs.Names.{Scope, space, register, resolveAll}
 use Rattle.definition.specs.Binary.{module′}
+use Rattle.definition.specs.NameSection.{nameSection}
 
 -- ## From fields to items
 
--- the passes in document 01's order: 11, 12 and 13 each over the whole stream, then the fields. Added types come after the declared ones
-unfoldable pub items : {I : Type 0} → (I → I → Bool) → Numbered I → Answer (List Item)
-items eq fs =
+-- what names mean in some fields: 11, 12 and 13, each over the whole stream
+unfoldable pub scope : {I : Type 0} → (I → I → Bool) → Numbered I → Answer (Scope I)
+scope eq fs =
     importOrder fs >>= λ _.
     allTypes fs >>= λ ts.
     register eq [] fs >>= λ xs.
-    resolveAll (record { eq = eq; names = λ k. space k xs; allTypes = ts }) fs >>= λ is.
-    ok (is ++ map typeI (drop (length (declared fs)) ts))
+    ok (record { eq = eq; names = λ k. space k xs; allTypes = ts })
+
+-- the fields in that scope: 14 to 17, and 13 for locals. Added types come after the declared ones
+unfoldable pub itemsIn : {I : Type 0} → Scope I → Numbered I → Answer (List Item)
+itemsIn Γ fs = resolveAll Γ fs >>= λ is. ok (is ++ map typeI (drop (length (declared fs)) (Γ .allTypes)))
+
+-- the passes in document 01's order
+unfoldable pub items : {I : Type 0} → (I → I → Bool) → Numbered I → Answer (List Item)
+items eq fs = scope eq fs >>= λ Γ. itemsIn Γ fs
 
 unfoldable pub resolved : {I : Type 0} → (I → I → Bool) → List (Rec I) → Answer (List Item)
 resolved eq rs = items eq (deinline rs)
 
--- the module of some records, in `room` bytes
+-- ## From items to bytes
+
+-- bytes that must fit into `room`: 18, at the count of records
+unfoldable pub fitting : ℕ → ℕ → Bytes → Answer Bytes
+fitting room count bs = if leb (length bs) room then ok bs else refused 18 count
+
+-- the module of some records
 unfoldable pub moduleIn : {I : Type 0} → (I → I → Bool) → ℕ → List (Rec I) → Answer Bytes
-moduleIn eq room rs = resolved eq rs >>= λ is.
-    (if leb (length (module′ is)) room then ok (module′ is) else refused 18 (length rs))
+moduleIn eq room rs = resolved eq rs >>= λ is. fitting room (length rs) (module′ is)
+
+-- the module and after it its name section (document 02, §1)
+unfoldable pub namedModuleIn : ℕ → List (Rec Identifier) → Answer Bytes
+namedModuleIn room rs =
+    scope sameBytes (deinline rs) >>= λ Γ.
+    itemsIn Γ (deinline rs) >>= λ is.
+    fitting room (length rs) (module′ is ++ nameSection Γ (deinline rs))
 
 -- ## What a call says
 
@@ -46,16 +66,27 @@ unfoldable pub say : ℕ → Answer Bytes → Said
 say count (ok bs) = record { number = 0; rec = count; bytes = bs }
 say count (refused n r) = refusal n r
 
-unfoldable pub sayRead : ℕ → Answer (List (Rec Identifier)) → Said
-sayRead room (ok rs) = say (length rs) (moduleIn sameBytes room rs)
-sayRead room (refused n r) = refusal n r
+-- what makes the bytes of some records in some room: each call has its own
+abbrev pub Maker : Type 0
+Maker = ℕ → List (Rec Identifier) → Answer Bytes
+
+unfoldable pub sayRead : Maker → ℕ → Answer (List (Rec Identifier)) → Said
+sayRead make room (ok rs) = say (length rs) (make room rs)
+sayRead make room (refused n r) = refusal n r
 
 -- `work` words and `room` bytes are lent
-unfoldable pub assemble : Bytes → ℕ → ℕ → Said
-assemble stream work room =
+unfoldable pub assembleBy : Maker → Bytes → ℕ → ℕ → Said
+assembleBy make stream work room =
     if ltb 65536 (length stream) then refusal 1 0 else
     if ltb work 16384 then refusal 10 0 else
-    sayRead room (read stream)
+    sayRead make room (read stream)
+
+unfoldable pub assemble : Bytes → ℕ → ℕ → Said
+assemble stream work room = assembleBy (moduleIn sameBytes) stream work room
+
+-- with the names
+unfoldable pub assembleNames : Bytes → ℕ → ℕ → Said
+assembleNames stream work room = assembleBy namedModuleIn stream work room
 
 -- ## What a call leaves
 
@@ -79,5 +110,12 @@ unfoldable pub outcome : Bytes → List ℕ → Said → Outcome
 outcome output work a =
     record { number = a .number; rec = a .rec; written = length (a .bytes); output = outputAfter output a; work = workAfter work }
 
+unfoldable pub callBy : Maker → Bytes → List ℕ → Bytes → Outcome
+callBy make stream work output = outcome output work (assembleBy make stream (length work) (length output))
+
+-- the plain call, and the one that also writes the names
 unfoldable pub call : Bytes → List ℕ → Bytes → Outcome
-call stream work output = outcome output work (assemble stream (length work) (length output))
+call stream work output = callBy (moduleIn sameBytes) stream work output
+
+unfoldable pub callNames : Bytes → List ℕ → Bytes → Outcome
+callNames stream work output = callBy namedModuleIn stream work output

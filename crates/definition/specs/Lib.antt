@@ -10,4 +10,5 @@ pub mod Deinline
 pub mod Types
 pub mod Names
 pub mod Binary
+pub mod NameSection
 pub mod Assemble

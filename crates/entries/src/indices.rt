@@ -21,7 +21,8 @@ ghost use Rattle.scope.specs.Scope.{scopeIn, labelsIn};
 ghost use Rattle.binary.specs.Emits.{Emits};
 ghost use Rattle.entries.specs.Entry.{depthBytes};
 
-fn count_indices(s: &[u8], l: List) -> u64
+// How many indices a list has.
+pub fn count_indices(s: &[u8], l: List) -> u64
     ensures { λ r. ⌜ r ≡ length (listOf Token.present (now (s .entry)) l) ⌝ }
 {
     let mut n: u64 = 0;

@@ -15,7 +15,7 @@ use Rattle.typeuse.specs.Views.{listOf, useOf}
 use Rattle.typeuse.specs.declared.List as Code
 use Rattle.typeuse.specs.declared.TypeUse.{TypeUse}
 use Rattle.emit.specs.Put.{Put, past}
-use Rattle.emit.proofs.Laws.{put-then, put-sized, sets-out}
+use Rattle.emit.proofs.Laws.{put-then}
 use Rattle.space.specs.Kept.{Kept}
 use Rattle.space.proofs.Kept.{kept-then, kept-less}
 use Rattle.binary.specs.Locals.{localTypes}
@@ -36,8 +36,9 @@ use Rattle.frames.specs.Locals.{SetsLocals, Sets, Unset}
 use Rattle.frames.specs.declared.locals.LocalsAt.{LocalsAt}
 use Rattle.frames.specs.declared.locals.LocalsAt.the-variants as L
 use Rattle.code.specs.Body.{EmitsBody}
-use Rattle.function.specs.Function.{codeOf, funcField, bodyAnswer, codeBytes, sizedBytes, EmitsCode, Measured, MeasuredBy, MeasuresCode, AreaBy, typedAnswer, EmitsTyped, EmitsFunc}
+use Rattle.function.specs.Function.{codeOf, funcField, bodyAnswer, codeBytes, sizedBytes, EmitsCode, Measured, MeasuredBy, MeasuresCode, MeasuredAt, MeasuresSized, EmitsAgain, AreaBy, typedAnswer, EmitsTyped, EmitsFunc}
 use Rattle.binary.specs.declared.instructions.TypeNo as Number
+use Rattle.function.proofs.Sized.{sized-place, put-beyond, put-short, put-again}
 
 -- ## The locals and the body
 
@@ -60,10 +61,6 @@ unfolding Emits
 code-measured bytes a w old (E.To o) w′ new h = record { says = record { value = h .emits .value; is = h .emits .is; long = h .emits .put .place }; kept = h .kept }
 code-measured bytes a w old (E.Refused n z) w′ new h = record { says = h .emits; kept = h .kept }
 
--- a measure, as a run over nothing
-measure-put : (bs : Bytes) (n : ℕ) → n ≡ past 0 (length bs) → Put [] 0 bs n []
-measure-put bs n e = record { place = e; bytes = λ _. sym (sets-out [] 0 bs (omega arith)); long = refl; short = omega arith }
-
 -- the body means the same after labels were written
 body-kept : (s w w′ : List ℕ) (r here : ℕ) (l : Locals) → Kept 11920 w w′ → FewLocals l → bodyAnswer s w′ r here l ≡ bodyAnswer s w r here l
 unfolding bodyAnswer
@@ -72,29 +69,68 @@ body-kept s w w′ r here l k f =
     let b : localsIn s w′ l ≡ localsIn s w l = locals-kept s w w′ l k (f .named) in
     rw (a, b)
 
-module _ (s w : List ℕ) (ls : Code.List) (r here : ℕ) (l : Locals) (f : FewLocals l) (q : Emitted) (w₁ : List ℕ) (m : MeasuresCode (codeBytes s ls) (bodyAnswer s w r here l) w q w₁) where
+-- ## After their length
+
+-- where nothing can be stored it is measured
+module _ (bytes : List Op → Bytes) (a : Answer (List Op)) (w : List ℕ) (q : Emitted) (w₁ : List ℕ) (m : MeasuresCode bytes a w q w₁) (at : ℕ) where
+  pub measured-to : (n k c r : ℕ) → q ≡ E.To n → k ≡ length (u n) → c ≡ past at k → r ≡ past c n → MeasuresSized bytes a w at (E.To r) w₁
+  measured-to n k c r d i e g =
+      let x : Measured bytes a n = (let z = m .says in rw d at z) in
+      record { says = record { value = x .value; is = x .is; place = sized-place at n c r (bytes (x .value)) (x .long) (e ∙ ap (past at) i) g }; kept = m .kept }
+
+  pub measured-not : (e z : ℕ) → q ≡ E.Refused e z → MeasuresSized bytes a w at (E.Refused e z) w₁
+  measured-not e z d = record { says = (let x = m .says in rw d at x); kept = m .kept }
+
+pub sized-beyond : (s w : List ℕ) (ls : Code.List) (a : Answer (List Op)) (old : List ℕ) (at : ℕ) (q : Emitted) (w₁ : List ℕ) → MeasuresSized (codeBytes s ls) a w at q w₁ → length old ≤ at
+    → length old * 1 < 2 ^ 63 → EmitsCode (sizedBytes s ls) a w old at q w₁ old
+unfolding Emits sizedBytes
+sized-beyond s w ls a old at (E.To r) w₁ m h k =
+    record { emits = record { value = m .says .value; is = m .says .is; put = put-beyond h (omega arith) (m .says .place) }; kept = m .kept }
+sized-beyond s w ls a old at (E.Refused n z) w₁ m h k = record { emits = m .says; kept = m .kept }
+
+-- elsewhere it is written, after a place for one group
+module _ (s w : List ℕ) (ls : Code.List) (r here : ℕ) (l : Locals) (old : List ℕ) (at : ℕ) (q : Emitted) (w₁ mid : List ℕ)
+    (m : EmitsCode (codeBytes s ls) (bodyAnswer s w r here l) w old (at + 1) q w₁ mid) where
+  pub sized-not : (e z : ℕ) → q ≡ E.Refused e z → EmitsCode (sizedBytes s ls) (bodyAnswer s w r here l) w old at (E.Refused e z) w₁ mid
+  unfolding Emits
+  sized-not e z d = record { emits = (let x = m .emits in rw d at x); kept = m .kept }
+
   pub sized-long : 16384 ≤ length w → 16384 ≤ length w₁
   sized-long h = rw (m .kept .long) h
 
   pub sized-uses : (us : Types.Uses) → Recalled w (typesIn s w) us → Recalled w₁ (typesIn s w₁) us
   sized-uses us h = recalled-scope s w w₁ us (kept-less 11280 11920 (omega arith) (m .kept)) h
 
-  module _ (old : List ℕ) (at n a : ℕ) (mid : List ℕ) (d : q ≡ E.To n) (p : Put old at (u n) a mid) (w₂ new : List ℕ) where
-    pub sized-to : (z : Emitted) → EmitsCode (codeBytes s ls) (bodyAnswer s w₁ r here l) w₁ mid a z w₂ new → EmitsCode (sizedBytes s ls) (bodyAnswer s w r here l) w old at z w₂ new
-    unfolding Emits sizedBytes
-    sized-to (E.To o) y =
-        let x : Measured (codeBytes s ls) (bodyAnswer s w r here l) n = (let e = m .says in rw d at e) in
-        let g : _≡_ {A = List Op} (y .emits .value) (x .value) = (let i : ok (y .emits .value) ≡ ok (x .value) = sym (y .emits .is) ∙ body-kept s w w₁ r here l (m .kept) f ∙ x .is in cc) in
-        let k = y .emits .put in
-        record {
-          emits = record { value = x .value; is = x .is; put = put-sized (measure-put (codeBytes s ls (x .value)) n (x .long)) p (rw g at k) };
-          kept = kept-then (m .kept) (y .kept);
-        }
-    sized-to (E.Refused e z) y = record { emits = sym (body-kept s w w₁ r here l (m .kept) f) ∙ y .emits; kept = kept-then (m .kept) (y .kept) }
+  module _ (b : ℕ) (d : q ≡ E.To b) where
+    x : Wrote (codeBytes s ls) (bodyAnswer s w r here l) old (at + 1) b mid
+    unfolding Emits
+    x = let z = m .emits in rw d at z
 
-  pub sized-not : (old : List ℕ) (at e z : ℕ) → q ≡ E.Refused e z → EmitsCode (sizedBytes s ls) (bodyAnswer s w r here l) w old at (E.Refused e z) w₁ old
-  unfolding Emits
-  sized-not old at e z d = record { emits = (let x = m .says in rw d at x); kept = m .kept }
+    -- the place after them is not before them
+    pub sized-after : at + 1 ≤ b
+    unfolding past
+    sized-after = omega (arith, x .put .place)
+
+    module _ (n : ℕ) (e : n ≡ b - (at + 1)) (h : at < length old) where
+      pub sized-short : (o : ℕ) (new : List ℕ) → n < 128 → Put mid at (n ∷ []) o new → EmitsCode (sizedBytes s ls) (bodyAnswer s w r here l) w old at (E.To b) w₁ new
+      unfolding Emits sizedBytes
+      sized-short o new k y = record { emits = record { value = x .value; is = x .is; put = put-short h (x .put) e k y }; kept = m .kept }
+
+      pub sized-again : FewLocals l → (z : Emitted) (w₂ new : List ℕ) → EmitsAgain (codeBytes s ls) (bodyAnswer s w₁ r here l) w₁ mid at n z w₂ new
+          → EmitsCode (sizedBytes s ls) (bodyAnswer s w r here l) w old at z w₂ new
+      unfolding Emits sizedBytes
+      sized-again f (E.To o) w₂ new y =
+          let g : _≡_ {A = List Op} (y .emits .value) (x .value) = (let i : ok (y .emits .value) ≡ ok (x .value) = sym (y .emits .is) ∙ body-kept s w w₁ r here l (m .kept) f ∙ x .is in cc) in
+          let k = y .emits .put in
+          record { emits = record { value = x .value; is = x .is; put = put-again h (x .put) e (rw g at k) }; kept = kept-then (m .kept) (y .kept) }
+      sized-again f (E.Refused i z) w₂ new y = record { emits = sym (body-kept s w w₁ r here l (m .kept) f) ∙ y .emits; kept = kept-then (m .kept) (y .kept) }
+
+-- a number, and then the code
+pub again-to : (bytes : List Op → Bytes) (a : Answer (List Op)) (w old mid : List ℕ) (at n c : ℕ) (q : Emitted) (w′ new : List ℕ) → Put old at (u n) c mid → EmitsCode bytes a w mid c q w′ new
+    → EmitsAgain bytes a w old at n q w′ new
+unfolding Emits
+again-to bytes a w old mid at n c (E.To o) w′ new p y = record { emits = record { value = y .emits .value; is = y .emits .is; put = put-then p (y .emits .put) }; kept = y .kept }
+again-to bytes a w old mid at n c (E.Refused e z) w′ new p y = record { emits = y .emits; kept = y .kept }
 
 -- ## The whole entry
 

@@ -10,7 +10,7 @@ use Rattle.definition.specs.Syntax.{Bytes, Identifier, Op, Item}
 use Rattle.definition.specs.Token as Token
 use Rattle.definition.specs.Names.{Namespace, Scope, localsOf, distinctLocals, body, resolve}
 use Rattle.signatures.specs.Table.{typesIn}
-use Rattle.definition.specs.Binary.{vec, run, runs, expr, sized, func-code}
+use Rattle.definition.specs.Binary.{u, vec, run, runs, expr, sized, func-code}
 use Rattle.typeuse.specs.Views.{listOf, useOf}
 use Rattle.typeuse.specs.declared.List as Code
 use Rattle.typeuse.specs.declared.TypeUse.{TypeUse}
@@ -71,6 +71,25 @@ MeasuredBy bytes a (E.Refused n q) = a ≡ refused n q
 
 pub record MeasuresCode (bytes : List Op → Bytes) (a : Answer (List Op)) (w : List ℕ) (r : Emitted) (w′ : List ℕ) : Type 0 where
   pub says : MeasuredBy bytes a r
+  pub kept : Kept 11920 w w′
+
+-- the place after them and their length, where they begin at `at`
+pub record MeasuredAt (bytes : List Op → Bytes) (a : Answer (List Op)) (at r : ℕ) : Type 0 where
+  pub value : List Op
+  pub is : a ≡ ok value
+  pub place : r ≡ past at (length (sized (bytes value)))
+
+abbrev pub MeasuredAtBy : (List Op → Bytes) → Answer (List Op) → ℕ → Emitted → Type 0
+MeasuredAtBy bytes a at (E.To r) = MeasuredAt bytes a at r
+MeasuredAtBy bytes a at (E.Refused n q) = a ≡ refused n q
+
+pub record MeasuresSized (bytes : List Op → Bytes) (a : Answer (List Op)) (w : List ℕ) (at : ℕ) (r : Emitted) (w′ : List ℕ) : Type 0 where
+  pub says : MeasuredAtBy bytes a at r
+  pub kept : Kept 11920 w w′
+
+-- a number and then the code
+pub record EmitsAgain (bytes : List Op → Bytes) (a : Answer (List Op)) (w old : List ℕ) (at n : ℕ) (r : Emitted) (w′ new : List ℕ) : Type 0 where
+  pub emits : Emits (λ os. u n ++ bytes os) a old at r new
   pub kept : Kept 11920 w w′
 
 -- the whole entry: the locals are written too

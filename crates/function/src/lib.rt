@@ -16,7 +16,7 @@ ghost use Rattle.binary.specs.Views.{typeNoOf};
 ghost use Rattle.signatures.specs.Table.{typesIn};
 ghost use Rattle.scope.specs.Scope.{Recalled, FewLocals};
 ghost use Rattle.walk.specs.Walk.{bodyFrom};
-ghost use Rattle.function.specs.Function.{bodyAnswer, codeBytes, sizedBytes, EmitsCode, MeasuresCode, EmitsTyped, EmitsFunc};
+ghost use Rattle.function.specs.Function.{bodyAnswer, codeBytes, sizedBytes, EmitsCode, MeasuresCode, MeasuresSized, EmitsAgain, EmitsTyped, EmitsFunc};
 
 // The locals and the body.
 fn emit_code(
@@ -48,7 +48,48 @@ fn measure_code(s: &[u8], work: &mut [u32], ls: List, here: usize, rec: u32, l: 
     emit_code(s, work, &mut none[0..0], 0, ls, here, rec, l)
 }
 
-// Both, after their length.
+// Both, after their length, at a place where nothing can be stored.
+fn measure_sized(
+    s: &[u8],
+    work: &mut [u32],
+    at: usize,
+    ls: List,
+    here: usize,
+    rec: u32,
+    l: Locals,
+) -> Emitted
+    requires { ⌜ (length (now s) ≤ 65536) × (16384 ≤ length (now work)) × FewLocals l × (rec < 4096) × Recalled (now work) (typesIn (now s) (now work)) (Types.bodyUses (rec + 1) (bodyFrom (4096 - (rec + 1)) 0 (now s) here)) ⌝ }
+    ensures { λ r. ⌜ MeasuresSized (codeBytes (now (s .entry)) ls) (bodyAnswer (now (s .entry)) (now (work .entry)) rec here l) (now (work .entry)) at r (now (work .exit)) ⌝ }
+{
+    match measure_code(s, work, ls, here, rec, l) {
+        Emitted::To(n) => {
+            let a = emit::tally(at, leb::group_count(n as u64));
+            Emitted::To(emit::tally(a, n))
+        }
+        Emitted::Refused(n, q) => Emitted::Refused(n, q),
+    }
+}
+
+// The length goes before what was written after a place for one group. A length of more groups is put there, and the rest once more.
+fn emit_again(
+    s: &[u8],
+    work: &mut [u32],
+    out: &mut [u8],
+    at: usize,
+    n: usize,
+    ls: List,
+    here: usize,
+    rec: u32,
+    l: Locals,
+) -> Emitted
+    requires { ⌜ (length (now s) ≤ 65536) × (16384 ≤ length (now work)) × FewLocals l × (rec < 4096) × Recalled (now work) (typesIn (now s) (now work)) (Types.bodyUses (rec + 1) (bodyFrom (4096 - (rec + 1)) 0 (now s) here)) ⌝ }
+    ensures { λ r. ⌜ EmitsAgain (codeBytes (now (s .entry)) ls) (bodyAnswer (now (s .entry)) (now (work .entry)) rec here l) (now (work .entry)) (now (out .entry)) at n r (now (work .exit)) (now (out .exit)) ⌝ }
+{
+    let a = leb::put_u(out, at, n as u64);
+    emit_code(s, work, out, a, ls, here, rec, l)
+}
+
+// Both, after their length. Most functions are short: their code is written after a place for one group, which then takes the length.
 fn emit_sized(
     s: &[u8],
     work: &mut [u32],
@@ -62,10 +103,18 @@ fn emit_sized(
     requires { ⌜ (length (now s) ≤ 65536) × (16384 ≤ length (now work)) × FewLocals l × (rec < 4096) × Recalled (now work) (typesIn (now s) (now work)) (Types.bodyUses (rec + 1) (bodyFrom (4096 - (rec + 1)) 0 (now s) here)) ⌝ }
     ensures { λ r. ⌜ EmitsCode (sizedBytes (now (s .entry)) ls) (bodyAnswer (now (s .entry)) (now (work .entry)) rec here l) (now (work .entry)) (now (out .entry)) at r (now (work .exit)) (now (out .exit)) ⌝ }
 {
-    match measure_code(s, work, ls, here, rec, l) {
-        Emitted::To(n) => {
-            let a = leb::put_u(out, at, n as u64);
-            emit_code(s, work, out, a, ls, here, rec, l)
+    if out.len() <= at {
+        return measure_sized(s, work, at, ls, here, rec, l);
+    }
+    let a = at + 1;
+    match emit_code(s, work, out, a, ls, here, rec, l) {
+        Emitted::To(b) => {
+            let n = b - a;
+            if n < 128 {
+                emit::put(out, at, n as u8);
+                return Emitted::To(b);
+            }
+            emit_again(s, work, out, at, n, ls, here, rec, l)
         }
         Emitted::Refused(n, q) => Emitted::Refused(n, q),
     }

@@ -10,3 +10,4 @@ pub mod Interning
 pub mod Lengths
 pub mod Bodies
 pub mod Sets
+pub mod Passes

@@ -26,7 +26,7 @@ unsigned-some (suc m) n = go (ltb n 128)
     go true = omega arith
     go false = omega arith
 
-u-only : (n : ℕ) → 1 ≤ length (u n)
+pub u-only : (n : ℕ) → 1 ≤ length (u n)
 unfolding u
 u-only n = unsigned-some 9 n
 
@@ -44,7 +44,7 @@ pub u-few : (n : ℕ) → length (u n) ≤ 10
 unfolding u
 u-few n = unsigned-few 9 n
 
-first-some : (bs cs : Bytes) → 1 ≤ length bs → 1 ≤ length (bs ++ cs)
+pub first-some : (bs cs : Bytes) → 1 ≤ length bs → 1 ≤ length (bs ++ cs)
 first-some bs cs h = omega (arith, length-append bs cs)
 
 sized-some : (b : Bytes) → 1 ≤ length (sized b)

@@ -21,15 +21,15 @@ use Rattle.module.proofs.Full.{u-few, good-items}
 
 -- ## Numbers that saturate
 
-past-past : (a m n : ℕ) → past (past a m) n ≡ past a (m + n)
+pub past-past : (a m n : ℕ) → past (past a m) n ≡ past a (m + n)
 unfolding past
 past-past a m n = omega arith
 
-past-measured : (a n : ℕ) → past a (past 0 n) ≡ past a n
+pub past-measured : (a n : ℕ) → past a (past 0 n) ≡ past a n
 unfolding past
 past-measured a n = omega arith
 
-past-from : (a n : ℕ) → a ≤ 2 ^ 63 → past a n ≡ past 0 (a + n)
+pub past-from : (a n : ℕ) → a ≤ 2 ^ 63 → past a n ≡ past 0 (a + n)
 unfolding past
 past-from a n h = omega arith
 
@@ -38,7 +38,7 @@ past-full : (a b n : ℕ) → a ≤ 2 ^ 63 → b ≤ 2 ^ 63 → 2 ^ 63 ≤ n →
 unfolding past
 past-full a b n g h k = omega arith
 
-past-none : (a : ℕ) → past a 0 ≡ a
+pub past-none : (a : ℕ) → past a 0 ≡ a
 unfolding past
 past-none a = omega arith
 
@@ -89,6 +89,17 @@ sized-long k n bs e =
     more : (m n : ℕ) → 1 + m + n ≡ suc (m + n)
     more m n = omega arith
 
+-- a section of entries of which none is empty, by the numbers of a tally
+pub entries-long : (t : Tally) (k : ℕ) (bs : List Bytes) → getD (t .sizes) k 0 ≡ past 0 (length (joined bs)) → getD (t .counts) k 0 ≡ past 0 (length bs) → length bs ≤ length (joined bs)
+    → sectionLen t k ≡ past 0 (length (sectionOf k bs))
+unfolding sectionLen
+entries-long t k [] d e g =
+    let z : eqb (getD (t .counts) k 0) 0 ≡ true = eq-eqb _ _ (e ∙ past-none 0) in
+    rw z (sym (past-none 0))
+entries-long t k (b ∷ bs) d e g =
+    let z : eqb (getD (t .counts) k 0) 0 ≡ false = ne-eqb _ _ (λ x. not-none (length bs) (sym e ∙ x)) in
+    rw z (sized-long k _ (content k (b ∷ bs)) (content-long k _ _ (b ∷ bs) g d e))
+
 replicate-none : (n k : ℕ) → getD (replicate {A = ℕ} n 0) k 0 ≡ 0
 replicate-none zero k = refl
 replicate-none (suc n) zero = refl
@@ -119,17 +130,8 @@ module _ {t : Tally} {es : Entries} (c : Counted t es) where
   count-of k h = rw (c .tally) (count-is k h noTally es twelve ∙ ap (λ n. past n (length (inSection k es))) (replicate-none 12 k))
 
   pub section-long : (k : ℕ) → k < 12 → sectionLen t k ≡ past 0 (length (section es k))
-  unfolding sectionLen section
-  section-long k h = go (inSection k es) (size-of k h) (count-of k h) (c .good .each k)
-    where
-      go : (bs : List Bytes) → getD (t .sizes) k 0 ≡ past 0 (length (joined bs)) → getD (t .counts) k 0 ≡ past 0 (length bs) → length bs ≤ length (joined bs)
-          → (if eqb (getD (t .counts) k 0) 0 then 0 else sizedLen (contentLen k (getD (t .sizes) k 0) (getD (t .counts) k 0))) ≡ past 0 (length (sectionOf k bs))
-      go [] d e g =
-          let z : eqb (getD (t .counts) k 0) 0 ≡ true = eq-eqb _ _ (e ∙ past-none 0) in
-          rw z (sym (past-none 0))
-      go (b ∷ bs) d e g =
-          let z : eqb (getD (t .counts) k 0) 0 ≡ false = ne-eqb _ _ (λ x. not-none (length bs) (sym e ∙ x)) in
-          rw z (sized-long k _ (content k (b ∷ bs)) (content-long k _ _ (b ∷ bs) g d e))
+  unfolding section
+  section-long k h = entries-long t k (inSection k es) (size-of k h) (count-of k h) (c .good .each k)
 
   pub sections-from : (n k o : ℕ) → n + k ≤ 12 → lensFrom n k o t ≡ past o (length (sectionsFrom n k es))
   unfolding lensFrom sectionsFrom

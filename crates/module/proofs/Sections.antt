@@ -100,7 +100,7 @@ over : (at x y l r q : ℕ) → r ≡ past at x → q ≡ past r y → 2 ^ 63 �
 unfolding past
 over at x y l r q e f h = omega arith
 
-counted-put : (es : List Bytes) {a b c : Bytes} {n at r q : ℕ} → length es ≤ length (joined es) → n ≡ past 0 (length es) → Put a at (u n) r b → Put b r (joined es) q c
+pub counted-put : (es : List Bytes) {a b c : Bytes} {n at r q : ℕ} → length es ≤ length (joined es) → n ≡ past 0 (length es) → Put a at (u n) r b → Put b r (joined es) q c
     → Put a at (u (length es) ++ joined es) q c
 unfolding past
 counted-put es {a} {b} {c} {n} {at} {r} {q} s m x y = go (decLe (2 ^ 63) (length es))
@@ -129,7 +129,7 @@ suc-plus : (m n : ℕ) → suc m + n ≡ suc (m + n)
 suc-plus m n = omega arith
 
 -- bytes after the number of their section and their length, where it may have saturated
-headed-put : (k : ℕ) {a b c bs : Bytes} {n at r q : ℕ} → n ≡ past 0 (length bs) → Put a at (k ∷ u n) r b → Put b r bs q c → Put a at (k ∷ sized bs) q c
+pub headed-put : (k : ℕ) {a b c bs : Bytes} {n at r q : ℕ} → n ≡ past 0 (length bs) → Put a at (k ∷ u n) r b → Put b r bs q c → Put a at (k ∷ sized bs) q c
 unfolding past sized
 headed-put k {a} {b} {c} {bs} {n} {at} {r} {q} m x y = go (decLe (2 ^ 63) (length bs))
   where
@@ -146,7 +146,7 @@ past-none : past 0 0 ≡ 0
 unfolding past
 past-none = omega arith
 
-past-some : (n : ℕ) → past 0 (suc n) ≡ 0 → ⊥
+pub past-some : (n : ℕ) → past 0 (suc n) ≡ 0 → ⊥
 unfolding past
 past-some n e = omega arith
 

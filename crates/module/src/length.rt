@@ -15,7 +15,7 @@ pub fn content_len(k: u8, size: usize, count: u64) -> usize
 }
 
 // A section's number, the length of its content, and its content.
-fn sized_len(n: usize) -> usize
+pub fn sized_len(n: usize) -> usize
     ensures { λ r. ⌜ r ≡ sizedLen n ⌝ }
 {
     emit::tally(emit::tally(1, leb::group_count(n as u64)), n)

@@ -61,7 +61,7 @@ fn put_content(
 }
 
 // A section's number and the length of its content.
-fn put_head(k: u8, n: usize, out: &mut [u8], at: usize) -> usize
+pub fn put_head(k: u8, n: usize, out: &mut [u8], at: usize) -> usize
     ensures { λ r. ⌜ Put (now (out .entry)) at (k ∷ Binary.u n) r (now (out .exit)) ⌝ }
 {
     let a = emit::put(out, at, k);

@@ -9,13 +9,13 @@ use lib.Seq.{take-append-seam}
 use borrow.Author.Tests.{le-ltb}
 use Rattle.definition.specs.Basic.{at, sameBytes}
 use Rattle.definition.specs.Syntax.{Bytes, Identifier, Rec}
-use Rattle.definition.specs.Assemble.{moduleIn, sayRead, assemble, outputAfter, outcome, call}
+use Rattle.definition.specs.Assemble.{resolved, moduleIn, sayRead, assembleBy, assemble, outputAfter, outcome, callBy, call}
 use Rattle.renaming.specs.Shape.{shape, mapRec}
 use Rattle.renaming.specs.Kinds.{Kind, names}
 use Rattle.renaming.specs.Renamed.{Alike, Renamed, SaysTheSame}
 use Rattle.renaming.proofs.Examples.{first, second, renamed}
 use Rattle.renaming.proofs.Equal.{same-eq, eq-same, both-ways}
-use Rattle.renaming.proofs.Whole.{moduleIn-same}
+use Rattle.renaming.proofs.Whole.{resolved-same}
 use Rattle.renaming.proofs.Listed.{names-map}
 use Rattle.renaming.proofs.Places.{places, naming, named-back}
 
@@ -63,20 +63,24 @@ module _ (xs ys : List (Rec Identifier)) (same-shape : shape xs ≡ shape ys) (a
       let e = alike .equal-at-once k (h .0) (w .0) (f p) (f q) (g p) (g q) (in-first p h) (in-first q w) (in-second p h) (in-second q w) in
       both-ways _ _ (λ t. eq-same (g p) (g q) (e .0 (same-eq (f p) (f q) t))) (λ t. eq-same (f p) (f q) (e .1 (same-eq (g p) (g q) t)))
 
-  same-module : (room : ℕ) → moduleIn sameBytes room xs ≡ moduleIn sameBytes room ys
-  same-module room =
-      ap (moduleIn sameBytes room) (sym back-first)
-      ∙ moduleIn-same sameBytes (naming [] xs) (naming [] ys) Of equal-at-once room zs (record { holds = λ k p m. mem-at m })
-      ∙ ap (moduleIn sameBytes room) back-second
+  pub same-items : resolved sameBytes xs ≡ resolved sameBytes ys
+  same-items =
+      ap (resolved sameBytes) (sym back-first)
+      ∙ resolved-same sameBytes (naming [] xs) (naming [] ys) Of equal-at-once zs (record { holds = λ k p m. mem-at m })
+      ∙ ap (resolved sameBytes) back-second
 
-  same-length : length xs ≡ length ys
+  pub same-length : length xs ≡ length ys
   unfolding shape
   same-length = simp length-map at (ap length same-shape)
+
+  same-module : (room : ℕ) → moduleIn sameBytes room xs ≡ moduleIn sameBytes room ys
+  unfolding moduleIn
+  same-module room = rw (same-items, same-length)
 
 -- ## Demand 3 on streams, and on calls
 
 pub demand-3 : (s t : Bytes) (work room : ℕ) → 16384 ≤ work → Renamed s t → assemble s work room ≡ assemble t work room
-unfolding assemble sayRead
+unfolding assemble assembleBy sayRead
 demand-3 s t work room enough d =
     let l = same-length (d .first) (d .second) (d .same-shape) (d .alike) in
     let m = same-module (d .first) (d .second) (d .same-shape) (d .alike) room in
@@ -84,17 +88,17 @@ demand-3 s t work room enough d =
 
 -- a work area that is large enough may be any
 any-work : (s : Bytes) (work work′ room : ℕ) → 16384 ≤ work → 16384 ≤ work′ → assemble s work room ≡ assemble s work′ room
-unfolding assemble
+unfolding assemble assembleBy
 any-work s work work′ room h h′ = rw (le-ltb work 16384 h, le-ltb work′ 16384 h′)
 
-same-said : (s t : Bytes) (work work′ room room′ : ℕ) → 16384 ≤ work → 16384 ≤ work′ → room ≡ room′ → Renamed s t
+pub same-said : (s t : Bytes) (work work′ room room′ : ℕ) → 16384 ≤ work → 16384 ≤ work′ → room ≡ room′ → Renamed s t
     → assemble s work room ≡ assemble t work′ room′
 same-said s t work work′ room room′ h h′ e d = rw e (any-work s work work′ room′ h h′ ∙ demand-3 s t work′ room′ h′ d)
 
 pub demand-3-call : (s t : Bytes) (work work′ : List ℕ) (output output′ : Bytes)
     → 16384 ≤ length work → 16384 ≤ length work′ → length output ≡ length output′ → Renamed s t
     → SaysTheSame (call s work output) (call t work′ output′)
-unfolding call outcome outputAfter
+unfolding call callBy assemble outcome outputAfter
 demand-3-call s t work work′ output output′ h h′ e d =
     let a = same-said s t (length work) (length work′) (length output) (length output′) h h′ e d in
     record {

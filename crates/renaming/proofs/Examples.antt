@@ -25,7 +25,7 @@ use Rattle.renaming.proofs.Decide
 use Rattle.renaming.proofs.Decide.{renamed-by-test, alike-of}
 
 -- `unfolding computing` opens what the examples compute with
-computing : Unit {0}
+unfoldable pub computing : Unit {0}
 unfolding
     Basic._>>=_ Basic.each Basic.concatMap Basic.same Basic.sameBytes Basic.firstAt Basic.at Basic.isSome Basic.between
     Reader.byte Reader.many
@@ -45,7 +45,8 @@ unfolding
     Binary.unsigned Binary.u Binary.vec Binary.sized Binary.byte Binary.funcType Binary.externType Binary.blockType Binary.imm Binary.instruction
     Binary.expr Binary.runs Binary.func-code Binary.entries Binary.inSection Binary.joined Binary.content Binary.section Binary.preamble
     Binary.sectionNumbers Binary.sections Binary.module′
-    Assemble.items Assemble.resolved Assemble.moduleIn Assemble.say Assemble.sayRead Assemble.assemble
+    Assemble.scope Assemble.itemsIn Assemble.items Assemble.resolved Assemble.fitting Assemble.moduleIn Assemble.say Assemble.sayRead Assemble.assembleBy
+    Assemble.assemble
     Shape.shape
     Kinds.idNames Kinds.indexNames Kinds.localNames Kinds.typeNames Kinds.operandNames Kinds.instrNames Kinds.externNames Kinds.ownNames
     Kinds.sourceNames Kinds.fieldNames Kinds.namesFrom Kinds.names

@@ -1,16 +1,16 @@
--- Two namings of the places of some records give the same module, or the same refusal.
+-- Two namings of the places of some records give the same items, or the same refusal.
 use mathlib.Core.Path.{_≡_, refl, _∙_, sym}
 use Prim.Native.Nat.{ℕ}
 use mathlib.Core.Bool.{Bool, true, false}
 use mathlib.Core.List.{List, [], _∷_, _++_, map, map-append}
 use mathlib.Core.Option.{Option, none, some}
-use lib.ListN.{length-map}
 use borrow.Author.Tests.{eqb-true}
 use Rattle.definition.specs.Basic.{if_then_else_, Answer, ok, refused, _>>=_, each, at}
 use Rattle.definition.specs.Syntax.{Space, funcs, tables, mems, globals, types, elems, datas, code, sameSpace, FuncType, Rec}
 use Rattle.definition.specs.Deinline.{Numbered, deinlineFrom, deinline, importOrder}
 use Rattle.definition.specs.Names.{Namespace, Items, space, itemOf, taken, registerOne, register, resolveAll}
-use Rattle.definition.specs.Assemble.{items, resolved, moduleIn}
+use Rattle.definition.specs.Assemble.{itemsIn, items, resolved}
+use Rattle.laws.proofs.Passes.{scope-then}
 use Rattle.renaming.specs.Shape.{mapId, mapRec}
 use Rattle.renaming.specs.Kinds.{Kind, inSpace, Names, idNames, names}
 use Rattle.renaming.proofs.Every.{Every, parts, wholes, nothing-said, All}
@@ -116,17 +116,17 @@ module _ {P I : Type 0} (eq : I → I → Bool) (f g : P → I) (M : Kind → P 
       bind-same (resolveAll-same xs ts w fs (search parts)) λ ys. refl
 
   items-same : (fs : Numbered P) → Every M (numberedNames fs) → items eq (mapNumbered f fs) ≡ items eq (mapNumbered g fs)
-  unfolding items importOrder
+  unfolding items itemsIn importOrder
   items-same fs h =
-      bind-same (importsFrom-map f false fs ∙ sym (importsFrom-map g false fs)) λ _.
+      rw (scope-then eq (mapNumbered f fs) (λ Γ. itemsIn Γ (mapNumbered f fs)), scope-then eq (mapNumbered g fs) (λ Γ. itemsIn Γ (mapNumbered g fs)))
+      (bind-same (importsFrom-map f false fs ∙ sym (importsFrom-map g false fs)) λ _.
       bind-same (allTypes-map f fs ∙ sym (allTypes-map g fs)) λ ts.
       register-then fs [] nothing-said h _ _ λ xs w.
-      bind-same (resolveAll-same xs ts w fs h) λ is. rw (declared-map f fs, declared-map g fs)
+      bind-same (resolveAll-same xs ts w fs h) λ is. rw (declared-map f fs, declared-map g fs))
 
   -- Demand 3 on one list of places with two namings
-  pub moduleIn-same : (room : ℕ) (zs : List (Rec P)) → Every M (names zs)
-      → moduleIn eq room (map (mapRec f) zs) ≡ moduleIn eq room (map (mapRec g) zs)
-  unfolding moduleIn resolved deinline names
-  moduleIn-same room zs h =
+  pub resolved-same : (zs : List (Rec P)) → Every M (names zs) → resolved eq (map (mapRec f) zs) ≡ resolved eq (map (mapRec g) zs)
+  unfolding resolved deinline names
+  resolved-same zs h =
       let e = items-same (deinlineFrom 0 [] zs) (of-fields 0 0 [] zs h) in
-      rw (deinlineFrom-map f 0 [] zs, deinlineFrom-map g 0 [] zs, e, length-map zs (mapRec f), length-map zs (mapRec g))
+      rw (deinlineFrom-map f 0 [] zs, deinlineFrom-map g 0 [] zs, e)

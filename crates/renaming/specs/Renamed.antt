@@ -1,14 +1,18 @@
--- The premise of demand 3, on two streams: they are free of refusals 1 to 9 (10 is about the work area) and differ only in identifiers.
+-- Demand 3's premise, on two streams: they are free of refusals 1 to 9 (10 is about the work area) and differ only in identifiers. And
+-- what it says of two calls.
 use Prim.Native.Nat.{ℕ, _≤_}
 use mathlib.Core.Path.{_≡_}
 use mathlib.Core.Logic.{_↔_}
-use mathlib.Core.List.{List}
+use mathlib.Core.List.{List, [], _++_}
 use mathlib.Core.Option.{some}
 use lib.ListN.{length, take}
-use Rattle.definition.specs.Basic.{ok, at}
+use Rattle.definition.specs.Basic.{Answer, ok, refused, at, sameBytes}
 use Rattle.definition.specs.Syntax.{Bytes, Identifier, Rec}
 use Rattle.definition.specs.Read.{read}
-use Rattle.definition.specs.Assemble.{Outcome}
+use Rattle.definition.specs.Deinline.{Numbered, deinline}
+use Rattle.definition.specs.Names.{Scope}
+use Rattle.definition.specs.NameSection.{nameSection}
+use Rattle.definition.specs.Assemble.{scope, Outcome}
 use Rattle.renaming.specs.Shape.{shape}
 use Rattle.renaming.specs.Kinds.{Kind, Names, names}
 
@@ -38,3 +42,26 @@ pub record SaysTheSame (a b : Outcome) : Type 0 where
   pub rec : a .rec ≡ b .rec
   pub written : a .written ≡ b .written
   pub bytes : take (a .written) (a .output) ≡ take (b .written) (b .output)
+
+-- ## The call that also writes the names (document 02, §1)
+
+abbrev pub namesBy : Numbered Identifier → Answer (Scope Identifier) → Bytes
+namesBy fs (ok Γ) = nameSection Γ fs
+namesBy fs (refused n r) = []
+
+-- the name section of some records
+unfoldable pub namesOf : List (Rec Identifier) → Bytes
+namesOf rs = namesBy (deinline rs) (scope sameBytes (deinline rs))
+
+-- two calls that write the same bytes before their name sections
+pub record WritesBefore (section section′ : Bytes) (a b : Outcome) : Type 0 where
+  pub before : Bytes
+  pub bytes : take (a .written) (a .output) ≡ before ++ section
+  pub bytes′ : take (b .written) (b .output) ≡ before ++ section′
+
+-- two calls that say the same but for their name sections. A refused call writes nothing, and a module is never empty
+pub record SaysTheSameBefore (section section′ : Bytes) (a b : Outcome) : Type 0 where
+  pub number : a .number ≡ b .number
+  pub rec : a .rec ≡ b .rec
+  pub nothing : (a .written ≡ 0) ↔ (b .written ≡ 0)
+  pub something : (a .written ≡ 0 → ⊥) → WritesBefore section section′ a b

@@ -3,7 +3,7 @@ use typeuse::List;
 use typeuse::TypeUse;
 ghost use mathlib.Core.Path.{_≡_};
 ghost use mathlib.Core.Bool.{true, false};
-ghost use Prim.Native.Nat.{_+_, _≤_, _<_, min};
+ghost use Prim.Native.Nat.{_+_, _≤_, _<_};
 ghost use lib.ListN.{length, set};
 ghost use Rattle.definition.specs.Types as Types;
 ghost use Rattle.signatures.specs.Table.{ofUse, signatureOf, listIn, entryIn, listWords, typeWords, flagOf};
@@ -71,23 +71,12 @@ pub fn type_at(work: &[u32], at: usize) -> Signature
     }
 }
 
-// A place as a word: whatever stands past the stream's end stands at its end.
-fn clipped(s: &[u8], at: usize) -> u32
-    requires { ⌜ length (now s) ≤ 65536 ⌝ }
-    ensures { λ r. ⌜ r ≡ min at (length (now (s .entry))) ⌝ }
-{
-    if at < s.len() {
-        return at as u32;
-    }
-    s.len() as u32
-}
-
 // A list is written: its place and its count.
 fn put_list(s: &[u8], work: &mut [u32], at: usize, l: List)
     requires { ⌜ (length (now s) ≤ 65536) × (at + 1 < length (now work)) ⌝ }
     ensures { λ _. ⌜ now (work .exit) ≡ listWords (now (s .entry)) (now (work .entry)) at l ⌝ }
 {
-    let place = clipped(s, l.at);
+    let place = space::place_in(s, l.at);
     work[at] = place;
     work[at + 1] = l.count;
 }

@@ -15,8 +15,8 @@ pub fn word(work: &[u32], at: usize) -> u32
     0
 }
 
-// A place in the stream, or its end.
-fn place_in(s: &[u8], at: usize) -> u32
+// A place as a word: whatever stands past the stream's end stands at its end.
+pub fn place_in(s: &[u8], at: usize) -> u32
     requires { ⌜ length (now s) ≤ 65536 ⌝ }
     ensures { λ r. ⌜ r ≡ min at (length (now (s .entry))) ⌝ }
 {

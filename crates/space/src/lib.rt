@@ -5,6 +5,7 @@ pub mod name;
 pub mod table;
 
 pub use area::clear;
+pub use area::place_in;
 pub use area::put_name;
 pub use area::word;
 pub use label::depth_of;

@@ -4,7 +4,6 @@ use fields::FieldAt;
 use sources::Seen;
 ghost use mathlib.Core.Path.{_≡_};
 ghost use Prim.Native.Nat.{ℕ, _+_, _≤_, _<_};
-ghost use lib.ListN.{getD};
 ghost use Rattle.walk.specs.Walk.{Ahead, visitIn, visitOf, begin, endIn, stopIn, cursorIn};
 
 // Where a walk stands: the byte and the number of the next record, how many own functions came before it, how many fields it may
@@ -48,23 +47,13 @@ pub fn start() -> Cursor
     }
 }
 
-// A word of the work area, 0 beyond its end.
-fn word(work: &[u32], i: usize) -> u32
-    ensures { λ r. ⌜ r ≡ getD (now (work .entry)) i 0 ⌝ }
-{
-    if i < work.len() {
-        return work[i];
-    }
-    0
-}
-
 // Where the n-th body ended.
 fn body_end(work: &[u32], n: u32) -> Stop
     ensures { λ r. ⌜ r ≡ endIn (now (work .entry)) n ⌝ }
 {
     let i = 8 + 2 * (n as usize);
-    let at = word(work, i);
-    let rec = word(work, i + 1);
+    let at = space::word(work, i);
+    let rec = space::word(work, i + 1);
     Stop {
         at: at as usize,
         rec,

@@ -86,6 +86,52 @@ pub fn call(assemble: Assemble, stream: &[u8], work: usize, room: usize, salt: u
     (said, wrong)
 }
 
+/// One call in which nothing that is lent was ever written, and each part ends
+/// where its own piece of the heap does: for a memory checker, which then sees
+/// a step that hangs on what was lent, or a byte read or written outside it.
+fn bare_call(assemble: Assemble, stream: &[u8], work: usize, room: usize) -> (Said, Vec<&'static str>) {
+    let stream: Box<[u8]> = stream.into();
+    let mut words = Box::<[u32]>::new_uninit_slice(work);
+    let mut bytes = Box::<[u8]>::new_uninit_slice(room);
+    let mut answer = Box::<[u32; 4]>::new_uninit();
+    // SAFETY: as in `call`. The contract says that the call writes the whole work
+    // area, all of the answer, and as many bytes as it answers.
+    let ([number, record, length, _], words, module) = unsafe {
+        assemble(
+            stream.as_ptr(),
+            stream.len(),
+            words.as_mut_ptr().cast(),
+            work,
+            bytes.as_mut_ptr().cast(),
+            room,
+            answer.as_mut_ptr(),
+        );
+        let answer = *answer.assume_init();
+        let written = if answer[2] as usize <= room { answer[2] as usize } else { 0 };
+        let module = std::slice::from_raw_parts(bytes.as_ptr().cast::<u8>(), written);
+        (answer, words.assume_init(), module.to_vec())
+    };
+    let wrong = if words.iter().all(|word| *word == 0) { vec![] } else { vec!["the work area is not all zeros"] };
+    match number {
+        0 if length as usize == module.len() => (Said::Module { records: record, bytes: module }, wrong),
+        0 => (Said::Module { records: record, bytes: module }, vec!["it says it wrote more than it was lent"]),
+        _ => (Said::Refused { number, record }, wrong),
+    }
+}
+
+/// A bare call, and for a module one more, with just enough room.
+pub fn examine_bare(assemble: Assemble, stream: &[u8], work: usize, room: usize) -> (Said, Vec<&'static str>) {
+    let (said, mut wrong) = bare_call(assemble, stream, work, room);
+    if let Said::Module { bytes, .. } = &said {
+        let (same, more) = bare_call(assemble, stream, work, bytes.len());
+        wrong.extend(more);
+        if same != said {
+            wrong.push("with just enough room it says something else");
+        }
+    }
+    (said, wrong)
+}
+
 /// The call, and for a module two more: with just enough room, and with one
 /// byte less, which must be refused 18 at the count of records.
 pub fn examine(assemble: Assemble, stream: &[u8], work: usize, room: usize) -> (Said, Vec<&'static str>) {
@@ -140,7 +186,7 @@ mod tests {
     }
 
     macro_rules! slips {
-        ($($name:ident $slip:literal $room:literal $seen:expr;)*) => {$(
+        ($($name:ident $examine:ident $slip:literal $room:literal $seen:expr;)*) => {$(
             #[test]
             fn $name() {
                 unsafe extern "C" fn with_slip(
@@ -149,23 +195,27 @@ mod tests {
                     assemble($slip, work, work_len, out, out_len, answer)
                 }
                 let seen: Option<&str> = $seen;
-                let (_, wrong) = examine(with_slip, b"", 100, $room);
+                let (_, wrong) = $examine(with_slip, b"", 100, $room);
                 assert_eq!(wrong.first().copied(), seen);
             }
         )*};
     }
 
     slips! {
-        no_slip "" 20 None;
-        no_slip_no_room "" 5 None;
-        work_left "work" 20 Some("the work area is not all zeros");
-        work_outside "beyond work" 20 Some("words beyond the work area changed");
-        output_beyond "beyond" 20 Some("bytes beyond the module changed");
-        output_of_a_refusal "beyond" 5 Some("a refusal changed the output");
-        too_long "long" 20 Some("it says it wrote more than it was lent");
-        two_records "record" 20 Some("its record differs from its record once more");
-        two_numbers "number" 20 Some("it returns another number than its answer has");
-        length_of_a_refusal "length" 5 Some("a refusal has a length");
-        record_of_18 "room" 20 Some("with a byte less it is not refused 18 at the count of records");
+        no_slip examine "" 20 None;
+        no_slip_no_room examine "" 5 None;
+        work_left examine "work" 20 Some("the work area is not all zeros");
+        work_outside examine "beyond work" 20 Some("words beyond the work area changed");
+        output_beyond examine "beyond" 20 Some("bytes beyond the module changed");
+        output_of_a_refusal examine "beyond" 5 Some("a refusal changed the output");
+        too_long examine "long" 20 Some("it says it wrote more than it was lent");
+        two_records examine "record" 20 Some("its record differs from its record once more");
+        two_numbers examine "number" 20 Some("it returns another number than its answer has");
+        length_of_a_refusal examine "length" 5 Some("a refusal has a length");
+        record_of_18 examine "room" 20 Some("with a byte less it is not refused 18 at the count of records");
+        bare_no_slip examine_bare "" 20 None;
+        bare_no_room examine_bare "" 5 None;
+        bare_work_left examine_bare "work" 20 Some("the work area is not all zeros");
+        bare_too_long examine_bare "long" 20 Some("it says it wrote more than it was lent");
     }
 }

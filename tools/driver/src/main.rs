@@ -1,62 +1,52 @@
 //! Asks the assembler of many streams, for tools/compare.py.
 //!
-//!   driver [--work WORDS] [--room BYTES] < STREAMS
+//!   driver [--names] [--bare] [--work WORDS] [--room BYTES] < STREAMS
 //!
 //! Each stream comes after its length in 4 bytes, low first. One line for each:
 //! `ok HEX` or `refused N at R`, and behind it ` but ...` whatever is wrong with
 //! what the call left: the output beyond the module or after a refusal, the work
 //! area, the answer's four words. 16,384 words and 65,536 bytes are lent if
-//! nothing else is said.
+//! nothing else is said. With --bare they are lent as they come from the heap,
+//! for a run under a memory checker. With --names the call that also writes the
+//! name section is asked.
 mod lent;
 
-use lent::{examine, Said};
+use lent::{examine, examine_bare, Assemble, Said};
 use std::fmt::Write as _;
 use std::io::{Read, Write};
 
-#[cfg(feature = "library")]
 mod library {
-    extern "C" {
-        pub fn barrizuppa_assemble(
-            stream: *const u8,
-            stream_len: usize,
-            work: *mut u32,
-            work_len: usize,
-            out: *mut u8,
-            out_len: usize,
-            answer: *mut [u32; 4],
-        ) -> u32;
+    macro_rules! calls {
+        ($($name:ident)*) => {
+            extern "C" {$(
+                pub fn $name(
+                    stream: *const u8,
+                    stream_len: usize,
+                    work: *mut u32,
+                    work_len: usize,
+                    out: *mut u8,
+                    out_len: usize,
+                    answer: *mut [u32; 4],
+                ) -> u32;
+            )*}
+        };
     }
+
+    calls! { barrizuppa_assemble barrizuppa_assemble_names }
 }
 
-#[cfg(not(feature = "library"))]
-mod library {
-    /// STUB: the empty module for the empty stream, 4 at 0 for any other.
-    pub unsafe extern "C" fn barrizuppa_assemble(
-        _stream: *const u8,
-        stream_len: usize,
-        work: *mut u32,
-        work_len: usize,
-        out: *mut u8,
-        out_len: usize,
-        answer: *mut [u32; 4],
-    ) -> u32 {
-        const MODULE: &[u8] = b"\0asm\x01\0\0\0";
-        work.write_bytes(0, work_len);
-        *answer = match (stream_len, out_len) {
-            (0, 8..) => [0, 0, 8, 0],
-            (0, _) => [18, 0, 0, 0],
-            _ => [4, 0, 0, 0],
-        };
-        if (*answer)[0] == 0 {
-            out.copy_from(MODULE.as_ptr(), MODULE.len());
-        }
-        (*answer)[0]
-    }
+/// What is asked, and the words and bytes it is lent.
+struct Options {
+    assemble: Assemble,
+    bare: bool,
+    work: usize,
+    room: usize,
 }
 
 /// A stream's line.
-fn line(stream: &[u8], work: usize, room: usize) -> String {
-    let (said, wrong) = examine(library::barrizuppa_assemble, stream, work, room);
+fn line(stream: &[u8], options: &Options) -> String {
+    let examine = if options.bare { examine_bare } else { examine };
+    let (said, wrong) = examine(options.assemble, stream, options.work, options.room);
     let mut line = match said {
         Said::Module { bytes, .. } => bytes.iter().fold("ok ".to_string(), |mut line, byte| {
             write!(line, "{byte:02X}").unwrap();
@@ -70,24 +60,26 @@ fn line(stream: &[u8], work: usize, room: usize) -> String {
     line
 }
 
-/// The words and bytes to lend; None where the arguments make no sense.
-fn options() -> Option<(usize, usize)> {
-    let (mut work, mut room) = (16_384, 65_536);
+/// None where the arguments make no sense.
+fn options() -> Option<Options> {
+    let mut options =
+        Options { assemble: library::barrizuppa_assemble, bare: false, work: 16_384, room: 65_536 };
     let mut arguments = std::env::args().skip(1);
     while let Some(argument) = arguments.next() {
-        let value = arguments.next()?.parse().ok()?;
         match argument.as_str() {
-            "--work" => work = value,
-            "--room" => room = value,
+            "--names" => options.assemble = library::barrizuppa_assemble_names,
+            "--bare" => options.bare = true,
+            "--work" => options.work = arguments.next()?.parse().ok()?,
+            "--room" => options.room = arguments.next()?.parse().ok()?,
             _ => return None,
         }
     }
-    Some((work, room))
+    Some(options)
 }
 
 fn main() -> std::io::Result<()> {
-    let Some((work, room)) = options() else {
-        eprintln!("usage: driver [--work WORDS] [--room BYTES]");
+    let Some(options) = options() else {
+        eprintln!("usage: driver [--names] [--bare] [--work WORDS] [--room BYTES]");
         std::process::exit(2);
     };
     let mut set = Vec::new();
@@ -100,7 +92,7 @@ fn main() -> std::io::Result<()> {
             eprintln!("driver: the batch is broken");
             std::process::exit(2);
         };
-        writeln!(out, "{}", line(stream, work, room))?;
+        writeln!(out, "{}", line(stream, &options))?;
         rest = &rest[4 + stream.len()..];
     }
     Ok(())

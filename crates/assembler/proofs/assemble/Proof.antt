@@ -1,13 +1,10 @@
-use Rattle.assembler.proofs.Whole.{call-is}
+use Rattle.assembler.proofs.Whole.{plain-call}
 use borrow.Author.Needs.{needs}
 use Rattle.assembler.proofs.assemble.Statement.{statement}
 use Rattle.assembler.proofs.assemble.Tie as tie
 
-run-requires : tie.Need-run-requires
-run-requires c κs = search needs
-
-clear-requires : tie.Need-clear-requires
-clear-requires c κs = search needs
+call-requires : tie.Need-call-requires
+call-requires c κs = search needs
 
 same-length : tie.Need-same-length
 same-length c = search needs
@@ -16,7 +13,7 @@ same-length-2 : tie.Need-same-length-2
 same-length-2 c = search needs
 
 returns : tie.Need-returns
-returns c = search call-is
+returns c = search plain-call
 
 pub assemble-spec : {M : Type 1} → statement M
-assemble-spec = tie.close (tie.spec run-requires clear-requires same-length same-length-2 returns)
+assemble-spec = tie.close (tie.spec call-requires same-length same-length-2 returns)

@@ -15,17 +15,17 @@ register-requires c κs = (search needs, search types-long, search types-ahead, 
 enum-known-n : tie.Need-enum-known-n
 enum-known-n c = search needs
 
+refuse-requires : tie.Need-refuse-requires
+refuse-requires c κs = search needs
+
 same-length : tie.Need-same-length
 same-length c = search needs
-
-same-length-2 : tie.Need-same-length-2
-same-length-2 c = search needs
 
 returns : tie.Need-returns
 returns c = search types-done
 
-same-length-3 : tie.Need-same-length-3
-same-length-3 c = search needs
+same-length-2 : tie.Need-same-length-2
+same-length-2 c = search needs
 
 returns-2 : tie.Need-returns-2
 returns-2 c = search types-not
@@ -38,8 +38,8 @@ intern-spec =
     enum-known-declared
     register-requires
     enum-known-n
+    refuse-requires
     same-length
-    same-length-2
     returns
-    same-length-3
+    same-length-2
     returns-2)

@@ -1,4 +1,4 @@
-use Rattle.assembler.proofs.Stages.{resolve-long, resolve-writable, resolve-tally, resolve-done, resolve-not}
+use Rattle.assembler.proofs.Stages.{resolve-long, resolve-done, resolve-not}
 use borrow.Author.Needs.{needs}
 use Rattle.assembler.proofs.resolve.Statement.{statement}
 use Rattle.assembler.proofs.resolve.Tie as tie
@@ -12,23 +12,20 @@ enum-told c = search needs
 tally-types-requires : tie.Need-tally-types-requires
 tally-types-requires c κs = search resolve-long
 
-write-module-requires : tie.Need-write-module-requires
-write-module-requires c κs = (search resolve-writable, search resolve-tally)
-
 enum-known-v : tie.Need-enum-known-v
 enum-known-v c = search needs
+
+refuse-requires : tie.Need-refuse-requires
+refuse-requires c κs = search needs
 
 same-length : tie.Need-same-length
 same-length c = search needs
 
-same-length-2 : tie.Need-same-length-2
-same-length-2 c = search needs
-
 returns : tie.Need-returns
 returns c = search resolve-done
 
-same-length-3 : tie.Need-same-length-3
-same-length-3 c = search needs
+same-length-2 : tie.Need-same-length-2
+same-length-2 c = search needs
 
 returns-2 : tie.Need-returns-2
 returns-2 c = search resolve-not
@@ -40,10 +37,9 @@ resolve-spec =
     check-fields-requires
     enum-told
     tally-types-requires
-    write-module-requires
     enum-known-v
+    refuse-requires
     same-length
-    same-length-2
     returns
-    same-length-3
+    same-length-2
     returns-2)

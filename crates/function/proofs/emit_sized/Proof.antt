@@ -1,49 +1,89 @@
-use Rattle.function.proofs.Laws.{sized-long, sized-uses, sized-to, sized-not}
+use Rattle.function.proofs.Laws.{sized-beyond, sized-after, sized-long, sized-uses, sized-short, sized-again, sized-not}
 use borrow.Author.Needs.{needs}
 use Rattle.function.proofs.emit_sized.Statement.{statement}
 use Rattle.function.proofs.emit_sized.Tie as tie
 
-measure-code-requires : tie.Need-measure-code-requires
-measure-code-requires c κs = search needs
-
-enum-known-n : tie.Need-enum-known-n
-enum-known-n c = search needs
-
-put-u-requires : tie.Need-put-u-requires
-put-u-requires c κs = search needs
-
-emit-code-requires : tie.Need-emit-code-requires
-emit-code-requires c κs = search (sized-long, sized-uses, needs)
-
-enum-known-n-2 : tie.Need-enum-known-n-2
-enum-known-n-2 c = search needs
+measure-sized-requires : tie.Need-measure-sized-requires
+measure-sized-requires c κs = search needs
 
 same-length : tie.Need-same-length
 same-length c = search needs
 
+returns : tie.Need-returns
+returns c = search sized-beyond
+
+add-a : tie.Need-add-a
+add-a c = search needs
+
+emit-code-requires : tie.Need-emit-code-requires
+emit-code-requires c κs = search needs
+
+enum-known-b : tie.Need-enum-known-b
+enum-known-b c = search needs
+
+sub-n : tie.Need-sub-n
+sub-n c = search sized-after
+
+cast-put : tie.Need-cast-put
+cast-put c = search needs
+
+put-requires : tie.Need-put-requires
+put-requires c κs = search needs
+
 same-length-2 : tie.Need-same-length-2
 same-length-2 c = search needs
-
-returns : tie.Need-returns
-returns c = search sized-to
 
 same-length-3 : tie.Need-same-length-3
 same-length-3 c = search needs
 
 returns-2 : tie.Need-returns-2
-returns-2 c = search sized-not
+returns-2 c = search sized-short
+
+emit-again-requires : tie.Need-emit-again-requires
+emit-again-requires c κs = (search needs, search (sized-long, needs), search needs, search needs, search (sized-uses, needs))
+
+enum-known-n : tie.Need-enum-known-n
+enum-known-n c = search needs
+
+same-length-4 : tie.Need-same-length-4
+same-length-4 c = search needs
+
+same-length-5 : tie.Need-same-length-5
+same-length-5 c = search needs
+
+returns-3 : tie.Need-returns-3
+returns-3 c = search sized-again
+
+same-length-6 : tie.Need-same-length-6
+same-length-6 c = search needs
+
+same-length-7 : tie.Need-same-length-7
+same-length-7 c = search needs
+
+returns-4 : tie.Need-returns-4
+returns-4 c = search sized-not
 
 pub emit-sized-spec : {M : Type 1} → statement M
 emit-sized-spec =
     tie.close
     (tie.spec
-    measure-code-requires
-    enum-known-n
-    put-u-requires
-    emit-code-requires
-    enum-known-n-2
+    measure-sized-requires
     same-length
-    same-length-2
     returns
+    add-a
+    emit-code-requires
+    enum-known-b
+    sub-n
+    cast-put
+    put-requires
+    same-length-2
     same-length-3
-    returns-2)
+    returns-2
+    emit-again-requires
+    enum-known-n
+    same-length-4
+    same-length-5
+    returns-3
+    same-length-6
+    same-length-7
+    returns-4)

@@ -3,8 +3,8 @@ use borrow.Author.Needs.{needs}
 use Rattle.content.proofs.emitters.put_inline_table.Statement.{statement}
 use Rattle.content.proofs.emitters.put_inline_table.Tie as tie
 
-count-funcs-requires : tie.Need-count-funcs-requires
-count-funcs-requires c κs = search needs
+count-indices-requires : tie.Need-count-indices-requires
+count-indices-requires c κs = search needs
 
 put-inline-table-requires : tie.Need-put-inline-table-requires
 put-inline-table-requires c κs = search needs
@@ -17,4 +17,4 @@ returns c = search (table-put) depth 8
 
 pub put-inline-table-spec : {M : Type 1} → statement M
 put-inline-table-spec =
-    tie.close (tie.spec count-funcs-requires put-inline-table-requires same-length returns)
+    tie.close (tie.spec count-indices-requires put-inline-table-requires same-length returns)

@@ -3,8 +3,8 @@ use borrow.Author.Needs.{needs}
 use Rattle.signatures.proofs.entry.put_list.Statement.{statement}
 use Rattle.signatures.proofs.entry.put_list.Tie as tie
 
-clipped-requires : tie.Need-clipped-requires
-clipped-requires c κs = search needs
+place-in-requires : tie.Need-place-in-requires
+place-in-requires c κs = search needs
 
 mul-work : tie.Need-mul-work
 mul-work c = search needs
@@ -31,7 +31,7 @@ pub put-list-spec : {M : Type 1} → statement M
 put-list-spec =
     tie.close
     (tie.spec
-    clipped-requires
+    place-in-requires
     mul-work
     slice-write-work
     add-work

@@ -1,0 +1,305 @@
+//! Document 01's samples, refusals, and what a call leaves of what it is lent.
+use barrizuppa::{
+    assemble, assemble_into, assemble_names, assemble_names_into, Refusal, STREAM_BYTES, WORK_WORDS,
+};
+
+/// S1: the empty module.
+const S1: &[u8] = b"\0asm\x01\0\0\0";
+
+/// S7: a function, exported as f, that returns its parameter x.
+const S7: &[u8] = b"\x03\0\x01\x01f\0\0\x01\x01x\x7F\x01\x7F\0\x20\x02\x01x\xFF";
+const S7_MODULE: &[u8] =
+    b"\0asm\x01\0\0\0\x01\x06\x01\x60\x01\x7F\x01\x7F\x03\x02\x01\0\x07\x05\x01\x01f\0\0\x0A\x06\x01\x04\0\x20\0\x0B";
+const S7_RECORDS: u32 = 3;
+
+/// Its name section: in function 0, local 0 is x.
+const S7_NAMES: &[u8] = b"\0\x0D\x04name\x02\x06\x01\0\x01\0\x01x";
+
+/// S7 with y for the second x.
+const S7_WITH_Y: &[u8] = b"\x03\0\x01\x01f\0\0\x01\x01x\x7F\x01\x7F\0\x20\x02\x01y\xFF";
+
+fn refused(number: u32, record: u32) -> Result<Vec<u8>, Refusal> {
+    Err(Refusal { number, record })
+}
+
+/// S1's bytes and these sections.
+fn module(sections: &[&[u8]]) -> Vec<u8> {
+    [S1, &sections.concat()].concat()
+}
+
+/// A type use without index, of some parameters and results.
+fn signature(params: usize, results: usize) -> Vec<u8> {
+    [
+        vec![0, params as u8],
+        b"\0\x7F".repeat(params),
+        vec![results as u8],
+        vec![0x7F; results],
+    ]
+    .concat()
+}
+
+/// A function of this type use and body, without locals.
+fn function(type_use: &[u8], body: &[u8]) -> Vec<u8> {
+    [b"\x03\0\0\0", type_use, b"\0", body, b"\xFF"].concat()
+}
+
+/// A function of `depth` nested blocks.
+fn nested(depth: usize) -> Vec<u8> {
+    function(
+        &signature(0, 0),
+        &[b"\x02\0\0\0\0".repeat(depth), b"\x0B\0".repeat(depth)].concat(),
+    )
+}
+
+#[test]
+fn s1_the_empty_stream() {
+    assert_eq!(assemble(b""), Ok(S1.to_vec()));
+}
+
+#[test]
+fn s7_a_function_and_its_parameter() {
+    assert_eq!(S7_MODULE.len(), 35);
+    assert_eq!(assemble(S7), Ok(S7_MODULE.to_vec()));
+    assert_eq!(assemble(S7_WITH_Y), refused(14, 1));
+}
+
+#[test]
+fn s8_a_local_after_the_parameters_of_a_declared_type() {
+    // Type 0 is [i32 i64] -> []; a function of type 0 with a local l: local.get l, drop.
+    let stream = b"\x01\0\x02\x7F\x7E\0\x03\0\0\0\x01\0\0\0\x01\x01l\x7F\x20\x02\x01l\x1A\xFF";
+    let code = b"\x0A\x09\x01\x07\x01\x01\x7F\x20\x02\x1A\x0B";
+    assert_eq!(
+        assemble(stream),
+        Ok(module(&[
+            b"\x01\x06\x01\x60\x02\x7F\x7E\0",
+            b"\x03\x02\x01\0",
+            code
+        ]))
+    );
+}
+
+#[test]
+fn s9_a_memory_with_data() {
+    let stream = b"\x05\0\0\x02\0\x03abc";
+    assert_eq!(
+        assemble(stream),
+        Ok(module(&[
+            b"\x05\x04\x01\x01\x01\x01",
+            b"\x0B\x09\x01\0\x41\0\x0B\x03abc"
+        ]))
+    );
+}
+
+#[test]
+fn s11_128_nested_blocks_and_no_more() {
+    let body = [vec![0], b"\x02\x40".repeat(128), vec![0x0B; 129]].concat();
+    let code = [&b"\x0A\x85\x03\x01\x82\x03"[..], &body].concat();
+    assert_eq!(
+        assemble(&nested(128)),
+        Ok(module(&[b"\x01\x04\x01\x60\0\0", b"\x03\x02\x01\0", &code]))
+    );
+    assert_eq!(assemble(&nested(129)), refused(7, 129));
+}
+
+#[test]
+fn the_longest_stream_gives_a_longer_module_and_one_byte_more_is_refused() {
+    let data = [b'z'; STREAM_BYTES - 6];
+    let mut stream = [b"\x0A\0\0\xFA\xFF\x03", &data[..]].concat();
+    assert_eq!(stream.len(), STREAM_BYTES);
+    let section = [b"\x0B\xFF\xFF\x03\x01\x01\xFA\xFF\x03", &data[..]].concat();
+    assert_eq!(assemble(&stream), Ok(module(&[&section])));
+    stream.push(0);
+    assert_eq!(assemble(&stream), refused(1, 0));
+}
+
+#[test]
+fn a_fault_of_each_number_but_1_10_12_and_18() {
+    let bare = &signature(0, 0);
+    let import = b"\x02\x01m\x01n\x02\0\0\x01";
+    let memory = b"\x05\0\0\0\0\x01";
+    let cases = [
+        (b"\x03\0".to_vec(), 2, 0),
+        (b"\x08\x01\xFF\xFF\xFF\xFF\x10".to_vec(), 3, 0),
+        (b"\0".to_vec(), 4, 0),
+        (b"\x01\x01,\0\0".to_vec(), 5, 0),
+        (b"\x07\x01\x1F\0\x01\0".to_vec(), 6, 0),
+        ([&memory[..], b"\x01\0\x41"].concat(), 7, 1),
+        (function(bare, b"\x0B\0"), 8, 1),
+        (b"\x08\x01\0\x08\x01\0".to_vec(), 9, 1),
+        ([&memory[..], import].concat(), 11, 1),
+        (b"\x01\x01t\0\0\x01\x01t\0\0".to_vec(), 13, 1),
+        (b"\x08\x02\x01f".to_vec(), 14, 0),
+        (function(b"\x01\x07\x01\0\x7F\0", b""), 15, 0),
+        (
+            [b"\x01\0\0\0", &function(b"\x01\0\x01\0\x7F\0", b"")[..]].concat(),
+            16,
+            1,
+        ),
+        (function(bare, b"\x02\x01a\0\0\0\x0B\x01b"), 17, 2),
+    ];
+    for (stream, number, record) in cases {
+        assert_eq!(assemble(&stream), refused(number, record), "{stream:02X?}");
+    }
+}
+
+#[test]
+fn a_257th_type() {
+    // A function of one type, with a block of each of so many others.
+    let blocks = |count| {
+        let block =
+            |at: usize| [b"\x02\0", &signature(1 + at % 64, at / 64)[..], b"\x0B\0"].concat();
+        function(
+            &signature(0, 0),
+            &(0..count).flat_map(block).collect::<Vec<u8>>(),
+        )
+    };
+    assert!(assemble(&blocks(255)).is_ok());
+    assert_eq!(assemble(&blocks(256)), refused(12, 1 + 2 * 255));
+}
+
+#[test]
+fn just_enough_room_and_a_byte_less() {
+    let mut work = vec![0; WORK_WORDS];
+    let mut out = [0xAA; 35];
+    assert_eq!(assemble_into(S7, &mut work, &mut out), Ok(35));
+    assert_eq!(out, S7_MODULE);
+
+    let mut out = [0xAA; 34];
+    assert_eq!(
+        assemble_into(S7, &mut work, &mut out),
+        Err(Refusal {
+            number: 18,
+            record: S7_RECORDS
+        })
+    );
+    assert_eq!(out, [0xAA; 34]);
+}
+
+#[test]
+fn old_bytes_beyond_the_module_and_after_a_refusal() {
+    let mut work = vec![0; WORK_WORDS];
+    let mut out: Vec<u8> = (0..200).collect();
+    let old = out.clone();
+    assert_eq!(
+        assemble_into(S7_WITH_Y, &mut work, &mut out),
+        Err(Refusal {
+            number: 14,
+            record: 1
+        })
+    );
+    assert_eq!(out, old);
+    assert_eq!(assemble_into(S7, &mut work, &mut out), Ok(35));
+    assert_eq!(out[..35], *S7_MODULE);
+    assert_eq!(out[35..], old[35..]);
+}
+
+#[test]
+fn the_work_area_is_zeros_after_every_call() {
+    let mut out = [0; 64];
+    for words in [WORK_WORDS, WORK_WORDS + 1, 2 * WORK_WORDS] {
+        for (stream, answer) in [
+            (S7, Ok(35)),
+            (
+                S7_WITH_Y,
+                Err(Refusal {
+                    number: 14,
+                    record: 1,
+                }),
+            ),
+            (
+                &[0; STREAM_BYTES + 1],
+                Err(Refusal {
+                    number: 1,
+                    record: 0,
+                }),
+            ),
+        ] {
+            let mut work: Vec<u32> = (1..).take(words).collect();
+            assert_eq!(assemble_into(stream, &mut work, &mut out), answer);
+            assert!(work.iter().all(|word| *word == 0));
+        }
+    }
+}
+
+#[test]
+fn a_work_area_that_is_too_short() {
+    let mut out = [0xAA; 64];
+    for words in [0, 1, WORK_WORDS - 1] {
+        let mut work = vec![u32::MAX; words];
+        assert_eq!(
+            assemble_into(S7, &mut work, &mut out),
+            Err(Refusal {
+                number: 10,
+                record: 0
+            })
+        );
+        assert!(work.iter().all(|word| *word == 0));
+        assert_eq!(out, [0xAA; 64]);
+        // A stream that is too long comes first.
+        assert_eq!(
+            assemble_into(&[0; STREAM_BYTES + 1], &mut work, &mut out),
+            Err(Refusal {
+                number: 1,
+                record: 0
+            })
+        );
+    }
+}
+
+#[test]
+fn a_refusal_in_words() {
+    let refusal = assemble(S7_WITH_Y).unwrap_err();
+    assert_eq!(refusal.to_string(), "refused 14 at 1: no such identifier");
+    let error: Box<dyn std::error::Error> = refusal.into();
+    assert_eq!(
+        error.downcast_ref(),
+        Some(&Refusal {
+            number: 14,
+            record: 1
+        })
+    );
+    // Every number has words of its own.
+    let meanings: std::collections::HashSet<_> = (0..=18)
+        .map(|number| Refusal { number, record: 0 }.meaning())
+        .collect();
+    assert_eq!(meanings.len(), 19);
+}
+
+#[test]
+fn names_of_functions_parameters_and_locals() {
+    assert_eq!(assemble_names(b""), Ok(S1.to_vec()));
+    assert_eq!(assemble_names(S7), Ok([S7_MODULE, S7_NAMES].concat()));
+    assert_eq!(assemble_names(S7_WITH_Y), refused(14, 1));
+
+    // An imported function g, whose parameter has no effect; a function f with a parameter x and a local l.
+    let stream = b"\x02\x01m\x01n\0\x01g\0\x01\x01y\x7F\0\x03\x01f\0\0\0\x01\x01x\x7F\0\x01\x01l\x7E\xFF";
+    let names = b"\0\x19\x04name\x01\x07\x02\0\x01g\x01\x01f\x02\x09\x01\x01\x02\0\x01x\x01\x01l";
+    let module = assemble(stream).unwrap();
+    assert_eq!(assemble_names(stream), Ok([&module, &names[..]].concat()));
+}
+
+#[test]
+fn names_need_room_too() {
+    let all = [S7_MODULE, S7_NAMES].concat();
+    let mut work = vec![7; WORK_WORDS];
+    let mut out = vec![0xA5; all.len()];
+    let room = out.len() - 1;
+    assert_eq!(
+        assemble_names_into(S7, &mut work, &mut out[..room]),
+        Err(Refusal {
+            number: Refusal::NO_ROOM,
+            record: S7_RECORDS
+        })
+    );
+    assert!(out.iter().all(|byte| *byte == 0xA5));
+    assert_eq!(
+        assemble_into(S7, &mut work, &mut out[..room]),
+        Ok(S7_MODULE.len())
+    );
+    assert_eq!(
+        assemble_names_into(S7, &mut work, &mut out),
+        Ok(all.len())
+    );
+    assert_eq!(out, all);
+    assert!(work.iter().all(|word| *word == 0));
+}

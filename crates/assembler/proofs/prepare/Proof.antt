@@ -1,0 +1,46 @@
+use Rattle.assembler.proofs.Whole.{prepare-done, prepare-not}
+use Rattle.walk.proofs.Begin.{reads-short, reads-long, reads-ahead}
+use borrow.Author.Needs.{needs}
+use Rattle.assembler.proofs.prepare.Statement.{statement}
+use Rattle.assembler.proofs.prepare.Tie as tie
+
+read-all-requires : tie.Need-read-all-requires
+read-all-requires c κs = search needs
+
+enum-known-count : tie.Need-enum-known-count
+enum-known-count c = search needs
+
+in-order-requires : tie.Need-in-order-requires
+in-order-requires c κs = (search reads-short, search reads-long, search reads-ahead)
+
+enum-known-n : tie.Need-enum-known-n
+enum-known-n c = search needs
+
+refuse-requires : tie.Need-refuse-requires
+refuse-requires c κs = search needs
+
+same-length : tie.Need-same-length
+same-length c = search needs
+
+returns : tie.Need-returns
+returns c = search prepare-done
+
+same-length-2 : tie.Need-same-length-2
+same-length-2 c = search needs
+
+returns-2 : tie.Need-returns-2
+returns-2 c = search prepare-not
+
+pub prepare-spec : {M : Type 1} → statement M
+prepare-spec =
+    tie.close
+    (tie.spec
+    read-all-requires
+    enum-known-count
+    in-order-requires
+    enum-known-n
+    refuse-requires
+    same-length
+    returns
+    same-length-2
+    returns-2)

@@ -1,0 +1,58 @@
+// The calls for programs in C or Rust; include/barrizuppa.h says their contracts in words.
+use crate::call;
+ghost use mathlib.Core.Path.{_≡_};
+ghost use Prim.Native.Nat.{min};
+ghost use Rattle.definition.specs.Assemble as Assemble;
+ghost use Rattle.assembler.specs.Run.{makes};
+ghost use Rattle.assembler.specs.Export.{exportedBy, exported, exportedNames, handed};
+
+// How much of an output of this length is lent: the written length has to fit in a word of the answer.
+fn room(len: usize) -> usize
+    ensures { λ n. ⌜ n ≡ min len 4294967295 ⌝ }
+{
+    if len <= 4294967295 { len } else { 4294967295 }
+}
+
+// Returns the number. The answer is the number, the record, the written length, and the record once more.
+fn answered(
+    stream: &[u8],
+    work: &mut [u32],
+    out: &mut [u8],
+    answer: &mut [u32; 4],
+    names: bool,
+) -> u32
+    ensures { λ r. ⌜ handed r (now (answer .exit)) (now (out .exit)) (now (work .exit)) ≡ exportedBy (Assemble.callBy (makes names)) (now (stream .entry)) (now (work .entry)) (now (out .entry)) ⌝ }
+{
+    let n = room(out.len());
+    let said = call(stream, work, &mut out[..n], names);
+    let number = said.number as u32;
+    let len = said.len as u32;
+    *answer = [number, said.rec, len, said.rec];
+    number
+}
+
+// The module.
+#[no_mangle]
+pub extern "C" fn barrizuppa_assemble(
+    stream: &[u8],
+    work: &mut [u32],
+    out: &mut [u8],
+    answer: &mut [u32; 4],
+) -> u32
+    ensures { λ r. ⌜ handed r (now (answer .exit)) (now (out .exit)) (now (work .exit)) ≡ exported (now (stream .entry)) (now (work .entry)) (now (out .entry)) ⌝ }
+{
+    answered(stream, work, out, answer, false)
+}
+
+// The module, and after it its name section.
+#[no_mangle]
+pub extern "C" fn barrizuppa_assemble_names(
+    stream: &[u8],
+    work: &mut [u32],
+    out: &mut [u8],
+    answer: &mut [u32; 4],
+) -> u32
+    ensures { λ r. ⌜ handed r (now (answer .exit)) (now (out .exit)) (now (work .exit)) ≡ exportedNames (now (stream .entry)) (now (work .entry)) (now (out .entry)) ⌝ }
+{
+    answered(stream, work, out, answer, true)
+}

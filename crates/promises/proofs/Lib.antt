@@ -1,0 +1,4 @@
+pub mod OneAnswer
+pub mod Demand1
+pub mod Demand3
+pub mod Shutouts

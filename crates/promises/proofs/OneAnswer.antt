@@ -1,0 +1,96 @@
+-- One promise allows one answer: two answers that keep a promise on the same input are equal.
+use Prim.Native.Nat.{ℕ, _+_, _<_, _^_}
+use mathlib.Core.Path.{_≡_, refl, sym, _∙_}
+use mathlib.Core.List.{List}
+use lib.ListN.{length}
+use native.Mathlib.Omega.{arith}
+use Rattle.definition.specs.Syntax.{Bytes}
+use Rattle.definition.specs.Reader.{Step}
+use Rattle.emit.specs.Put.{Put}
+use Rattle.leb.specs.Views.{u32At, u64At}
+use Rattle.leb.specs.declared.read.U32.{U32}
+use Rattle.leb.specs.declared.read.U32.the-variants as U32′
+use Rattle.leb.specs.declared.read.U64.{U64}
+use Rattle.leb.specs.declared.read.U64.the-variants as U64′
+use Rattle.stream.specs.Pass.{counted, Reads}
+use Rattle.stream.specs.Export.{Told}
+use Rattle.stream.specs.declared.pass.Count.{Count}
+use Rattle.stream.specs.declared.pass.Count.the-variants as C
+use Rattle.assembler.specs.Run.{outcomeOf}
+use Rattle.assembler.specs.Export.{handed}
+use Rattle.assembler.specs.declared.Said.{Said}
+use Rattle.promises.specs.Promise.{Assembles, AssemblesNames, Exports, ExportsNames}
+
+-- ## The assembler
+
+-- an outcome says all of an answer
+pub outcome-one : (r r′ : Said) (out out′ w w′ : List ℕ) → outcomeOf r out w ≡ outcomeOf r′ out′ w′ → (r ≡ r′) × (out ≡ out′) × (w ≡ w′)
+outcome-one r r′ out out′ w w′ e = (λ i. record { number = e i .number; rec = e i .rec; len = e i .written }, λ i. e i .output, λ i. e i .work)
+
+pub assemble-one : (s work old : List ℕ) (r r′ : Said) (out out′ w w′ : List ℕ) → Assembles s work old r out w → Assembles s work old r′ out′ w′
+    → (r ≡ r′) × (out ≡ out′) × (w ≡ w′)
+assemble-one s work old r r′ out out′ w w′ k k′ = outcome-one r r′ out out′ w w′ (k ∙ sym k′)
+
+pub assemble-names-one : (s work old : List ℕ) (r r′ : Said) (out out′ w w′ : List ℕ) → AssemblesNames s work old r out w → AssemblesNames s work old r′ out′ w′
+    → (r ≡ r′) × (out ≡ out′) × (w ≡ w′)
+assemble-names-one s work old r r′ out out′ w w′ k k′ = outcome-one r r′ out out′ w w′ (k ∙ sym k′)
+
+-- what is handed over says all of an answer
+handed-one : (r r′ : ℕ) (a a′ out out′ w w′ : List ℕ) → handed r a out w ≡ handed r′ a′ out′ w′ → (r ≡ r′) × (a ≡ a′) × (out ≡ out′) × (w ≡ w′)
+handed-one r r′ a a′ out out′ w w′ e = (λ i. e i .number, λ i. e i .answer, λ i. e i .output, λ i. e i .work)
+
+-- `barrizuppa_assemble`
+pub export-one : (s work old : List ℕ) (r r′ : ℕ) (a a′ out out′ w w′ : List ℕ) → Exports s work old r a out w → Exports s work old r′ a′ out′ w′
+    → (r ≡ r′) × (a ≡ a′) × (out ≡ out′) × (w ≡ w′)
+export-one s work old r r′ a a′ out out′ w w′ k k′ = handed-one r r′ a a′ out out′ w w′ (k ∙ sym k′)
+
+-- `barrizuppa_assemble_names`
+pub export-names-one : (s work old : List ℕ) (r r′ : ℕ) (a a′ out out′ w w′ : List ℕ) → ExportsNames s work old r a out w → ExportsNames s work old r′ a′ out′ w′
+    → (r ≡ r′) × (a ≡ a′) × (out ≡ out′) × (w ≡ w′)
+export-names-one s work old r r′ a a′ out out′ w w′ k k′ = handed-one r r′ a a′ out out′ w w′ (k ∙ sym k′)
+
+-- ## The reading pass
+
+counted-one : (a b : Count) → counted a ≡ counted b → a ≡ b
+counted-one (C.Records n) (C.Records m) e = let x : n ≡ m = cc in rw x refl
+counted-one (C.Records n) (C.Refused m q) e = let z : _≡_ {A = ℕ} 0 1 = cc in absurd (omega arith)
+counted-one (C.Refused n p) (C.Records m) e = let z : _≡_ {A = ℕ} 0 1 = cc in absurd (omega arith)
+counted-one (C.Refused n p) (C.Refused m q) e = let x : n ≡ m = cc in let y : p ≡ q = cc in rw (x, y) refl
+
+pub read-all-one : (s work : List ℕ) (r r′ : Count) (w w′ : List ℕ) → Reads s work r w → Reads s work r′ w′ → (r ≡ r′) × (w ≡ w′)
+read-all-one s work r r′ w w′ k k′ = (counted-one r r′ (sym (k .says) ∙ k′ .says), k .leaves ∙ sym (k′ .leaves))
+
+-- `barrizuppa_read`
+pub read-one : (s work words : List ℕ) (r r′ : ℕ) (w w′ a a′ : List ℕ) → Told s work words r w a → Told s work words r′ w′ a′ → (r ≡ r′) × (w ≡ w′) × (a ≡ a′)
+read-one s work words r r′ w w′ a a′ k k′ = (k .number ∙ sym (k′ .number), k .leaves ∙ sym (k′ .leaves), k .answer ∙ sym (k′ .answer))
+
+-- ## Numbers in groups
+
+-- `leb::read_u32`
+pub read-u32-one : (x : Step ℕ) (r r′ : U32) → x ≡ u32At r → x ≡ u32At r′ → r ≡ r′
+read-u32-one x r r′ k k′ = go r r′ (sym k ∙ k′)
+  where
+    go : (a b : U32) → u32At a ≡ u32At b → a ≡ b
+    go (U32′.Got v n) (U32′.Got v′ n′) e = let y : v ≡ v′ = cc in let z : n ≡ n′ = cc in rw (y, z) refl
+    go (U32′.Got v n) (U32′.Fault q) e = let z : _≡_ {A = ℕ} 0 1 = cc in absurd (omega arith)
+    go (U32′.Fault p) (U32′.Got v n) e = let z : _≡_ {A = ℕ} 0 1 = cc in absurd (omega arith)
+    go (U32′.Fault p) (U32′.Fault q) e = let y : p ≡ q = cc in rw y refl
+
+-- `leb::read_u64`
+pub read-u64-one : (x : Step ℕ) (r r′ : U64) → x ≡ u64At r → x ≡ u64At r′ → r ≡ r′
+read-u64-one x r r′ k k′ = go r r′ (sym k ∙ k′)
+  where
+    go : (a b : U64) → u64At a ≡ u64At b → a ≡ b
+    go (U64′.Got v n) (U64′.Got v′ n′) e = let y : v ≡ v′ = cc in let z : n ≡ n′ = cc in rw (y, z) refl
+    go (U64′.Got v n) (U64′.Fault q) e = let z : _≡_ {A = ℕ} 0 1 = cc in absurd (omega arith)
+    go (U64′.Fault p) (U64′.Got v n) e = let z : _≡_ {A = ℕ} 0 1 = cc in absurd (omega arith)
+    go (U64′.Fault p) (U64′.Fault q) e = let y : p ≡ q = cc in rw y refl
+
+-- ## Emitters
+
+-- the place is one in any case; the bytes are where the place after them has not saturated
+pub put-one-place : (old bs : List ℕ) (at r r′ : ℕ) (new new′ : List ℕ) → Put old at bs r new → Put old at bs r′ new′ → r ≡ r′
+put-one-place old bs at r r′ new new′ k k′ = k .place ∙ sym (k′ .place)
+
+pub put-one : (old bs : List ℕ) (at r r′ : ℕ) (new new′ : List ℕ) → at + length bs < 2 ^ 63 → Put old at bs r new → Put old at bs r′ new′ → (r ≡ r′) × (new ≡ new′)
+put-one old bs at r r′ new new′ h k k′ = (put-one-place old bs at r r′ new new′ k k′, k .bytes h ∙ sym (k′ .bytes h))

@@ -1,0 +1,108 @@
+"""Streams with an answer that document 01 itself gives: its samples, and for each
+of the refusals 11 to 17 streams with two faults that compete.
+
+SAMPLES is a list of (what it is, stream, answer). An answer is 'refused N at R',
+or bytes in hex that the module must hold: the resolved numbers where they stand.
+"""
+from records import (block, call_indirect, code, const, data, elem, end, export, f32, f64, func, funcref, global_, i32, i64,
+                     import_, inline_memory, limits, memory, start, table, type, use)
+
+PREAMBLE = '0061736d01000000'
+
+
+# S5: open from outside in a, b, unnamed, a
+def labelled(index):
+    """A branch inside S5's four blocks."""
+    return func(None, None, (), code(block('a'), block('b'), block(), block('a'), 'br %s' % index,
+                                     end(), end(), end(), end()))
+
+
+S6 = (type(None, [i32]) + type() + type(None, [i32])
+      + func(None, use(None, [i32])) + func(None, use(None, [i64])) + func() + func(None, use(None, [i64])))
+S7 = func(None, use(None, [('x', i32)], [i32]), (), code('local.get x'), ['f'])
+S7_OTHER = func(None, use(None, [('x', i32)], [i32]), (), code('local.get y'), ['f'])
+S8 = type(None, [i32, i64]) + func(None, use(0), [('l', i32)], code('local.get l', 'drop'))
+
+
+def nested(count):
+    """So many blocks, one in the other."""
+    return func(None, None, (), block() * count + end() * count)
+
+
+# 256 declared types, no two of them equal: at most four parameters of four types
+def many_types(count):
+    """So many different declared types."""
+    signatures = [[]]
+    for one in signatures:
+        if len(signatures) >= count:
+            break
+        signatures += [one + [t] for t in (i32, i64, f32, f64)]
+    return b''.join(type(None, one) for one in signatures[:count])
+
+
+FULL = many_types(256)
+NEW_USE = use(None, [i32] * 9)
+IMPORT = import_('m', 'n', 'func', None, use())
+
+DOCUMENT = [
+    ('S1', b'', PREAMBLE),
+    ('S5, a', labelled('a'), '0c00'),
+    ('S5, b', labelled('b'), '0c02'),
+    ('S5, c', labelled('c'), 'refused 14 at 5'),
+    ('S5, 9', labelled('9'), '0c09'),
+    ('S6', S6, '03050400030103'),
+    ('S7', S7, PREAMBLE + '010601' + '60017f017f' + '03020100' + '0705010166' + '0000' + '0a0601040020000b'),
+    ('S7, y', S7_OTHER, 'refused 14 at 1'),
+    ('S8', S8, '2002'),
+    ('S9', inline_memory(None, b'abc'), PREAMBLE + '050401010101' + '0b0901004100' + '0b03616263'),
+    ('S11, 128 blocks', nested(128), '02400240'),
+    ('S11, 129 blocks', nested(129), 'refused 7 at 129'),
+]
+
+COMPETING = [
+    # 11 over the whole stream before 12, 13 and 14
+    ('11 and a name taken before it', func('a') + func('a') + IMPORT, 'refused 11 at 4'),
+    ('11 and a 257th type before it', FULL + func(None, NEW_USE) + IMPORT, 'refused 11 at 258'),
+    ('11 and a missing name before it', export('e', 'func', 'f') + func() + IMPORT, 'refused 11 at 3'),
+    ('two late imports', memory(None, limits(1)) + IMPORT + IMPORT, 'refused 11 at 1'),
+    # 12 over the whole stream before 13 and 14
+    ('12 and a name taken before it', FULL + func('a') + func('a') + func(None, NEW_USE), 'refused 12 at 260'),
+    ('12 in a body and a missing name before it', FULL + func(None, None, (), code('call f', block(None, NEW_USE), end())),
+     'refused 12 at 258'),
+    ('12 and a late declaration', func(None, NEW_USE) + FULL, 'refused 12 at 0'),
+    # 13 of items over the whole stream before the fields
+    ('13 and a missing name before it', export('e', 'func', 'f') + func('a') + func('a'), 'refused 13 at 3'),
+    ('13 twice', func('a') + func('a') + memory('m', limits(1)) + memory('m', limits(1)), 'refused 13 at 2'),
+    ('13 and a type that differs before it', type('t', [i32]) + func(None, use('t', [i64])) + type('t'), 'refused 13 at 3'),
+    ('one name in two spaces is no fault, a taken local is', func('a') + table('a', funcref, limits(1))
+     + func(None, use(None, [('p', i32)]), [('p', i32)]), 'refused 13 at 3'),
+    # fields in order: in a function the type use, the locals, the body
+    ('14 in a function before 13 in the next', func(None, None, (), code('call f')) + func(None, None, [('l', i32), ('l', i32)]),
+     'refused 14 at 1'),
+    ('13 of locals before 14 in the body', func(None, None, [('l', i32), ('l', i32)], code('local.get m')), 'refused 13 at 0'),
+    ('14 in the type use before 13 of locals', func(None, use('t'), [('l', i32), ('l', i32)]), 'refused 14 at 0'),
+    ('14 of a table before 14 of a function', elem(None, ['f'], const(i32, 0), 't') + start('s'), 'refused 14 at 0'),
+    ('14 of the offset before the functions', elem(None, ['f'], const('global.get', 'g')), 'refused 14 at 0'),
+    ('14 of a memory before the offset', data(None, b'', const('global.get', 'g'), 'm'), 'refused 14 at 0'),
+    ('14 and 17 in one body', func(None, None, (), code(block('a'), 'br b', end('c'))), 'refused 14 at 2'),
+    ('14 in a global before 13 of locals', global_(None, i32, 0, const('global.get', 'g')) + func(None, None, [('l', i32), ('l', i32)]),
+     'refused 14 at 0'),
+    ('a label that has ended', func(None, None, (), code(block('a'), end(), 'br a')), 'refused 14 at 3'),
+    # in a type use the index, then 15, then 16
+    ('15 before 13 of locals', func(None, use(9, [i32]), [('l', i32), ('l', i32)]), 'refused 15 at 0'),
+    ('15 counts added types', func(None, use(1, [i32])) + func(None, use(None, [i64])), 'refused 15 at 0'),
+    ('15 in call_indirect after its table', table('t', funcref, limits(1))
+     + func(None, None, (), code(call_indirect(use(9, [i32]), 'u'))), 'refused 14 at 2'),
+    ('15 in call_indirect', table('t', funcref, limits(1)) + func(None, None, (), code(call_indirect(use(9, [i32]), 't'), 'call f')),
+     'refused 15 at 2'),
+    ('16 before 13 of locals', type(None, [i32]) + func(None, use(0, [i64]), [('l', i32), ('l', i32)]), 'refused 16 at 1'),
+    ('16 before 15', type(None, [i32]) + func(None, use(0, [i64]), (), code(block(None, use(9, [i32])), end())), 'refused 16 at 1'),
+    ('16 in a result only', type(None, [], [i32]) + func(None, use(0, [], [i64]), (), code('call f')), 'refused 16 at 1'),
+    # 17 where it stands
+    ('17 before 14', func(None, None, (), code(block('a'), end('b'), 'call f')), 'refused 17 at 2'),
+    ('17 on an unnamed block before 16', type(None, [i32]) + func(None, None, (), code(block(), end('b'), block(None, use(0, [i64])), end())),
+     'refused 17 at 3'),
+    ('17 of the outer block', func(None, None, (), code(block('a'), block('b'), end('b'), end('b'), 'br 0')), 'refused 17 at 4'),
+]
+
+SAMPLES = DOCUMENT + COMPETING
