@@ -3,6 +3,6 @@ pub mod Counts
 pub mod Records
 pub mod Steps
 pub mod Lent
-pub mod Answers
+pub mod LentTypes
 pub mod Loop
 pub mod Exported

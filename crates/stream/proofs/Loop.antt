@@ -30,7 +30,7 @@ use Rattle.fields.specs.Views.{fieldOf}
 use Rattle.fields.specs.declared.field.Field.{Field}
 use Rattle.instr.specs.Views.{instrIs}
 use Rattle.instr.specs.declared.Instr.{Instr}
-use Rattle.stream.specs.Pass.{bodyOf, depthOf, placeAfter, movedBy, nextRecordAt, recordAt, Passed, endOf, pass, passed, endWords, countWords, areaAfter, areaOf, counted, reading, readingArea, Walks, Reads}
+use Rattle.stream.specs.Pass.{bodyOf, depthOf, recordPast, placeAfter, movedBy, nextRecordAt, recordAt, Passed, endOf, pass, passed, endWords, countWords, areaAfter, areaOf, counted, reading, readingArea, Walks, Reads}
 use Rattle.stream.specs.Counting.{fieldSeen}
 use Rattle.stream.specs.Answers.{recordAnswer, endPut}
 use Rattle.stream.specs.declared.record.Place.{Place}
@@ -52,7 +52,7 @@ pub record Was (free : Room) (p : Place) (s : Bytes) (x : Rec Identifier) (q : P
   pub deep : bodyOf (q .depth) ≡ bodyAfter (bodyOf (p .depth)) x
 
 record-was : (free : Room) (p : Place) (s : Bytes) (x : Rec Identifier) (q : Place) → recordAt free p s ≡ (ok x, q) → Was free p s x q
-unfolding recordAt nextRecordAt placeAfter
+unfolding recordAt nextRecordAt placeAfter recordPast
 record-was free p s x q e = go (leb 4096 (p .rec)) refl (recordIn free (bodyOf (p .depth)) s (p .at)) refl e
   where
     go : (t : Bool) → leb 4096 (p .rec) ≡ t → (st : Step (Rec Identifier)) → recordIn free (bodyOf (p .depth)) s (p .at) ≡ st

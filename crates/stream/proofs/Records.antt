@@ -32,7 +32,7 @@ use Rattle.instr.specs.declared.Instr.{Instr}
 use Rattle.instr.specs.declared.Instr.the-variants as I
 use Rattle.instr.specs.declared.BodyAt.{BodyAt}
 use Rattle.instr.specs.declared.BodyAt.the-variants as BA
-use Rattle.stream.specs.Pass.{bodyOf, depthOf, placeAfter, fieldRecordAt, bodyRecordAt, nextRecordAt, recordAt}
+use Rattle.stream.specs.Pass.{bodyOf, depthOf, recordPast, placeAfter, fieldRecordAt, bodyRecordAt, nextRecordAt, recordAt}
 use Rattle.stream.specs.Answers.{fieldDepth, instrDepth, Few}
 use Rattle.stream.specs.declared.record.Place.{Place}
 
@@ -119,26 +119,24 @@ unfolding recordAt
 record-next free p s y h e = rw (lt-leb _ _ h) e
 
 module _ (free : Room) (p : Place) (s : Bytes) (r : FieldAt) (e : fieldRec free s (p .at) ≡ fieldAt s r) where
-  pub record-field : (f : Field) (next d : ℕ) → r ≡ FA.Got f next → d ≡ fieldDepth f
-      → fieldRecordAt free p s ≡ (ok (field (fieldOf s f)), record { at = next; rec = p .rec + 1; depth = d })
+  pub record-field : (f : Field) (next d : ℕ) (q : Place) → r ≡ FA.Got f next → q ≡ recordPast p next d → d ≡ fieldDepth f → fieldRecordAt free p s ≡ (ok (field (fieldOf s f)), q)
   unfolding fieldRecordAt placeAfter
-  record-field f next d g l = rw (e, g, l, field-depth s (bodyOf (p .depth)) f)
+  record-field f next d q g a l = rw (a, e, g, l, field-depth s (bodyOf (p .depth)) f)
 
   pub record-no-field : (n : ℕ) → r ≡ FA.Fault n → fieldRecordAt free p s ≡ (refused n (p .rec), p)
   unfolding fieldRecordAt
   record-no-field n g = rw (e, g)
 
 module _ (p : Place) (s : Bytes) (o : 1 ≤ p .depth) (r : BodyAt) (e : bodyRec (p .depth - 1) s (p .at) ≡ bodyAt s r) where
-  pub record-instr : (i : Instr) (next d : ℕ) → r ≡ BA.Got i next → d ≡ instrDepth i (p .depth)
-      → bodyRecordAt p s ≡ (ok (instr (instrIs s i)), record { at = next; rec = p .rec + 1; depth = d })
+  pub record-instr : (i : Instr) (next d : ℕ) (q : Place) → r ≡ BA.Got i next → q ≡ recordPast p next d → d ≡ instrDepth i (p .depth) → bodyRecordAt p s ≡ (ok (instr (instrIs s i)), q)
   unfolding bodyRecordAt placeAfter
-  record-instr i next d g l =
-      let a = instr-depth s (p .depth) i o (few-open s (p .at) (p .depth) r i next o e g) in
-      rw (l, a, e, g)
+  record-instr i next d q g a l =
+      let b = instr-depth s (p .depth) i o (few-open s (p .at) (p .depth) r i next o e g) in
+      rw (a, l, b, e, g)
 
-  pub record-end : (next : ℕ) → r ≡ BA.End next → bodyRecordAt p s ≡ (ok bodyEnd, record { at = next; rec = p .rec + 1; depth = 0 })
+  pub record-end : (next : ℕ) (q : Place) → r ≡ BA.End next → q ≡ recordPast p next 0 → bodyRecordAt p s ≡ (ok bodyEnd, q)
   unfolding bodyRecordAt placeAfter bodyAfter
-  record-end next g = rw (e, g)
+  record-end next q g a = rw (a, e, g)
 
   pub record-no-instr : (n : ℕ) → r ≡ BA.Fault n → bodyRecordAt p s ≡ (refused n (p .rec), p)
   unfolding bodyRecordAt

@@ -31,8 +31,11 @@ depthOf none = 0
 depthOf (some k) = k + 1
 
 -- the place that a record has moved on
+unfoldable pub recordPast : Place → ℕ → ℕ → Place
+recordPast p next depth = record { at = next; rec = p .rec + 1; depth = depth }
+
 unfoldable pub placeAfter : Place → Rec Identifier → ℕ → Place
-placeAfter p x next = record { at = next; rec = p .rec + 1; depth = depthOf (bodyAfter (bodyOf (p .depth)) x) }
+placeAfter p x next = recordPast p next (depthOf (bodyAfter (bodyOf (p .depth)) x))
 
 -- what was read, and the place after it; a refusal leaves the place where it was
 abbrev pub movedBy : Place → Step (Rec Identifier) → Answer (Rec Identifier) × Place

@@ -14,7 +14,7 @@ ghost use lib.ListN.{getD};
 ghost use Rattle.definition.specs.Basic.{if_then_else_};
 ghost use Rattle.definition.specs.Read as Read;
 ghost use Rattle.sources.specs.Views.{roomOf};
-ghost use Rattle.stream.specs.Pass.{bodyOf, fieldRecordAt, bodyRecordAt, recordAt};
+ghost use Rattle.stream.specs.Pass.{bodyOf, recordPast, fieldRecordAt, bodyRecordAt, recordAt};
 ghost use Rattle.stream.specs.Answers.{recordAnswer, fieldDepth, instrDepth, Few};
 
 // The running place: a byte, the number of its record, and how deep it stands: 0 outside a body, in one the number of open blocks and one more.
@@ -144,6 +144,18 @@ fn too_many(s: &[u8], p: Place) -> u8
     4
 }
 
+// The place after a record.
+fn after_record(p: Place, at: usize, depth: u32) -> Place
+    requires { ⌜ p .rec < 4096 ⌝ }
+    ensures { λ r. ⌜ r ≡ recordPast p at depth ⌝ }
+{
+    Place {
+        at,
+        rec: p.rec + 1,
+        depth,
+    }
+}
+
 // A field's record, for which `seen` says what may still come.
 pub fn field_record(s: &[u8], p: Place, seen: Seen) -> RecordAt
     requires { ⌜ p .rec < 4096 ⌝ }
@@ -151,16 +163,9 @@ pub fn field_record(s: &[u8], p: Place, seen: Seen) -> RecordAt
 {
     match fields::read_field(s, p.at, seen) {
         FieldAt::Got(f, at) => {
-            let depth = field_depth(f);
+            let place = after_record(p, at, field_depth(f));
             let what = Record::Field(f);
-            RecordAt {
-                what,
-                place: Place {
-                    at,
-                    rec: p.rec + 1,
-                    depth,
-                },
-            }
+            RecordAt { what, place }
         }
         FieldAt::Fault(n) => {
             let what = Record::Refused(n);
@@ -176,27 +181,14 @@ pub fn body_record(s: &[u8], p: Place) -> RecordAt
 {
     match instr::read_body(s, p.at, p.depth - 1) {
         BodyAt::Got(i, at) => {
-            let depth = instr_depth(i, p.depth);
+            let place = after_record(p, at, instr_depth(i, p.depth));
             let what = Record::Instr(i);
-            RecordAt {
-                what,
-                place: Place {
-                    at,
-                    rec: p.rec + 1,
-                    depth,
-                },
-            }
+            RecordAt { what, place }
         }
         BodyAt::End(at) => {
+            let place = after_record(p, at, 0);
             let what = Record::End;
-            RecordAt {
-                what,
-                place: Place {
-                    at,
-                    rec: p.rec + 1,
-                    depth: 0,
-                },
-            }
+            RecordAt { what, place }
         }
         BodyAt::Fault(n) => {
             let what = Record::Refused(n);

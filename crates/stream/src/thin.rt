@@ -1,5 +1,5 @@
-// Readers that move a lent place on: each calls the reader by value. Only `next_record`, whose place is plain, is for other callers: what
-// lends a place is proved by a walk by hand.
+// Readers that take the place by reference and move it on; each calls the reader by value. Whatever lends a place is proved by hand, so other
+// callers use `next_record`, whose place is plain.
 use crate::record::Place;
 use crate::record::Record;
 use crate::record::RecordAt;

@@ -15,14 +15,14 @@ enum-known-i c = search needs
 instr-depth-requires : tie.Need-instr-depth-requires
 instr-depth-requires c κs = search few-open
 
-add-t14 : tie.Need-add-t14
-add-t14 c = search needs
+after-record-requires : tie.Need-after-record-requires
+after-record-requires c κs = search needs
 
 enum-known-at : tie.Need-enum-known-at
 enum-known-at c = search needs
 
-add-t16 : tie.Need-add-t16
-add-t16 c = search needs
+after-record-requires-2 : tie.Need-after-record-requires-2
+after-record-requires-2 c κs = search needs
 
 enum-known-n : tie.Need-enum-known-n
 enum-known-n c = search needs
@@ -44,9 +44,9 @@ body-record-spec =
     read-body-requires
     enum-known-i
     instr-depth-requires
-    add-t14
+    after-record-requires
     enum-known-at
-    add-t16
+    after-record-requires-2
     enum-known-n
     returns
     returns-2

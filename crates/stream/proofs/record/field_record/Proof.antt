@@ -12,8 +12,8 @@ enum-known-f c = search needs
 field-depth-requires : tie.Need-field-depth-requires
 field-depth-requires c κs = search needs
 
-add-t12 : tie.Need-add-t12
-add-t12 c = search needs
+after-record-requires : tie.Need-after-record-requires
+after-record-requires c κs = search needs
 
 enum-known-n : tie.Need-enum-known-n
 enum-known-n c = search needs
@@ -25,4 +25,13 @@ returns-2 : tie.Need-returns-2
 returns-2 c = search (record-ways) depth 8
 
 pub field-record-spec : {M : Type 1} → statement M
-field-record-spec = tie.close (tie.spec read-field-requires enum-known-f field-depth-requires add-t12 enum-known-n returns returns-2)
+field-record-spec =
+    tie.close
+    (tie.spec
+    read-field-requires
+    enum-known-f
+    field-depth-requires
+    after-record-requires
+    enum-known-n
+    returns
+    returns-2)

@@ -46,7 +46,7 @@ use Rattle.stream.specs.declared.record.Record.{Record}
 use Rattle.stream.specs.declared.record.RecordAt.{RecordAt}
 use Rattle.stream.proofs.Records.{stands-field, stands-instr}
 use Rattle.stream.proofs.Lent.{R, low, What, Pair, pairTy, pairVal, held, streamTy, lentTy, typed, Stream, asks-lent, ByLoan, Asks, told, lends-to, locals-at, rooms, frees-all}
-use Rattle.stream.proofs.Answers.{what, answer}
+use Rattle.stream.proofs.LentTypes.{what, answer}
 use Rattle.stream.proofs.record.Place as P
 use Rattle.stream.proofs.record.Place.Laws as P′
 use Rattle.sources.proofs.seen.Seen as N

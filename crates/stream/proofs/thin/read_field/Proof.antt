@@ -43,7 +43,7 @@ use Rattle.sources.specs.declared.seen.Seen.{Seen}
 use Rattle.stream.specs.declared.record.Record.{Record}
 use Rattle.stream.specs.declared.record.RecordAt.{RecordAt}
 use Rattle.stream.proofs.Lent.{R, low, What, Pair, pairTy, held, streamTy, lentTy, moving, Stream, Entry, Left, enters, moves-on, leaves, asks, ByValue, frees-all}
-use Rattle.stream.proofs.Answers.{what, answer}
+use Rattle.stream.proofs.LentTypes.{what, answer}
 use Rattle.stream.proofs.record.Place.Laws as P′
 use Rattle.sources.proofs.seen.Seen as N
 use Rattle.sources.proofs.seen.Seen.Laws as N′

@@ -40,7 +40,7 @@ use Rattle.stream.specs.declared.record.Place.{Place}
 use Rattle.stream.specs.declared.record.Record.{Record}
 use Rattle.stream.specs.declared.record.RecordAt.{RecordAt}
 use Rattle.stream.proofs.Lent.{R, low, What, Pair, pairTy, held, streamTy, lentTy, moving, Stream, Entry, Left, enters, moves-on, leaves, asks, ByValue, frees-all}
-use Rattle.stream.proofs.Answers.{what, answer}
+use Rattle.stream.proofs.LentTypes.{what, answer}
 use Rattle.stream.proofs.record.Place.Laws as P′
 use Rattle.stream.proofs.record.Record as X
 use Rattle.stream.proofs.record.Record.Laws as X′
