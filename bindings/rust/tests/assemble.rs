@@ -272,7 +272,8 @@ fn names_of_functions_parameters_and_locals() {
     assert_eq!(assemble_names(S7_WITH_Y), refused(14, 1));
 
     // An imported function g, whose parameter has no effect; a function f with a parameter x and a local l.
-    let stream = b"\x02\x01m\x01n\0\x01g\0\x01\x01y\x7F\0\x03\x01f\0\0\0\x01\x01x\x7F\0\x01\x01l\x7E\xFF";
+    let stream =
+        b"\x02\x01m\x01n\0\x01g\0\x01\x01y\x7F\0\x03\x01f\0\0\0\x01\x01x\x7F\0\x01\x01l\x7E\xFF";
     let names = b"\0\x19\x04name\x01\x07\x02\0\x01g\x01\x01f\x02\x09\x01\x01\x02\0\x01x\x01\x01l";
     let module = assemble(stream).unwrap();
     assert_eq!(assemble_names(stream), Ok([&module, &names[..]].concat()));
@@ -296,10 +297,7 @@ fn names_need_room_too() {
         assemble_into(S7, &mut work, &mut out[..room]),
         Ok(S7_MODULE.len())
     );
-    assert_eq!(
-        assemble_names_into(S7, &mut work, &mut out),
-        Ok(all.len())
-    );
+    assert_eq!(assemble_names_into(S7, &mut work, &mut out), Ok(all.len()));
     assert_eq!(out, all);
     assert!(work.iter().all(|word| *word == 0));
 }
