@@ -79,5 +79,8 @@ fn main() {
         with_buffers(true);
         return;
     }
-    io::write_all(STDERR_FILENO, b"usage: assemble [--names] <STREAM >MODULE\n");
+    io::write_all(
+        STDERR_FILENO,
+        b"usage: assemble [--names] <STREAM >MODULE\n",
+    );
 }
