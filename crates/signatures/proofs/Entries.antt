@@ -79,16 +79,20 @@ pub match-begin : (s : Bytes) (x y : Signature) → Matching s x y x y
 match-begin s x y = record { agree = refl }
 
 module _ (s : Bytes) (a b : Signature) (r : NextStep) (e : Steps s a b r) where
+  -- fewer types are left
   pub match-less : (p q : Signature) → r ≡ P.Same p q → size p < size a
   match-less p q d = rw d at (e .fewer)
 
   module _ (x y : Signature) (v : Matching s x y a b) where
+    -- a type that agrees
     pub match-again : (p q : Signature) → r ≡ P.Same p q → Matching s x y p q
     match-again p q d = record { agree = sym (rw d at (e .same)) ∙ v .agree }
 
+    -- a type that differs
     pub match-differ : r ≡ P.Differ → false ≡ sameType (signatureOf s x) (signatureOf s y)
     match-differ d = sym (rw d at (e .same)) ∙ v .agree
 
+    -- both have ended
     pub match-end : r ≡ P.End → true ≡ sameType (signatureOf s x) (signatureOf s y)
     match-end d = sym (rw d at (e .same)) ∙ v .agree
 

@@ -78,6 +78,7 @@ stepSame s (P.Same a b) = sameType (signatureOf s a) (signatureOf s b)
 stepSame s P.Differ = false
 stepSame s P.End = true
 
+-- fewer types are left than so many
 abbrev pub StepFewer : NextStep → ℕ → Type 0
 StepFewer (P.Same a b) n = size a < n
 StepFewer P.Differ n = Unit {0}
