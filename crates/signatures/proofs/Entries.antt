@@ -1,5 +1,5 @@
--- Plain mathematics of one type of the table: read, compared, written.
-use Prim.Native.Nat.{ℕ, zero, suc, _+_, _-_, _≤_, _<_, min}
+-- Plain mathematics of one type of the table: read, walked in step with another, written.
+use Prim.Native.Nat.{ℕ, zero, suc, _+_, _≤_, _<_, min}
 use mathlib.Core.Path.{_≡_, refl, sym, _∙_}
 use mathlib.Core.Bool.{Bool, true, false}
 use mathlib.Core.List.{List, [], _∷_}
@@ -8,7 +8,6 @@ use lib.Seq.{getD-set-same, getD-set-other}
 use lib.Dec.{eqb}
 use native.Mathlib.Decide.{decLe}
 use native.Mathlib.Omega.{arith}
-use Rattle.definition.specs.Basic.{sameBytes}
 use Rattle.definition.specs.Syntax.{Bytes}
 use Rattle.definition.specs.Reader.{fault}
 use Rattle.definition.specs.Token.{param, valType, identifier, upTo, u32, groups}
@@ -18,11 +17,15 @@ use Rattle.typeuse.specs.Views.{elements, useOf}
 use Rattle.typeuse.specs.declared.List as Code
 use Rattle.typeuse.specs.declared.TypeUse.{TypeUse}
 use Rattle.space.proofs.Kept.{kept-set, kept-then}
-use Rattle.signatures.specs.Table.{typesOf, typed, signatureOf, ofUse, listIn, entryIn, flagOf, listWords, typeWords, Inside}
+use Rattle.signatures.specs.Table.{typesOf, typed, signatureOf, ofUse, listIn, entryIn, flagOf, listWords, typeWords, Inside, Both, size, Steps}
+use Rattle.signatures.specs.declared.list.NextBoth.{NextBoth}
+use Rattle.signatures.specs.declared.list.NextBoth.the-variants as B
 use Rattle.signatures.specs.declared.entry.Signature.{Signature}
+use Rattle.signatures.specs.declared.entry.NextStep.{NextStep}
+use Rattle.signatures.specs.declared.entry.NextStep.the-variants as P
 use Rattle.signatures.proofs.Lists.{types-are}
 
--- ## Read and compared
+-- ## Read
 
 pub list-in : (w : List ℕ) (at x : ℕ) → x ≡ getD w at 0 → record { at = x; count = getD w (at + 1) 0 } ≡ listIn w at
 list-in w at x e = rw e
@@ -36,16 +39,62 @@ pub use-signature : (s : Bytes) (t : TypeUse) → signatureOf s (ofUse t) ≡ si
 unfolding signatureOf signature typesOf
 use-signature s t = refl
 
-module _ (s : Bytes) (a b : Signature) (p : Bool) (e : p ≡ sameBytes (typesOf (a .named) s (a .params)) (typesOf (b .named) s (b .params))) where
-  -- the parameters agree: the results decide
-  pub type-same : (q : Bool) → p ≡ true → q ≡ sameBytes (typesOf false s (a .results)) (typesOf false s (b .results)) → q ≡ sameType (signatureOf s a) (signatureOf s b)
+-- ## Two signatures in step
+
+module _ (s : Bytes) (a b : Signature) (r : NextBoth) (e : Both s (a .named) (a .params) (b .named) (b .params) r) where
+  -- the parameters go on
+  pub step-params : (p q : Code.List) → r ≡ B.Same p q
+      → Steps s a b (P.Same (record { named = a .named; params = p; results = a .results }) (record { named = b .named; params = q; results = b .results }))
   unfolding sameType signatureOf
-  type-same q d f = f ∙ sym (rw (← e, d))
+  step-params p q d = let f = rw d at (e .same) in let g = rw d at (e .fewer) in record { same = rw f; fewer = omega arith }
 
   -- they differ
-  pub type-other : p ≡ false → false ≡ sameType (signatureOf s a) (signatureOf s b)
+  pub step-params-differ : r ≡ B.Differ → Steps s a b P.Differ
   unfolding sameType signatureOf
-  type-other d = sym (rw (← e, d))
+  step-params-differ d = let f = rw d at (e .same) in record { same = rw f; fewer = tt }
+
+  -- they have ended: the results decide
+  module _ (d : r ≡ B.End) (n : NextBoth) (g : Both s false (a .results) false (b .results) n) where
+    pub step-results : (p q : Code.List) → n ≡ B.Same p q
+        → Steps s a b (P.Same (record { named = a .named; params = a .params; results = p }) (record { named = b .named; params = b .params; results = q }))
+    unfolding sameType signatureOf
+    step-results p q h = let f = rw h at (g .same) in let l = rw h at (g .fewer) in record { same = rw f; fewer = omega arith }
+
+    pub step-results-differ : n ≡ B.Differ → Steps s a b P.Differ
+    unfolding sameType signatureOf
+    step-results-differ h = let f = rw d at (e .same) in let k = rw h at (g .same) in record { same = rw (f, k); fewer = tt }
+
+    pub step-end : n ≡ B.End → Steps s a b P.End
+    unfolding sameType signatureOf
+    step-end h = let f = rw d at (e .same) in let k = rw h at (g .same) in record { same = rw (f, k); fewer = tt }
+
+pub ruleset steps = (step-params, step-params-differ, step-results, step-results-differ, step-end)
+
+-- what is left of `x` and `y` decides
+pub record Matching (s : Bytes) (x y a b : Signature) : Type 0 where
+  pub agree : sameType (signatureOf s a) (signatureOf s b) ≡ sameType (signatureOf s x) (signatureOf s y)
+
+-- at the start that is all
+pub match-begin : (s : Bytes) (x y : Signature) → Matching s x y x y
+match-begin s x y = record { agree = refl }
+
+module _ (s : Bytes) (a b : Signature) (r : NextStep) (e : Steps s a b r) where
+  -- fewer types are left
+  pub match-less : (p q : Signature) → r ≡ P.Same p q → size p < size a
+  match-less p q d = rw d at (e .fewer)
+
+  module _ (x y : Signature) (v : Matching s x y a b) where
+    -- a type that agrees
+    pub match-again : (p q : Signature) → r ≡ P.Same p q → Matching s x y p q
+    match-again p q d = record { agree = sym (rw d at (e .same)) ∙ v .agree }
+
+    -- a type that differs
+    pub match-differ : r ≡ P.Differ → false ≡ sameType (signatureOf s x) (signatureOf s y)
+    match-differ d = sym (rw d at (e .same)) ∙ v .agree
+
+    -- both have ended
+    pub match-end : r ≡ P.End → true ≡ sameType (signatureOf s x) (signatureOf s y)
+    match-end d = sym (rw d at (e .same)) ∙ v .agree
 
 -- ## Places past the stream's end
 

@@ -1,10 +1,10 @@
 -- Plain mathematics of lists of value types.
 use Prim.Native.Nat.{ℕ, zero, suc, _+_, _-_, _≤_, _<_}
 use mathlib.Core.Path.{_≡_, refl, sym, _∙_, ap}
-use mathlib.Core.Bool.{Bool, true, false, _&&_}
+use mathlib.Core.Bool.{Bool, true, false}
 use mathlib.Core.List.{List, [], _∷_, map}
 use lib.ListN.{length}
-use lib.Dec.{eqb, leb, ltb}
+use lib.Dec.{leb, ltb}
 use borrow.Author.Tests.{eq-eqb, ne-eqb, lt-ltb}
 use mir.Syntax.{w32}
 use mir.Val.{Fits}
@@ -17,16 +17,17 @@ use Rattle.definition.specs.Token.{param, valType}
 use Rattle.definition.specs.Types.{isShort, isInline}
 use Rattle.token.specs.Views.{byteAt}
 use Rattle.token.specs.declared.byte.ByteAt.{ByteAt}
-use Rattle.token.specs.declared.byte.ByteAt.the-variants as B
+use Rattle.token.specs.declared.byte.ByteAt.the-variants as BA
 use Rattle.typeuse.specs.Views.{localAt, onStep, elements, useOf}
 use Rattle.typeuse.specs.declared.Local.{Local}
 use Rattle.typeuse.specs.declared.LocalAt.{LocalAt}
 use Rattle.typeuse.specs.declared.LocalAt.the-variants as OA
 use Rattle.typeuse.specs.declared.List as Code
 use Rattle.typeuse.specs.declared.TypeUse.{TypeUse}
-use Rattle.signatures.specs.Table.{typesOf, typed, typesNext}
+use Rattle.signatures.specs.Table.{typesOf, typed, typesNext, Both}
 use Rattle.signatures.specs.declared.list.NextType.{NextType}
 use Rattle.signatures.specs.declared.list.NextType.the-variants as N
+use Rattle.signatures.specs.declared.list.NextBoth.the-variants as B
 
 -- ## The next type
 
@@ -47,10 +48,10 @@ module _ (s : Bytes) (at left : ℕ) (named : Bool) where
     pub next-no-param : (r : LocalAt) (n : ℕ) → named ≡ true → param s at ≡ localAt s r → r ≡ OA.Fault n → elements (typed named) s at left ≡ typesNext named left s N.End
     next-no-param r n d e f = elements-cons (typed named) s at left h ∙ rw (d, e, f)
 
-    pub next-type : (r : ByteAt) (t q : ℕ) → named ≡ false → valType s at ≡ byteAt r → r ≡ B.Got t q → elements (typed named) s at left ≡ typesNext named left s (N.Type t q)
+    pub next-type : (r : ByteAt) (t q : ℕ) → named ≡ false → valType s at ≡ byteAt r → r ≡ BA.Got t q → elements (typed named) s at left ≡ typesNext named left s (N.Type t q)
     next-type r t q d e f = elements-cons (typed named) s at left h ∙ rw (d, e, f)
 
-    pub next-no-type : (r : ByteAt) (n : ℕ) → named ≡ false → valType s at ≡ byteAt r → r ≡ B.Fault n → elements (typed named) s at left ≡ typesNext named left s N.End
+    pub next-no-type : (r : ByteAt) (n : ℕ) → named ≡ false → valType s at ≡ byteAt r → r ≡ BA.Fault n → elements (typed named) s at left ≡ typesNext named left s N.End
     next-no-type r n d e f = elements-cons (typed named) s at left h ∙ rw (d, e, f)
 
 pub ruleset nexts = (next-zero, next-param, next-no-param, next-type, next-no-type)
@@ -67,16 +68,6 @@ module _ (s : Bytes) (at left : ℕ) (named : Bool) (r : NextType) (told : eleme
 
   pub next-less : (t q : ℕ) → r ≡ N.Type t q → left - 1 < left
   next-less t q d = let h = next-some t q d in omega arith
-
-  pub end-not : (t q : ℕ) → r ≡ N.Type t q → false ≡ sameBytes [] (elements (typed named) s at left)
-  unfolding sameBytes same
-  end-not t q d = sym (rw (told, d))
-
-  pub end-is : r ≡ N.End → true ≡ sameBytes [] (elements (typed named) s at left)
-  unfolding sameBytes same
-  end-is d = sym (rw (told, d))
-
-pub ruleset ends = (end-not, end-is)
 
 -- ## A list is its types one by one
 
@@ -97,54 +88,43 @@ types-are false s l = refl
 
 -- ## Two lists
 
-other-short : (x : ℕ) (xs : List ℕ) → sameBytes (x ∷ xs) [] ≡ false
-unfolding sameBytes same
-other-short x xs = refl
+module _ (s : Bytes) (named : Bool) (a : Code.List) (other : Bool) (b : Code.List)
+    (m : NextType) (p : elements (typed named) s (a .at) (a .count) ≡ typesNext named (a .count) s m)
+    (n : NextType) (q : elements (typed other) s (b .at) (b .count) ≡ typesNext other (b .count) s n) where
+  lists : sameBytes (typesOf named s a) (typesOf other s b) ≡ sameBytes (typesNext named (a .count) s m) (typesNext other (b .count) s n)
+  lists = rw (types-are named s a, types-are other s b, p, q)
 
--- what is left of both decides
-pub record Comparing (s : Bytes) (named : Bool) (a n : ℕ) (other : Bool) (b m i left j right : ℕ) : Type 0 where
-  pub agree : sameBytes (elements (typed named) s i left) (elements (typed other) s j right) ≡ sameBytes (elements (typed named) s a n) (elements (typed other) s b m)
+  -- both have ended
+  pub both-end : m ≡ N.End → n ≡ N.End → Both s named a other b B.End
+  unfolding sameBytes same
+  both-end d e = record { same = lists ∙ rw (d, e); fewer = tt }
 
--- at the start that is all
-pub compare-begin : (s : Bytes) (named : Bool) (a n : ℕ) (other : Bool) (b m : ℕ) → Comparing s named a n other b m a n b m
-compare-begin s named a n other b m = record { agree = refl }
+  -- only the first has
+  pub both-long : (y h : ℕ) → m ≡ N.End → n ≡ N.Type y h → Both s named a other b B.Differ
+  unfolding sameBytes same
+  both-long y h d e = record { same = lists ∙ rw (d, e); fewer = tt }
 
-module _ (s : Bytes) (named : Bool) (a : Code.List) (other : Bool) (b : Code.List) (i left j right : ℕ)
-    (v : Comparing s named (a .at) (a .count) other (b .at) (b .count) i left j right)
-    (m : NextType) (p : elements (typed named) s i left ≡ typesNext named left s m) where
-  decides : sameBytes (elements (typed named) s i left) (elements (typed other) s j right) ≡ sameBytes (typesOf named s a) (typesOf other s b)
-  decides = v .agree ∙ sym (rw (types-are named s a, types-are other s b))
-
-  -- the first list has ended: the other decides
-  pub compare-end : (r : Bool) → m ≡ N.End → r ≡ sameBytes [] (elements (typed other) s j right) → r ≡ sameBytes (typesOf named s a) (typesOf other s b)
-  compare-end r d e = e ∙ sym (rw (p, d)) ∙ decides
-
-  module _ (n : NextType) (q : elements (typed other) s j right ≡ typesNext other right s n) (x k : ℕ) (d : m ≡ N.Type x k) where
-    -- the other has ended
-    pub compare-short : n ≡ N.End → false ≡ sameBytes (typesOf named s a) (typesOf other s b)
-    compare-short e = ended ∙ decides
-      where
-        ended : false ≡ sameBytes (elements (typed named) s i left) (elements (typed other) s j right)
-        ended = sym (rw (p, q, d, e) (other-short x (elements (typed named) s k (left - 1))))
+  module _ (x k : ℕ) (d : m ≡ N.Type x k) where
+    -- only the other has
+    pub both-short : n ≡ N.End → Both s named a other b B.Differ
+    unfolding sameBytes same
+    both-short e = record { same = lists ∙ rw (d, e); fewer = tt }
 
     module _ (y h : ℕ) (e : n ≡ N.Type y h) where
-      turn : sameBytes (elements (typed named) s i left) (elements (typed other) s j right)
-          ≡ (eqb x y && sameBytes (elements (typed named) s k (left - 1)) (elements (typed other) s h (right - 1)))
-      unfolding sameBytes same
-      turn = rw (p, q, d, e)
-
       -- a type that differs
-      pub compare-differ : (x ≡ y → ⊥) → false ≡ sameBytes (typesOf named s a) (typesOf other s b)
-      compare-differ f = sym (sym decides ∙ turn ∙ rw (ne-eqb _ _ f))
+      pub both-differ : (x ≡ y → ⊥) → Both s named a other b B.Differ
+      unfolding sameBytes same
+      both-differ f = record { same = lists ∙ rw (d, e, ne-eqb _ _ f); fewer = tt }
 
-module _ (s : Bytes) (named : Bool) (a c : ℕ) (other : Bool) (b g : ℕ) (i left j right : ℕ) (v : Comparing s named a c other b g i left j right)
-    (m : NextType) (p : elements (typed named) s i left ≡ typesNext named left s m) (n : NextType) (q : elements (typed other) s j right ≡ typesNext other right s n) where
-  -- a type that agrees
-  pub compare-again : (x k y h : ℕ) → m ≡ N.Type x k → n ≡ N.Type y h → x ≡ y → Comparing s named a c other b g k (left - 1) h (right - 1)
-  unfolding sameBytes same
-  compare-again x k y h d e f = record { agree = sym (rw (p, q, d, e, eq-eqb _ _ f)) ∙ v .agree }
+      -- a type that agrees
+      pub both-same : x ≡ y → Both s named a other b (B.Same (record { at = k; count = a .count - 1 }) (record { at = h; count = b .count - 1 }))
+      unfolding sameBytes same
+      both-same f = record {
+        same = lists ∙ rw (d, e, eq-eqb _ _ f, types-are named s (record { at = k; count = a .count - 1 }), types-are other s (record { at = h; count = b .count - 1 }));
+        fewer = next-less s (a .at) (a .count) named m p x k d;
+      }
 
-pub ruleset compares = (compare-end, compare-short, compare-differ)
+pub ruleset boths = (both-end, both-long, both-short, both-differ, both-same)
 
 -- ## The number of types
 

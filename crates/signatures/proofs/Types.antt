@@ -16,14 +16,16 @@ use Rattle.typeuse.specs.declared.TypeUse.{TypeUse}
 use Rattle.space.specs.Kept.{Kept}
 use Rattle.space.proofs.Kept.{kept-word}
 use Rattle.space.proofs.Walk.{Looking, look-begin, look-found, look-on, look-none}
-use Rattle.signatures.specs.Table.{typesOf, signatureOf, ofUse, entryIn, typeTable, typesIn, numberOf, agreeing, typeWords, Inside, Adds, Interns}
+use Rattle.signatures.specs.Table.{typesOf, signatureOf, ofUse, entryIn, typeTable, typesIn, numberOf, agreeing, typeWords, Inside, Steps, Adds, Interns}
 use Rattle.signatures.specs.declared.entry.Signature.{Signature}
+use Rattle.signatures.specs.declared.entry.NextStep.{NextStep}
+use Rattle.signatures.specs.declared.entry.NextStep.the-variants as P
 use Rattle.signatures.specs.declared.table.TypeFound.{TypeFound}
 use Rattle.signatures.specs.declared.table.TypeFound.the-variants as T
 use Rattle.signatures.specs.declared.table.Interned.the-variants as I
 use Rattle.signatures.specs.declared.table.Agreement.{Agreement}
 use Rattle.signatures.specs.declared.table.Agreement.the-variants as A
-use Rattle.signatures.proofs.Entries.{use-signature, inside-same, type-inside, type-written}
+use Rattle.signatures.proofs.Entries.{Matching, match-differ, match-end, use-signature, inside-same, type-inside, type-written}
 
 -- ## The table
 
@@ -82,35 +84,31 @@ table-past (suc n) s w base (suc k) h = table-past n s w (base + 5) k (omega ari
 -- ## The first equal signature
 
 -- k entries were passed, and the others decide
-pub record Seeking (s w : List ℕ) (count : ℕ) (x : Signature) (k at : ℕ) : Type 0 where
+pub record Seeking (s w : List ℕ) (count : ℕ) (x : Signature) (k : ℕ) : Type 0 where
   pub low : k ≤ count
-  pub place : at ≡ 520 + 5 * k
-  pub look : Looking (sameType (signatureOf s x)) (typeTable count s w 520) k (typeTable (count - k) s w at)
+  pub look : Looking (sameType (signatureOf s x)) (typeTable count s w 520) k (typeTable (count - k) s w (520 + 5 * k))
 
 -- none was passed
-pub seek-begin : (s w : List ℕ) (count : ℕ) (x : Signature) → Seeking s w count x 0 520
+pub seek-begin : (s w : List ℕ) (count : ℕ) (x : Signature) → Seeking s w count x 0
 seek-begin s w count x =
-    record { low = omega arith; place = omega arith; look = (let e : count - 0 ≡ count = omega arith in rw e (look-begin (sameType (signatureOf s x)) (typeTable count s w 520))) }
+    record { low = omega arith; look = (let e : count - 0 ≡ count = omega arith in rw e (look-begin (sameType (signatureOf s x)) (typeTable count s w 520))) }
 
-module _ {s w : List ℕ} {count : ℕ} {x : Signature} {k at : ℕ} (v : Seeking s w count x k at) where
-  pub seek-room : 520 + 5 * count ≤ length w → k < count → at + 4 < length w
-  seek-room p h = omega (arith, v .place)
+module _ {s w : List ℕ} {count : ℕ} {x : Signature} {k : ℕ} (v : Seeking s w count x k) where
+  next-look : k < count → Looking (sameType (signatureOf s x)) (typeTable count s w 520) k (signatureOf s (entryIn w (520 + 5 * k)) ∷ typeTable (count - k - 1) s w (520 + 5 * k + 5))
+  next-look h = rw (table-cons (count - k) s w (520 + 5 * k) (omega arith)) at (v .look)
 
-  next-look : k < count → Looking (sameType (signatureOf s x)) (typeTable count s w 520) k (signatureOf s (entryIn w at) ∷ typeTable (count - k - 1) s w (at + 5))
-  next-look h = rw (table-cons (count - k) s w at (omega arith)) at (v .look)
-
-  module _ (y : Signature) (r : Bool) (h : k < count) (d : y ≡ entryIn w at) (e : r ≡ sameType (signatureOf s x) (signatureOf s y)) where
+  module _ (h : k < count) (y a b : Signature) (d : y ≡ entryIn w (520 + 5 * k)) (m : Matching s x y a b) (r : NextStep) (e : Steps s a b r) where
     -- an entry that is the signature
-    pub seek-found : r ≡ true → typeAt (signatureOf s x) (typeTable count s w 520) ≡ numberOf (T.Number k)
+    pub seek-found : r ≡ P.End → typeAt (signatureOf s x) (typeTable count s w 520) ≡ numberOf (T.Number k)
     unfolding typeAt
-    seek-found f = look-found _ _ (next-look h) (sym (e ∙ rw d) ∙ f)
+    seek-found f = look-found _ _ (next-look h) (sym (match-end s a b r e x y m f ∙ rw d))
 
     -- an entry that is not
-    pub seek-again : r ≡ false → Seeking s w count x (k + 1) (at + 5)
+    pub seek-again : r ≡ P.Differ → Seeking s w count x (k + 1)
     seek-again f = record {
       low = omega arith;
-      place = omega (arith, v .place);
-      look = (let m : count - k - 1 ≡ count - (k + 1) = omega arith in rw m at (look-on _ _ (next-look h) (sym (e ∙ rw d) ∙ f)));
+      look = (let c : count - k - 1 ≡ count - (k + 1) = omega arith in let p : 520 + 5 * k + 5 ≡ 520 + 5 * (k + 1) = omega arith in
+          rw (c, p) at (look-on _ _ (next-look h) (sym (match-differ s a b r e x y m f ∙ rw d))));
     }
 
   -- no entry is left

@@ -1,12 +1,12 @@
 -- What the table of types says. Total, like the tables of names: a list ends where its count does, or at the first type that is not read.
-use Prim.Native.Nat.{ℕ, zero, suc, _+_, _-_, _*_, _≤_, min}
+use Prim.Native.Nat.{ℕ, zero, suc, _+_, _-_, _*_, _≤_, _<_, min}
 use mathlib.Core.Path.{_≡_}
 use mathlib.Core.List.{List, [], _∷_, _++_, map}
 use mathlib.Core.Bool.{Bool, true, false}
 use mathlib.Core.Option.{Option, none, some}
 use lib.ListN.{length, getD, set, drop}
 use lib.Dec.{eqb}
-use Rattle.definition.specs.Basic.{if_then_else_, Answer, ok, refused}
+use Rattle.definition.specs.Basic.{if_then_else_, Answer, ok, refused, sameBytes}
 use Rattle.definition.specs.Syntax.{Bytes, ValType, FuncType}
 use Rattle.definition.specs.Reader.{Reader, _>>=_, give}
 use Rattle.definition.specs.Token.{param, valType}
@@ -17,7 +17,11 @@ use Rattle.typeuse.specs.declared.TypeUse.{TypeUse}
 use Rattle.space.specs.Kept.{Kept}
 use Rattle.signatures.specs.declared.list.NextType.{NextType}
 use Rattle.signatures.specs.declared.list.NextType.the-variants as N
+use Rattle.signatures.specs.declared.list.NextBoth.{NextBoth}
+use Rattle.signatures.specs.declared.list.NextBoth.the-variants as B
 use Rattle.signatures.specs.declared.entry.Signature.{Signature}
+use Rattle.signatures.specs.declared.entry.NextStep.{NextStep}
+use Rattle.signatures.specs.declared.entry.NextStep.the-variants as P
 use Rattle.signatures.specs.declared.table.TypeFound.{TypeFound}
 use Rattle.signatures.specs.declared.table.TypeFound.the-variants as T
 use Rattle.signatures.specs.declared.table.Interned.{Interned}
@@ -42,10 +46,48 @@ abbrev pub typesNext : Bool → ℕ → Bytes → NextType → List ValType
 typesNext named left s (N.Type t next) = t ∷ elements (typed named) s next (left - 1)
 typesNext named left s N.End = []
 
+-- whether two lists are equal, after their next types were compared: what is left of both decides
+abbrev pub bothSame : Bytes → Bool → Bool → NextBoth → Bool
+bothSame s named other (B.Same a b) = sameBytes (typesOf named s a) (typesOf other s b)
+bothSame s named other B.Differ = false
+bothSame s named other B.End = true
+
+-- fewer types are left than so many
+abbrev pub BothFewer : NextBoth → ℕ → Type 0
+BothFewer (B.Same a b) n = a .count < n
+BothFewer B.Differ n = Unit {0}
+BothFewer B.End n = Unit {0}
+
+-- two lists, one type further in step
+pub record Both (s : Bytes) (named : Bool) (a : Code.List) (other : Bool) (b : Code.List) (r : NextBoth) : Type 0 where
+  pub same : sameBytes (typesOf named s a) (typesOf other s b) ≡ bothSame s named other r
+  pub fewer : BothFewer r (a .count)
+
 -- ## Signatures
 
 unfoldable pub signatureOf : Bytes → Signature → FuncType
 signatureOf s x = record { params = typesOf (x .named) s (x .params); results = typesOf false s (x .results) }
+
+-- how many types it has at most
+abbrev pub size : Signature → ℕ
+size x = x .params .count + x .results .count
+
+-- whether two signatures are equal, after their next types were compared
+abbrev pub stepSame : Bytes → NextStep → Bool
+stepSame s (P.Same a b) = sameType (signatureOf s a) (signatureOf s b)
+stepSame s P.Differ = false
+stepSame s P.End = true
+
+-- fewer types are left than so many
+abbrev pub StepFewer : NextStep → ℕ → Type 0
+StepFewer (P.Same a b) n = size a < n
+StepFewer P.Differ n = Unit {0}
+StepFewer P.End n = Unit {0}
+
+-- two signatures, one type further in step
+pub record Steps (s : Bytes) (a b : Signature) (r : NextStep) : Type 0 where
+  pub same : sameType (signatureOf s a) (signatureOf s b) ≡ stepSame s r
+  pub fewer : StepFewer r (size a)
 
 -- identifiers stand before the parameters of a use
 abbrev pub ofUse : TypeUse → Signature

@@ -1,4 +1,6 @@
 // One type of the table.
+use crate::list::NextBoth;
+use crate::list::next_both;
 use typeuse::List;
 use typeuse::TypeUse;
 ghost use mathlib.Core.Path.{_≡_};
@@ -6,7 +8,7 @@ ghost use mathlib.Core.Bool.{true, false};
 ghost use Prim.Native.Nat.{_+_, _≤_, _<_};
 ghost use lib.ListN.{length, set};
 ghost use Rattle.definition.specs.Types as Types;
-ghost use Rattle.signatures.specs.Table.{ofUse, signatureOf, listIn, entryIn, listWords, typeWords, flagOf};
+ghost use Rattle.signatures.specs.Table.{ofUse, signatureOf, listIn, entryIn, listWords, typeWords, flagOf, Steps};
 
 // Where the two lists of a type stand in the stream, and whether identifiers stand before the parameters.
 pub struct Signature {
@@ -28,14 +30,76 @@ pub fn of_use(t: TypeUse) -> Signature
     }
 }
 
-// Equal signatures.
-pub fn same_type(s: &[u8], a: Signature, b: Signature) -> bool
-    ensures { λ r. ⌜ r ≡ Types.sameType (signatureOf (now (s .entry)) a) (signatureOf (now (s .entry)) b) ⌝ }
+// What is left of two signatures after their next types, where these are the same.
+pub enum NextStep {
+    Same(Signature, Signature),
+    Differ,
+    End,
+}
+
+// Two signatures, one type further in step: over the parameters, and then over the results.
+pub fn next_step(s: &[u8], a: Signature, b: Signature) -> NextStep
+    ensures { λ r. ⌜ Steps (now (s .entry)) a b r ⌝ }
 {
-    if crate::list::same_types(s, a.named, a.params, b.named, b.params) {
-        return crate::list::same_types(s, false, a.results, false, b.results);
+    let params = a.params;
+    let results = a.results;
+    let other_params = b.params;
+    let other_results = b.results;
+    match next_both(s, a.named, params, b.named, other_params) {
+        NextBoth::Same(p, q) => {
+            let first = Signature {
+                named: a.named,
+                params: p,
+                results,
+            };
+            let second = Signature {
+                named: b.named,
+                params: q,
+                results: other_results,
+            };
+            NextStep::Same(first, second)
+        }
+        NextBoth::Differ => NextStep::Differ,
+        NextBoth::End => match next_both(s, false, results, false, other_results) {
+            NextBoth::Same(p, q) => {
+                let first = Signature {
+                    named: a.named,
+                    params,
+                    results: p,
+                };
+                let second = Signature {
+                    named: b.named,
+                    params: other_params,
+                    results: q,
+                };
+                NextStep::Same(first, second)
+            }
+            NextBoth::Differ => NextStep::Differ,
+            NextBoth::End => NextStep::End,
+        },
     }
-    false
+}
+
+// Equal signatures.
+pub fn same_type(s: &[u8], x: Signature, y: Signature) -> bool
+    ensures { λ r. ⌜ r ≡ Types.sameType (signatureOf (now (s .entry)) x) (signatureOf (now (s .entry)) y) ⌝ }
+{
+    let mut a = x;
+    let mut b = y;
+    loop {
+        match next_step(s, a, b) {
+            NextStep::Same(p, q) => {
+                a = p;
+                b = q;
+            }
+            NextStep::Differ => {
+                return false;
+            }
+            NextStep::End => {
+                return true;
+            }
+        }
+    }
 }
 
 // A word of the work area as a place.

@@ -4,12 +4,10 @@ use typeuse::List;
 use typeuse::LocalAt;
 use typeuse::TypeUse;
 ghost use mathlib.Core.Path.{_≡_};
-ghost use mathlib.Core.List.{[]};
 ghost use lib.ListN.{length};
-ghost use Rattle.definition.specs.Basic.{sameBytes};
 ghost use Rattle.definition.specs.Types as Types;
 ghost use Rattle.typeuse.specs.Views.{elements, useOf};
-ghost use Rattle.signatures.specs.Table.{typed, typesNext, typesOf};
+ghost use Rattle.signatures.specs.Table.{typed, typesNext, typesOf, Both};
 
 // A value type and the place after it.
 pub enum NextType {
@@ -36,44 +34,39 @@ fn next_type(s: &[u8], at: usize, left: u32, named: bool) -> NextType
     }
 }
 
-// No type is left.
-fn is_end(s: &[u8], at: usize, left: u32, named: bool) -> bool
-    ensures { λ r. ⌜ r ≡ sameBytes [] (elements (typed named) (now (s .entry)) at left) ⌝ }
-{
-    match next_type(s, at, left, named) {
-        NextType::Type(_, _) => false,
-        NextType::End => true,
-    }
+// What is left of two lists after their next types, where these are the same.
+pub enum NextBoth {
+    Same(List, List),
+    Differ,
+    End,
 }
 
-// Two lists have the same value types: both are walked in step, and left at the first difference.
-pub fn same_types(s: &[u8], named: bool, a: List, other: bool, b: List) -> bool
-    ensures { λ r. ⌜ r ≡ sameBytes (typesOf named (now (s .entry)) a) (typesOf other (now (s .entry)) b) ⌝ }
+// Two lists, one type further in step.
+pub fn next_both(s: &[u8], named: bool, a: List, other: bool, b: List) -> NextBoth
+    ensures { λ r. ⌜ Both (now (s .entry)) named a other b r ⌝ }
 {
-    let mut i = a.at;
-    let mut left = a.count;
-    let mut j = b.at;
-    let mut right = b.count;
-    loop {
-        match next_type(s, i, left, named) {
-            NextType::Type(x, p) => match next_type(s, j, right, other) {
-                NextType::Type(y, q) => {
-                    if x != y {
-                        return false;
-                    }
-                    i = p;
-                    left -= 1;
-                    j = q;
-                    right -= 1;
+    match next_type(s, a.at, a.count, named) {
+        NextType::Type(x, p) => match next_type(s, b.at, b.count, other) {
+            NextType::Type(y, q) => {
+                if x != y {
+                    return NextBoth::Differ;
                 }
-                NextType::End => {
-                    return false;
-                }
-            },
-            NextType::End => {
-                return is_end(s, j, right, other);
+                let first = List {
+                    at: p,
+                    count: a.count - 1,
+                };
+                let second = List {
+                    at: q,
+                    count: b.count - 1,
+                };
+                NextBoth::Same(first, second)
             }
-        }
+            NextType::End => NextBoth::Differ,
+        },
+        NextType::End => match next_type(s, b.at, b.count, other) {
+            NextType::Type(_, _) => NextBoth::Differ,
+            NextType::End => NextBoth::End,
+        },
     }
 }
 

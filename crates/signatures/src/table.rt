@@ -1,5 +1,7 @@
 // The table of types: 256 at most, from word 520 on; word 5896 says how many.
+use crate::entry::NextStep;
 use crate::entry::Signature;
+use crate::entry::next_step;
 use crate::entry::of_use;
 use crate::entry::put_type;
 use crate::entry::same_type;
@@ -19,20 +21,31 @@ pub enum TypeFound {
     Nothing,
 }
 
-// The first of count types that is equal to a signature.
+// The first of count types that is equal to a signature: each is walked in step with it, and left at the first difference.
 pub fn find_type(s: &[u8], work: &[u32], count: u32, x: Signature) -> TypeFound
     requires { ⌜ 520 + 5 * count ≤ length (now work) ⌝ }
     ensures { λ r. ⌜ Types.typeAt (signatureOf (now (s .entry)) x) (typeTable count (now (s .entry)) (now (work .entry)) 520) ≡ numberOf r ⌝ }
 {
     let mut k: u32 = 0;
-    let mut at = 520;
-    while k < count {
-        let y = type_at(work, at);
-        if same_type(s, x, y) {
-            return TypeFound::Number(k);
-        }
+    'types: while k < count {
+        let this = k;
         k += 1;
-        at += 5;
+        let mut a = x;
+        let mut b = type_at(work, 520 + 5 * (this as usize));
+        loop {
+            match next_step(s, a, b) {
+                NextStep::Same(p, q) => {
+                    a = p;
+                    b = q;
+                }
+                NextStep::Differ => {
+                    continue 'types;
+                }
+                NextStep::End => {
+                    return TypeFound::Number(this);
+                }
+            }
+        }
     }
     TypeFound::Nothing
 }
