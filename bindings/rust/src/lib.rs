@@ -91,12 +91,7 @@ pub fn assemble_names_into(
     work: &mut [u32],
     out: &mut [u8],
 ) -> Result<usize, Refusal> {
-    result(call(
-        library::barrizuppa_assemble_names,
-        stream,
-        work,
-        out,
-    ))
+    result(call(library::barrizuppa_assemble_names, stream, work, out))
 }
 
 /// What is written, in a buffer that grows until it has room.
@@ -168,7 +163,8 @@ mod tests {
         let start_and_memory = b"\x08\x01\0\x05\0\0\0\0\x01";
         let no_such_record = b"\x08\x01\0\x0B";
         for assemble in [barrizuppa_assemble as Call, barrizuppa_assemble_names] {
-            let mut answer = |stream: &[u8], room| call(assemble, stream, &mut work, &mut out[..room]);
+            let mut answer =
+                |stream: &[u8], room| call(assemble, stream, &mut work, &mut out[..room]);
             assert_eq!(answer(start_and_memory, 64), (0, [0, 2, 16, 2]));
             assert_eq!(answer(no_such_record, 64), (4, [4, 1, 0, 1]));
             assert_eq!(answer(start_and_memory, 15), (18, [18, 2, 0, 2]));
