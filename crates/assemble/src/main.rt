@@ -13,18 +13,6 @@ fn stream_buffer() -> [u8; 65537]
     [0; 65537]
 }
 
-fn work_area() -> [u32; 16384]
-    ensures { λ r. ⌜ 16384 ≡ length r ⌝ }
-{
-    [0; 16384]
-}
-
-fn out_buffer() -> [u8; 65536]
-    ensures { λ r. ⌜ 65536 ≡ length r ⌝ }
-{
-    [0; 65536]
-}
-
 fn report(r: Said, out: &[u8]) {
     if r.number == 0 {
         let len = r.len;
@@ -55,8 +43,8 @@ fn run(buf: &mut [u8], work: &mut [u32], out: &mut [u8], names: bool) {
 // Lends what a call needs.
 fn with_buffers(names: bool) {
     let mut buf = stream_buffer();
-    let mut work = work_area();
-    let mut out = out_buffer();
+    let mut work = console::work_area();
+    let mut out = console::out_buffer();
     run(&mut buf, &mut work, &mut out, names);
 }
 

@@ -5,25 +5,6 @@ use console::Next;
 ghost use mathlib.Core.Path.{_≡_};
 ghost use lib.ListN.{length};
 
-// Twice the length that a stream may have: one that is longer is not read to its end, and ends the list.
-fn stream_buffer() -> [u8; 131072]
-    ensures { λ r. ⌜ 131072 ≡ length r ⌝ }
-{
-    [0; 131072]
-}
-
-fn work_area() -> [u32; 16384]
-    ensures { λ r. ⌜ 16384 ≡ length r ⌝ }
-{
-    [0; 16384]
-}
-
-fn out_buffer() -> [u8; 65536]
-    ensures { λ r. ⌜ 65536 ≡ length r ⌝ }
-{
-    [0; 65536]
-}
-
 // Two digits for each byte.
 fn hex_buffer() -> [u8; 131072]
     ensures { λ r. ⌜ 131072 ≡ length r ⌝ }
@@ -110,9 +91,9 @@ fn all(buf: &mut [u8], work: &mut [u32], out: &mut [u8], hex: &mut [u8]) {
 }
 
 fn main() {
-    let mut buf = stream_buffer();
-    let mut work = work_area();
-    let mut out = out_buffer();
+    let mut buf = console::list_buffer();
+    let mut work = console::work_area();
+    let mut out = console::out_buffer();
     let mut hex = hex_buffer();
     all(&mut buf, &mut work, &mut out, &mut hex);
 }

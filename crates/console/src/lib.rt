@@ -1,7 +1,30 @@
-// What the programs share: text and numbers to standard output, and a list of streams from standard input.
+// What the programs share: what they lend, text and numbers to standard output, and a list of streams from standard input.
 use leb::U32;
 use libc::STDIN_FILENO;
 use libc::STDOUT_FILENO;
+ghost use mathlib.Core.Path.{_≡_};
+ghost use lib.ListN.{length};
+
+// The least work area.
+pub fn work_area() -> [u32; 16384]
+    ensures { λ r. ⌜ 16384 ≡ length r ⌝ }
+{
+    [0; 16384]
+}
+
+// The output that document 01 has a program lend.
+pub fn out_buffer() -> [u8; 65536]
+    ensures { λ r. ⌜ 65536 ≡ length r ⌝ }
+{
+    [0; 65536]
+}
+
+// Twice the length that a stream may have: one that is longer is not read to its end, and ends the list.
+pub fn list_buffer() -> [u8; 131072]
+    ensures { λ r. ⌜ 131072 ≡ length r ⌝ }
+{
+    [0; 131072]
+}
 
 pub fn text(s: &[u8]) {
     io::write_all(STDOUT_FILENO, s);

@@ -2,8 +2,6 @@
 // it has, or its refusal. A list that ends inside a stream is said to be cut.
 use console::Next;
 use stream::Count;
-ghost use mathlib.Core.Path.{_≡_};
-ghost use lib.ListN.{length};
 
 fn report(c: Count) {
     match c {
@@ -14,19 +12,6 @@ fn report(c: Count) {
         }
         Count::Refused(n, r) => console::refused(n, r),
     }
-}
-
-// Twice the length that a stream may have: one that is longer is not read to its end, and ends the list.
-fn stream_buffer() -> [u8; 131072]
-    ensures { λ r. ⌜ 131072 ≡ length r ⌝ }
-{
-    [0; 131072]
-}
-
-fn work_area() -> [u32; 16384]
-    ensures { λ r. ⌜ 16384 ≡ length r ⌝ }
-{
-    [0; 16384]
 }
 
 // One stream of the list; false where there is none.
@@ -59,7 +44,7 @@ fn read_list(buf: &mut [u8], work: &mut [u32]) {
 }
 
 fn main() {
-    let mut buf = stream_buffer();
-    let mut work = work_area();
+    let mut buf = console::list_buffer();
+    let mut work = console::work_area();
     read_list(&mut buf, &mut work);
 }
