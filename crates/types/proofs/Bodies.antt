@@ -1,6 +1,7 @@
 -- Laws of the walk over a body.
 use Prim.Native.Nat.{ℕ, zero, suc, _+_, _-_, _≤_, _<_}
 use mathlib.Core.Path.{_≡_, refl, sym, _∙_, ap}
+use mathlib.Core.Bool.{Bool, true, false}
 use mathlib.Core.List.{List, [], _∷_, _++_, append-nil, append-assoc}
 use lib.ListN.{length}
 use mir.Syntax.{w32}
@@ -20,7 +21,7 @@ use Rattle.instr.specs.declared.Instr.the-variants as N
 use Rattle.instr.specs.declared.BodyAt.{BodyAt}
 use Rattle.instr.specs.declared.BodyAt.the-variants as B
 use Rattle.walk.specs.Walk.{onBody, bodyFrom, afterBody}
-use Rattle.types.specs.Uses.{nested, Nests, Handled, Handles}
+use Rattle.types.specs.Uses.{nested, Nests, Skips, Handled, Handles}
 use Rattle.types.specs.declared.taken.Used.{Used}
 use Rattle.types.specs.declared.taken.Used.the-variants as U
 use Rattle.types.proofs.Handled.{handled-none, handled-then, handled-wide, stopped-then, stopped-first, handles-types, handles-stopped, handles-then}
@@ -183,6 +184,15 @@ module _ (s : Bytes) (us : Uses) (w : List ℕ) (k at rec : ℕ) (q : Used) (w�
   func-body k₁ r w₂ d b =
       handles-then rec _ (rec + 1) (rec + 1) s us _ w k w₁ k₁ w₂ r (handles-types rec (rec + 1) s us w k q w₁ told k₁ d)
       (omega arith) (omega arith) (after-low (4096 - (rec + 1)) 0 (rec + 1) s at) b
+
+  -- nothing has to be read
+  pub func-skips : (k₁ : ℕ) (looks : Bool) → q ≡ U.Types k₁ → looks ≡ false → Skips looks (bodyUses (rec + 1) (bodyFrom (4096 - (rec + 1)) 0 s at))
+      → Handles rec (afterBody (4096 - (rec + 1)) 0 (rec + 1) s at .rec) s (us ++ bodyUses (rec + 1) (bodyFrom (4096 - (rec + 1)) 0 s at)) w k (U.Types k₁) w₁
+  unfolding Handles
+  func-skips k₁ looks d e x =
+      let b = x .unused e in
+      rw (b, append-nil us) (handled-wide rec _ (rec + 1) 0 s us [] w k w₁ k₁ (handles-types rec (rec + 1) s us w k q w₁ told k₁ d)
+      (after-low (4096 - (rec + 1)) 0 (rec + 1) s at))
 
   pub func-refused : (n p : ℕ) → q ≡ U.Refused n p
       → Handles rec (afterBody (4096 - (rec + 1)) 0 (rec + 1) s at .rec) s (us ++ bodyUses (rec + 1) (bodyFrom (4096 - (rec + 1)) 0 s at)) w k (U.Refused n p) w₁

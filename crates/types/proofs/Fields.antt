@@ -1,6 +1,7 @@
 -- Laws of the uses of a field.
 use Prim.Native.Nat.{ℕ, _+_, _-_, _≤_}
 use mathlib.Core.Path.{_≡_, refl, sym, _∙_, ap}
+use mathlib.Core.Bool.{Bool}
 use mathlib.Core.List.{List, [], _∷_, _++_, map, append-nil, append-assoc}
 use mathlib.Core.Option.{Option}
 use Rattle.definition.specs.Syntax as Syntax
@@ -23,7 +24,7 @@ use Rattle.fields.specs.Views.{fieldOf}
 use Rattle.fields.specs.declared.field.Field.{Field}
 use Rattle.fields.specs.declared.field.Field.the-variants as F
 use Rattle.walk.specs.Walk.{bodyFrom, bodyIn, afterBody}
-use Rattle.types.specs.Uses.{usesOwn, usesSource, usesField, endAfter, Handles}
+use Rattle.types.specs.Uses.{Skips, usesOwn, usesSource, usesField, endAfter, Handles}
 use Rattle.types.specs.declared.taken.Used.{Used}
 use Rattle.types.specs.declared.taken.Used.the-variants as U
 use Rattle.types.proofs.Handled.{handles-none}
@@ -129,6 +130,24 @@ module _ (rec : ℕ) (s : Bytes) (w : List ℕ) (k : ℕ) where
       pub field-data : (i : _) (m : _) (p : _) → f ≡ F.Data i m p → Handles rec (endAfter (fieldBody (fieldOf s f)) rec s at) s (usesField rec (fieldOf s f) s at) w k (U.Types k) w
       unfolding usesField fieldBody
       field-data i m p d = rw d (handles-none rec (rec + 1) s w k h)
+
+-- ## Whether there is a body to look at
+
+module _ (looks : Bool) (s : Bytes) (at rec : ℕ) where
+  pub skips-own : (o : Own) (t : TypeUse) (ls : _) → o ≡ O.Func t ls → Skips looks (bodyUses (rec + 1) (bodyIn (ownBody (ownOf s o)) (rec + 1) s at))
+      → Skips looks (bodyUses (rec + 1) (bodyFrom (4096 - (rec + 1)) 0 s at))
+  unfolding ownBody
+  skips-own o t ls d h = rw d at h
+
+  pub skips-source : (x : Source) (o : Own) → x ≡ S.Own o → Skips looks (bodyUses (rec + 1) (bodyIn (sourceBody (sourceOf s x)) (rec + 1) s at))
+      → Skips looks (bodyUses (rec + 1) (bodyIn (ownBody (ownOf s o)) (rec + 1) s at))
+  unfolding sourceBody
+  skips-source x o d h = rw d at h
+
+  pub skips-field : (f : Field) (i : _) (es : _) (x : Source) → f ≡ F.Item i es x → Skips looks (bodyUses (rec + 1) (bodyIn (fieldBody (fieldOf s f)) (rec + 1) s at))
+      → Skips looks (bodyUses (rec + 1) (bodyIn (sourceBody (sourceOf s x)) (rec + 1) s at))
+  unfolding fieldBody
+  skips-field f i es x d h = rw d at h
 
 pub ruleset externs = (extern-func, extern-table, extern-mem, extern-global)
 

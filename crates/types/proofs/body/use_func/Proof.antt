@@ -1,5 +1,5 @@
 use Rattle.types.proofs.Handled.{handles-few}
-use Rattle.types.proofs.Bodies.{func-body, func-refused}
+use Rattle.types.proofs.Bodies.{func-body, func-skips, func-refused}
 use borrow.Author.Needs.{needs}
 use Rattle.types.proofs.body.use_func.Statement.{statement}
 use Rattle.types.proofs.body.use_func.Tie as tie
@@ -16,20 +16,26 @@ add-use-body c = search needs
 use-body-requires : tie.Need-use-body-requires
 use-body-requires c κs = search (handles-few, needs)
 
-enum-known-n : tie.Need-enum-known-n
-enum-known-n c = search needs
-
 same-length : tie.Need-same-length
 same-length c = search needs
 
 returns : tie.Need-returns
 returns c = search func-body
 
+enum-known-n : tie.Need-enum-known-n
+enum-known-n c = search needs
+
 same-length-2 : tie.Need-same-length-2
 same-length-2 c = search needs
 
 returns-2 : tie.Need-returns-2
-returns-2 c = search func-refused
+returns-2 c = search func-skips
+
+same-length-3 : tie.Need-same-length-3
+same-length-3 c = search needs
+
+returns-3 : tie.Need-returns-3
+returns-3 c = search func-refused
 
 pub use-func-spec : {M : Type 1} → statement M
 use-func-spec =
@@ -39,8 +45,10 @@ use-func-spec =
     enum-known-k
     add-use-body
     use-body-requires
-    enum-known-n
     same-length
     returns
+    enum-known-n
     same-length-2
-    returns-2)
+    returns-2
+    same-length-3
+    returns-3)

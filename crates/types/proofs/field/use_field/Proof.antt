@@ -1,4 +1,4 @@
-use Rattle.types.proofs.Fields.{records}
+use Rattle.types.proofs.Fields.{records, skips-field}
 use borrow.Author.Needs.{needs}
 use Rattle.types.proofs.field.use_field.Statement.{statement}
 use Rattle.types.proofs.field.use_field.Tie as tie
@@ -16,7 +16,7 @@ enum-known-f-2 : tie.Need-enum-known-f-2
 enum-known-f-2 c = search needs
 
 use-source-requires : tie.Need-use-source-requires
-use-source-requires c κs = search needs
+use-source-requires c κs = search (skips-field, needs)
 
 enum-told-2 : tie.Need-enum-told-2
 enum-told-2 c = search needs

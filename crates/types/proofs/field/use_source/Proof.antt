@@ -1,4 +1,4 @@
-use Rattle.types.proofs.Fields.{items}
+use Rattle.types.proofs.Fields.{items, skips-source}
 use borrow.Author.Needs.{needs}
 use Rattle.types.proofs.field.use_source.Statement.{statement}
 use Rattle.types.proofs.field.use_source.Tie as tie
@@ -7,7 +7,7 @@ enum-known-x : tie.Need-enum-known-x
 enum-known-x c = search needs
 
 use-own-requires : tie.Need-use-own-requires
-use-own-requires c κs = search needs
+use-own-requires c κs = search (skips-source, needs)
 
 enum-known-x-2 : tie.Need-enum-known-x-2
 enum-known-x-2 c = search needs

@@ -1,6 +1,6 @@
 use borrow.Author.Needs.{needs}
 use Rattle.walk.proofs.Steps.{visit-less, visit-few}
-use Rattle.types.proofs.Passes.{Using, using-begin, using-done, using-refused, using-again}
+use Rattle.types.proofs.Passes.{Using, skips-none, using-begin, using-done, using-refused, using-again}
 use Rattle.types.proofs.pass.use_all.Statement.{statement}
 use Rattle.types.proofs.pass.use_all.Tie as tie
 
@@ -23,7 +23,7 @@ enum-known-what : tie.Need-enum-known-what Inv-loop μ-loop
 enum-known-what c = search needs
 
 use-field-requires : tie.Need-use-field-requires Inv-loop μ-loop
-use-field-requires c κs = search (visit-few, needs)
+use-field-requires c κs = search (visit-few, skips-none, needs)
 
 enum-known-k : tie.Need-enum-known-k Inv-loop μ-loop
 enum-known-k c = search needs
