@@ -1,7 +1,7 @@
 -- Laws of the pass over all fields, and of what it leaves.
 use Prim.Native.Nat.{ℕ, _+_, _-_, _≤_, _<_, min}
 use mathlib.Core.Path.{_≡_, refl, sym, _∙_, ap}
-use mathlib.Core.Bool.{true, false}
+use mathlib.Core.Bool.{Bool, false}
 use mathlib.Core.List.{List, [], _++_, append-nil, append-assoc}
 use mathlib.Core.Option.{Option, none, some}
 use lib.ListN.{length, getD, set}
@@ -10,7 +10,7 @@ use native.Mathlib.Omega.{arith}
 use Rattle.definition.specs.Syntax.{Bytes, Identifier}
 use Rattle.definition.specs.Read.{fieldBody}
 use Rattle.definition.specs.Deinline.{Numbered}
-use Rattle.definition.specs.Types.{Uses, uses, allTypes}
+use Rattle.definition.specs.Types.{Uses, bodyUses, uses, allTypes}
 use Rattle.sources.specs.Views.{countOf}
 use Rattle.fields.specs.Views.{fieldOf}
 use Rattle.fields.specs.declared.field.Field.{Field}
@@ -18,11 +18,11 @@ use Rattle.space.specs.Kept.{Kept}
 use Rattle.space.proofs.Kept.{kept-set, kept-then, kept-less}
 use Rattle.signatures.specs.Table.{typeTable, typesIn}
 use Rattle.signatures.proofs.Types.{table-length, table-kept}
-use Rattle.walk.specs.Walk.{begin, cursorAfter, visitIn, visitOf, fieldsHere, fieldsAhead, fieldsIn, Ahead}
+use Rattle.walk.specs.Walk.{bodyIn, begin, cursorAfter, visitIn, visitOf, fieldsHere, fieldsAhead, fieldsIn, Ahead, usesIn}
 use Rattle.walk.specs.declared.Cursor.{Cursor}
 use Rattle.walk.specs.declared.Met.{Met}
 use Rattle.walk.specs.declared.What.the-variants as W
-use Rattle.walk.proofs.Steps.{visit-done, visit-few, visit-next, visit-fields, visit-ahead, ahead-kept}
+use Rattle.walk.proofs.Steps.{visit-done, visit-few, visit-next, visit-fields, visit-unused, visit-ahead, ahead-kept}
 use Rattle.types.specs.Uses.{Skips, usesField, endAfter, Handled, Handles}
 use Rattle.types.specs.Declaring.{DeclaresAll}
 use Rattle.types.specs.Pass.{TypesDone, InternsAll}
@@ -44,9 +44,6 @@ end-low (some k) r s here = after-low (4096 - (r + 1)) k (r + 1) s here
 end-high : (b : Option ℕ) (r : ℕ) (s : Bytes) (here : ℕ) → r < 4096 → endAfter b r s here ≤ 4096
 end-high none r s here h = omega arith
 end-high (some k) r s here h = let e = after-high (4096 - (r + 1)) k (r + 1) s here in omega arith
-
-pub skips-none : (us : Uses) → Skips true us
-skips-none us = record { unused = λ e. let z : _≡_ {A = ℕ} 0 1 = cc in absurd (omega arith) }
 
 -- ## The loop
 
@@ -80,6 +77,10 @@ module _ (s : Bytes) (w₀ : List ℕ) (k₀ : ℕ) (w : List ℕ) (c : Cursor) 
       rw (← all) (handled-wide 0 4096 (c .rec) 0 s (v .done) [] w₀ k₀ w k (v .so-far) (v .low))
 
   module _ (f : Field) (here : ℕ) (is : m .what ≡ W.Field f here) where
+    -- a body that is not marked need not be looked at
+    pub using-skips : (looks : Bool) → looks ≡ usesIn w (c .own) → Skips looks (bodyUses (c .rec + 1) (bodyIn (fieldBody (fieldOf s f)) (c .rec + 1) s here))
+    using-skips looks e = record { unused = λ d. visit-unused s c m told f here is w (v .ahead) (sym e ∙ d) }
+
     abbrev here-uses : Uses
     here-uses = usesField (c .rec) (fieldOf s f) s here
 

@@ -29,7 +29,8 @@ fn use_all(s: &[u8], work: &mut [u32], declared: u32) -> Used
         let what = m.what;
         match what {
             What::Field(f, here) => {
-                match use_field(s, work, count, f, true, here, c.rec) {
+                let looks = walk::body_uses(work, c.own);
+                match use_field(s, work, count, f, looks, here, c.rec) {
                     Used::Types(k) => {
                         count = k;
                     }

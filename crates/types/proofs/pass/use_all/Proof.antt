@@ -1,6 +1,6 @@
 use borrow.Author.Needs.{needs}
 use Rattle.walk.proofs.Steps.{visit-less, visit-few}
-use Rattle.types.proofs.Passes.{Using, skips-none, using-begin, using-done, using-refused, using-again}
+use Rattle.types.proofs.Passes.{Using, using-begin, using-skips, using-done, using-refused, using-again}
 use Rattle.types.proofs.pass.use_all.Statement.{statement}
 use Rattle.types.proofs.pass.use_all.Tie as tie
 
@@ -22,8 +22,11 @@ visit-requires c κs = search needs
 enum-known-what : tie.Need-enum-known-what Inv-loop μ-loop
 enum-known-what c = search needs
 
+body-uses-requires : tie.Need-body-uses-requires Inv-loop μ-loop
+body-uses-requires c κs = search needs
+
 use-field-requires : tie.Need-use-field-requires Inv-loop μ-loop
-use-field-requires c κs = search (visit-few, skips-none, needs)
+use-field-requires c κs = search (visit-few, using-skips, needs)
 
 enum-known-k : tie.Need-enum-known-k Inv-loop μ-loop
 enum-known-k c = search needs
@@ -62,6 +65,7 @@ use-all-spec =
     loop-holds
     visit-requires
     enum-known-what
+    body-uses-requires
     use-field-requires
     enum-known-k
     enum-known-n
