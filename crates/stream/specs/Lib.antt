@@ -1,3 +1,4 @@
+pub mod Uses
 pub mod Pass
 pub mod Counting
 pub mod Answers

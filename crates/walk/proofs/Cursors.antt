@@ -3,6 +3,7 @@ use mathlib.Core.Path.{_≡_, refl, ap, sym, _∙_}
 use Prim.Native.Nat.{ℕ, zero, suc, _+_, _-_, _*_, _≤_, _<_}
 use mathlib.Core.List.{List, [], _∷_, _++_}
 use mathlib.Core.Option.{none, some}
+use lib.Dec.{leb}
 use lib.ListN.{length, take, drop, getD, length-take, length-drop}
 use lib.Seq.{getD-take, getD-drop}
 use borrow.Author.Tests.{lt-leb, le-leb}
@@ -28,7 +29,7 @@ use Rattle.stream.specs.Pass.{bodyOf}
 use Rattle.stream.specs.Counting.{oneMore, sourceBrings, fieldSeen}
 use Rattle.stream.specs.Answers.{fieldDepth}
 use Rattle.stream.proofs.Counts.{extern-brings, own-brings}
-use Rattle.walk.specs.Walk.{begin, onVisit, afterField, counting, seenWith, cursorAfter, visitAt, visitIn, endOf, endsFrom, Ahead, endIn, stopIn, cursorIn}
+use Rattle.walk.specs.Walk.{begin, onVisit, afterField, counting, seenWith, cursorAfter, visitAt, visitIn, endOf, endsFrom, Ahead, endIn, usesIn, stopIn, cursorIn}
 use Rattle.walk.specs.declared.Cursor.{Cursor}
 use Rattle.walk.specs.declared.Stop.{Stop}
 
@@ -41,6 +42,10 @@ start-is seen e = rw e
 pub end-is : (w : List ℕ) (n a r : ℕ) → a ≡ getD w (8 + 2 * n) 0 → r ≡ getD w (8 + 2 * n + 1) 0 → _≡_ {A = Stop} (record { at = a; rec = r }) (endIn w n)
 unfolding endIn
 end-is w n a r e d = rw (e, d)
+
+pub uses-is : (w : List ℕ) (n r : ℕ) → r ≡ getD w (8 + 2 * n + 1) 0 → leb 8192 r ≡ usesIn w n
+unfolding usesIn
+uses-is w n r e = rw e
 
 -- the walk goes on right there
 pub stop-here : (w : List ℕ) (c : Cursor) (d here : ℕ) → d < 1 → _≡_ {A = Stop} (record { at = here; rec = c .rec + 1 }) (stopIn d w c here)

@@ -13,6 +13,7 @@ use Rattle.definition.specs.Basic.{if_then_else_}
 use Rattle.definition.specs.Syntax.{Bytes, Identifier, FieldRec}
 use Rattle.definition.specs.Reader.{Step, got, fault}
 use Rattle.definition.specs.Records.{fieldRec}
+use Rattle.definition.specs.Types.{bodyUses}
 use Rattle.definition.specs.Read.{fieldBody}
 use Rattle.definition.specs.Token.{string, param}
 use Rattle.token.specs.Views.{idOf}
@@ -27,7 +28,7 @@ use Rattle.fields.specs.Views.{fieldOf}
 use Rattle.fields.specs.declared.field.Field.{Field}
 use Rattle.fields.specs.declared.field.Field.the-variants as F
 use Rattle.space.specs.Kept.{Kept}
-use Rattle.walk.specs.Walk.{onVisit, bodies, cursorAfter, Visited, visitStep, visitAt, visitIn, visitOf, metOf, fieldsHere, fieldsFrom, fieldsAhead, endOf, endsFrom, Ahead}
+use Rattle.walk.specs.Walk.{onVisit, bodyIn, bodies, cursorAfter, Visited, visitStep, visitAt, visitIn, visitOf, metOf, fieldsHere, fieldsFrom, fieldsAhead, endOf, endsFrom, Ahead, usesIn}
 use Rattle.walk.specs.declared.Cursor.{Cursor}
 use Rattle.walk.specs.declared.Met.{Met}
 use Rattle.walk.specs.declared.What.{What}
@@ -137,6 +138,10 @@ module _ (s : Bytes) (c : Cursor) (r : Met) (told : visitIn (c .left) c s ≡ vi
         go (suc n) l h =
             let m : r .next .left ≡ n = omega (arith, left-less) in
             ap (λ z. onVisit z (λ v. endOf (fieldBody (v .field)) (v .next) ++ endsFrom n (v .next) s) []) (at-met .1) ∙ rw m
+
+    -- a body that is not marked uses no type
+    pub visit-unused : (w : List ℕ) → Ahead s w c → usesIn w (c .own) ≡ false → bodyUses (c .rec + 1) (bodyIn (fieldBody (fieldOf s f)) (c .rec + 1) s here) ≡ []
+    visit-unused w v e = ?
 
     own-is : r .next .own ≡ c .own + bodies (fieldBody (fieldOf s f))
     unfolding cursorAfter

@@ -1,7 +1,7 @@
 -- The fields of a stream as the later passes meet them: total, whatever the stream is. On an accepted stream they are the definition's.
 use Prim.Native.Nat.{ℕ, zero, suc, _+_, _-_, _*_, _≤_}
 use mathlib.Core.Path.{_≡_}
-use mathlib.Core.Bool.{_||_}
+use mathlib.Core.Bool.{Bool, _||_}
 use mathlib.Core.List.{List, [], _∷_, _++_, map}
 use mathlib.Core.Option.{Option, none, some}
 use lib.Dec.{leb}
@@ -160,6 +160,10 @@ pub record Ahead (s : Bytes) (w : List ℕ) (c : Cursor) : Type 0 where
 -- the n-th body's end, as the work area has it
 unfoldable pub endIn : List ℕ → ℕ → Stop
 endIn w n = record { at = getD w (8 + 2 * n) 0; rec = getD w (8 + 2 * n + 1) 0 }
+
+-- may the n-th body use a type?
+unfoldable pub usesIn : List ℕ → ℕ → Bool
+usesIn w n = leb 8192 (getD w (8 + 2 * n + 1) 0)
 
 -- where the walk goes on by the work area; `depth` is 1 for an own function, else 0
 abbrev pub stopIn : ℕ → List ℕ → Cursor → ℕ → Stop

@@ -4,7 +4,7 @@ use fields::FieldAt;
 use sources::Seen;
 ghost use mathlib.Core.Path.{_≡_};
 ghost use Prim.Native.Nat.{ℕ, _+_, _≤_, _<_};
-ghost use Rattle.walk.specs.Walk.{Ahead, visitIn, visitOf, begin, endIn, stopIn, cursorIn};
+ghost use Rattle.walk.specs.Walk.{Ahead, visitIn, visitOf, begin, endIn, usesIn, stopIn, cursorIn};
 
 // Where a walk stands: the byte and the number of the next record, how many own functions came before it, how many fields it may
 // still visit, and what the fields before have brought.
@@ -58,6 +58,14 @@ fn body_end(work: &[u32], n: u32) -> Stop
         at: at as usize,
         rec,
     }
+}
+
+// May the n-th body use a type? If not, interning has nothing to do there.
+pub fn body_uses(work: &[u32], n: u32) -> bool
+    ensures { λ r. ⌜ r ≡ usesIn (now (work .entry)) n ⌝ }
+{
+    let i = 8 + 2 * (n as usize);
+    8192 <= space::word(work, i + 1)
 }
 
 // Where the walk goes on after a field whose head ends at `here`: after the body of an own function, or right there.
