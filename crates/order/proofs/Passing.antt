@@ -1,4 +1,4 @@
--- The pass over all fields: the first import that comes too late.
+-- A pass over all fields finds the first import that comes too late.
 use Prim.Native.Nat.{ℕ, _+_}
 use mathlib.Core.Path.{_≡_, refl, sym, _∙_, ap}
 use mathlib.Core.Bool.{Bool, true, false}
@@ -21,11 +21,11 @@ use Rattle.sources.specs.declared.source.Source.the-variants as S
 use Rattle.fields.specs.Views.{fieldOf}
 use Rattle.fields.specs.declared.field.Field as Code
 use Rattle.fields.specs.declared.field.Field.the-variants as F
-use Rattle.walk.specs.Walk.{bodyIn, begin, visitIn, visitOf, fieldsHere, fieldsAhead, fieldsIn, Ahead}
+use Rattle.walk.specs.Walk.{bodyIn, begin, visitIn, visitOf, fieldsHere, fieldsAhead, fieldsIn}
 use Rattle.walk.specs.declared.Cursor.{Cursor}
 use Rattle.walk.specs.declared.Met.{Met}
 use Rattle.walk.specs.declared.What.the-variants as W
-use Rattle.walk.proofs.Steps.{visit-done, visit-fields, visit-ahead}
+use Rattle.walk.proofs.Steps.{visit-done, visit-fields}
 use Rattle.order.specs.Order.{sourceStanding, standing, isLate, lateAfter}
 use Rattle.order.specs.declared.Standing.{Standing}
 
@@ -64,16 +64,16 @@ module _ (s : Bytes) (r : ℕ) (next : Space → ℕ) (body : List (Instr Identi
 
 -- ## The loop
 
-pub record Ordering (s w : List ℕ) (c : Cursor) (late : Bool) : Type 0 where
+-- no import was too late so far, and the others are ahead
+pub record Ordering (s : Bytes) (c : Cursor) (late : Bool) : Type 0 where
   pub same : importOrder (fieldsIn s) ≡ importsFrom late (fieldsAhead c s)
-  pub ahead : Ahead s w c
 
 -- before the first field
-pub ordering-begin : (s w : List ℕ) (c : Cursor) → c ≡ begin → Ahead s w begin → Ordering s w c false
+pub ordering-begin : (s : Bytes) (c : Cursor) → c ≡ begin → Ordering s c false
 unfolding importOrder fieldsIn
-ordering-begin s w c e a = record { same = rw e; ahead = rw e a }
+ordering-begin s c e = record { same = rw e }
 
-module _ (s w : List ℕ) (c : Cursor) (late : Bool) (v : Ordering s w c late) (m : Met) (told : visitIn (c .left) c s ≡ visitOf s m) where
+module _ (s : Bytes) (c : Cursor) (late : Bool) (v : Ordering s c late) (m : Met) (told : visitIn (c .left) c s ≡ visitOf s m) where
   -- no field is left
   pub ordering-done : m .what ≡ W.Done → importOrder (fieldsIn s) ≡ ok tt
   unfolding importsFrom
@@ -93,9 +93,9 @@ module _ (s w : List ℕ) (c : Cursor) (late : Bool) (v : Ordering s w c late) (
     ordering-late y = one ∙ rw (← e, y)
 
     -- any other field
-    pub ordering-again : (u : Bool) → t ≡ false → u ≡ lateAfter late x → Ordering s w (m .next) u
+    pub ordering-again : (u : Bool) → t ≡ false → u ≡ lateAfter late x → Ordering s (m .next) u
     unfolding step
-    ordering-again u y z = record { same = one ∙ rw (← e, y, z); ahead = visit-ahead s c m told f here is w (v .ahead) }
+    ordering-again u y z = record { same = one ∙ rw (← e, y, z) }
 
 -- ## Items
 

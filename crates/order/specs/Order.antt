@@ -1,14 +1,11 @@
 -- What a field is to the order of imports.
 use mathlib.Core.Bool.{Bool, true, false}
-use Rattle.definition.specs.Basic.{Answer, ok, refused}
 use Rattle.sources.specs.declared.source.Source.{Source}
 use Rattle.sources.specs.declared.source.Source.the-variants as S
 use Rattle.fields.specs.declared.field.Field.{Field}
 use Rattle.fields.specs.declared.field.Field.the-variants as F
 use Rattle.order.specs.declared.Standing.{Standing}
 use Rattle.order.specs.declared.Standing.the-variants as T
-use Rattle.order.specs.declared.Order as Code
-use Rattle.order.specs.declared.Order.the-variants as O
 
 abbrev pub sourceStanding : Source → Standing
 sourceStanding (S.Own o) = T.Own
@@ -36,7 +33,3 @@ abbrev pub lateAfter : Bool → Standing → Bool
 lateAfter late T.Import = late
 lateAfter late T.Own = true
 lateAfter late T.Neither = late
-
-abbrev pub ordered : Code.Order → Answer (Unit {0})
-ordered O.Kept = ok tt
-ordered (O.Refused n r) = refused n r

@@ -1,6 +1,7 @@
 -- Laws of the walk over declared types.
 use Prim.Native.Nat.{ℕ, _+_, _-_, _*_, _≤_, _<_}
 use mathlib.Core.Path.{_≡_, refl, sym, _∙_, ap}
+use mathlib.Core.Bool.{Bool, true, false}
 use mathlib.Core.List.{List, [], _∷_, _++_, map, append-nil, append-assoc}
 use mathlib.Core.Option.{Option}
 use lib.ListN.{length, getD, length-set, length-append}
@@ -33,7 +34,11 @@ use Rattle.walk.specs.declared.Cursor.{Cursor}
 use Rattle.walk.specs.declared.Met.{Met}
 use Rattle.walk.specs.declared.What.the-variants as W
 use Rattle.walk.proofs.Steps.{visit-done, visit-read, visit-next, visit-fields, visit-ahead, ahead-kept}
+use Rattle.order.specs.Order.{standing, isLate, lateAfter}
+use Rattle.order.specs.declared.Standing.{Standing}
+use Rattle.order.proofs.Passing.{Ordering, ordering-begin, ordering-done, ordering-late, ordering-again}
 use Rattle.types.specs.Declaring.{listed, declaredIn, HasRoom, Declares, DeclaresAll}
+use Rattle.types.specs.declared.taken.Used.the-variants as U
 use Rattle.types.proofs.Room.{type-room}
 
 -- ## One field
@@ -155,7 +160,8 @@ few-after s count (F.Data i m d) h l = omega arith
 -- ## The loop
 
 -- the types so far, and those that are ahead
-pub record Declaring (s : Bytes) (w₀ w : List ℕ) (c : Cursor) (count : ℕ) : Type 0 where
+pub record Declaring (s : Bytes) (w₀ w : List ℕ) (c : Cursor) (late : Bool) (count : ℕ) : Type 0 where
+  pub order : Ordering s c late
   pub same : typeTable count s w 520 ++ declared (fieldsAhead c s) ≡ declared (fieldsIn s)
   pub number : count ≡ countOf (c .seen) types
   pub seven : length (c .seen .counts) ≡ 7
@@ -164,9 +170,10 @@ pub record Declaring (s : Bytes) (w₀ w : List ℕ) (c : Cursor) (count : ℕ) 
   pub ahead : Ahead s w c
   pub long : length w ≡ length w₀
 
-pub declaring-begin : (s w : List ℕ) (c : Cursor) → c ≡ begin → Ahead s w begin → Declaring s w w c 0
+pub declaring-begin : (s w : List ℕ) (c : Cursor) → c ≡ begin → Ahead s w begin → Declaring s w w c false 0
 unfolding typeTable fieldsIn begin
 declaring-begin s w c e a = record {
+  order = ordering-begin s c e;
   same = rw e;
   number = rw e;
   seven = rw e;
@@ -176,10 +183,11 @@ declaring-begin s w c e a = record {
   long = refl;
 }
 
-module _ (s : Bytes) (w₀ w : List ℕ) (c : Cursor) (count : ℕ) (v : Declaring s w₀ w c count) (m : Met) (told : visitIn (c .left) c s ≡ visitOf s m) where
-  pub declaring-done : m .what ≡ W.Done → DeclaresAll s w₀ count w
-  unfolding declared
+module _ (s : Bytes) (w₀ w : List ℕ) (c : Cursor) (late : Bool) (count : ℕ) (v : Declaring s w₀ w c late count) (m : Met) (told : visitIn (c .left) c s ≡ visitOf s m) where
+  pub declaring-done : m .what ≡ W.Done → DeclaresAll s w₀ (U.Types count) w
+  unfolding DeclaresAll declared
   declaring-done d = record {
+    order = ordering-done s c late (v .order) m told d;
     types = sym (append-nil (typeTable count s w 520)) ∙ ap (λ (l : Numbered Identifier). typeTable count s w 520 ++ declared l) (sym (visit-done s c m told d)) ∙ v .same;
     few = v .few;
     kept = v .kept;
@@ -201,24 +209,30 @@ module _ (s : Bytes) (w₀ w : List ℕ) (c : Cursor) (count : ℕ) (v : Declari
         go (F.Elem i j xs) e = tt
         go (F.Data i j d) e = tt
 
-    pub declaring-again : (n : ℕ) (w′ : List ℕ) → Declares s w count f n w′ → Declaring s w₀ w′ (m .next) n
-    unfolding fieldsHere cursorAfter seenWith
-    declaring-again n w′ a =
-        let room = has-room in
-        let num = v .number in
-        let long : n ≡ count + length (declaredIn s f) =
-        sym (table-length n s w′ 520) ∙ ap length (a .types) ∙ length-append (typeTable count s w 520) (declaredIn s f) ∙ ap (λ z. z + length (declaredIn s f)) (table-length count s w 520) in
-        let next = visit-next s c m told f here is in
-        let split : declared (fieldsAhead c s) ≡ declaredIn s f ++ declared (fieldsAhead (m .next) s) =
-        ap declared (visit-fields s c m told f here is) ∙ declared-append _ (fieldsAhead (m .next) s)
-        ∙ ap (λ (l : List FuncType). l ++ declared (fieldsAhead (m .next) s)) (field-declares s (c .rec) (countOf (c .seen)) f _) in
-        record {
-          same = ap (λ (l : List FuncType). l ++ declared (fieldsAhead (m .next) s)) (a .types) ∙ append-assoc (typeTable count s w 520) (declaredIn s f) (declared (fieldsAhead (m .next) s))
-              ∙ ap (λ (l : List FuncType). typeTable count s w 520 ++ l) (sym split) ∙ v .same;
-          number = long ∙ ap (λ z. z + length (declaredIn s f)) num ∙ sym (field-count s (c .seen) f (v .seven) (rw num at room)) ∙ ap (λ (z : Cursor). countOf (z .seen) types) (sym next);
-          seven = ap (λ (z : Cursor). length (z .seen .counts)) next ∙ counting-long (c .seen) (brings (fieldOf s f)) ∙ v .seven;
-          few = let l = few-after s count f room (v .few) in omega arith;
-          kept = kept-then (v .kept) (a .kept);
-          ahead = ahead-kept s w w′ (m .next) (a .kept) (visit-ahead s c m told f here is w (v .ahead));
-          long = a .kept .long ∙ v .long;
-        }
+    module _ (x : Standing) (d : x ≡ standing f) (t : Bool) (e : t ≡ isLate late x) where
+      pub declaring-late : t ≡ true → DeclaresAll s w₀ (U.Refused 11 (c .rec)) w
+      unfolding DeclaresAll
+      declaring-late y = record { says = ordering-late s c late (v .order) m told f here is x d t e y; long = v .long }
+
+      pub declaring-again : (u : Bool) (n : ℕ) (w′ : List ℕ) → t ≡ false → u ≡ lateAfter late x → Declares s w count f n w′ → Declaring s w₀ w′ (m .next) u n
+      unfolding fieldsHere cursorAfter seenWith
+      declaring-again u n w′ y z a =
+          let room = has-room in
+          let num = v .number in
+          let long : n ≡ count + length (declaredIn s f) =
+          sym (table-length n s w′ 520) ∙ ap length (a .types) ∙ length-append (typeTable count s w 520) (declaredIn s f) ∙ ap (λ z. z + length (declaredIn s f)) (table-length count s w 520) in
+          let next = visit-next s c m told f here is in
+          let split : declared (fieldsAhead c s) ≡ declaredIn s f ++ declared (fieldsAhead (m .next) s) =
+          ap declared (visit-fields s c m told f here is) ∙ declared-append _ (fieldsAhead (m .next) s)
+          ∙ ap (λ (l : List FuncType). l ++ declared (fieldsAhead (m .next) s)) (field-declares s (c .rec) (countOf (c .seen)) f _) in
+          record {
+            order = ordering-again s c late (v .order) m told f here is x d t e u y z;
+            same = ap (λ (l : List FuncType). l ++ declared (fieldsAhead (m .next) s)) (a .types) ∙ append-assoc (typeTable count s w 520) (declaredIn s f) (declared (fieldsAhead (m .next) s))
+                ∙ ap (λ (l : List FuncType). typeTable count s w 520 ++ l) (sym split) ∙ v .same;
+            number = long ∙ ap (λ z. z + length (declaredIn s f)) num ∙ sym (field-count s (c .seen) f (v .seven) (rw num at room)) ∙ ap (λ (z : Cursor). countOf (z .seen) types) (sym next);
+            seven = ap (λ (z : Cursor). length (z .seen .counts)) next ∙ counting-long (c .seen) (brings (fieldOf s f)) ∙ v .seven;
+            few = let l = few-after s count f room (v .few) in omega arith;
+            kept = kept-then (v .kept) (a .kept);
+            ahead = ahead-kept s w w′ (m .next) (a .kept) (visit-ahead s c m told f here is w (v .ahead));
+            long = a .kept .long ∙ v .long;
+          }

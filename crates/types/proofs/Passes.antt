@@ -7,6 +7,7 @@ use mathlib.Core.Option.{Option, none, some}
 use lib.ListN.{length, getD, set}
 use lib.Seq.{getD-set-same}
 use native.Mathlib.Omega.{arith}
+use Rattle.definition.specs.Basic.{_>>=_}
 use Rattle.definition.specs.Syntax.{Bytes, Identifier}
 use Rattle.definition.specs.Read.{fieldBody}
 use Rattle.definition.specs.Deinline.{Numbered}
@@ -24,8 +25,8 @@ use Rattle.walk.specs.declared.Met.{Met}
 use Rattle.walk.specs.declared.What.the-variants as W
 use Rattle.walk.proofs.Steps.{visit-done, visit-few, visit-next, visit-fields, visit-unused, visit-ahead, ahead-kept}
 use Rattle.types.specs.Uses.{Skips, usesField, endAfter, Handled, Handles}
-use Rattle.types.specs.Declaring.{DeclaresAll}
-use Rattle.types.specs.Pass.{TypesDone, InternsAll}
+use Rattle.types.specs.Declaring.{DeclaredAll, Late, DeclaresAll}
+use Rattle.types.specs.Pass.{typesAfterOrder, TypesDone, InternsAll}
 use Rattle.types.specs.declared.taken.Used.{Used}
 use Rattle.types.specs.declared.taken.Used.the-variants as U
 use Rattle.types.specs.declared.pass.Typed.{Typed}
@@ -141,15 +142,35 @@ module _ (s w : List ℕ) (d : ℕ) (q : Used) (w₁ : List ℕ) (told : Handles
   stopped-all n r e = handles-stopped 0 4096 s (uses (fieldsIn s)) w d q w₁ told n r e
 
 -- the declared types, and then those of uses
-pub types-done : (s w : List ℕ) (d : ℕ) (w₁ : List ℕ) (r : Typed) (w₂ : List ℕ) → DeclaresAll s w d w₁ → InternsAll s w₁ d r w₂ → TypesDone s w r w₂
-unfolding TypesDone InternsAll allTypes
-types-done s w d w₁ (T.Types n) w₂ a b =
-    let e = a .types in
-    record {
-      all = (rw (← e)) ∙ b .types;
-      declares = b .number ∙ sym (table-length d s w₁ 520) ∙ ap length e;
-      recalled = b .recalled;
-      few = b .few;
-      kept = kept-then (a .kept) (b .kept);
-    }
-types-done s w d w₁ (T.Refused n q) w₂ a b = let e = a .types in record { says = (rw (← e)) ∙ b .says; long = b .long ∙ a .kept .long }
+module _ (s w : List ℕ) (q : Used) (w₁ : List ℕ) (told : DeclaresAll s w q w₁) where
+  module _ (d : ℕ) (is : q ≡ U.Types d) where
+    all-declared : DeclaredAll s w d w₁
+    unfolding DeclaresAll
+    all-declared = rw is at told
+
+    pub declared-few : d ≤ 256
+    declared-few = all-declared .few
+
+    pub declared-ahead : Ahead s w begin → Ahead s w₁ begin
+    declared-ahead a = ahead-kept s w w₁ begin (all-declared .kept) a
+
+    pub types-done : (r : Typed) (w₂ : List ℕ) → InternsAll s w₁ d r w₂ → TypesDone s w r w₂
+    unfolding TypesDone InternsAll typesAfterOrder allTypes _>>=_
+    types-done (T.Types n) w₂ b =
+        let a = all-declared in
+        let o = a .order in
+        let e = a .types in
+        record {
+          all = (rw (o, ← e)) ∙ b .types;
+          declares = b .number ∙ sym (table-length d s w₁ 520) ∙ ap length e;
+          recalled = b .recalled;
+          few = b .few;
+          kept = kept-then (a .kept) (b .kept);
+        }
+    types-done (T.Refused n p) w₂ b = let a = all-declared in let o = a .order in let e = a .types in
+        record { says = (rw (o, ← e)) ∙ b .says; long = b .long ∙ a .kept .long }
+
+  -- an import came too late
+  pub types-late : (n p : ℕ) → q ≡ U.Refused n p → TypesDone s w (T.Refused n p) w₁
+  unfolding TypesDone DeclaresAll typesAfterOrder _>>=_
+  types-late n p is = let a : Late s w n p w₁ = rw is at told in let o = a .says in record { says = rw o; long = a .long }

@@ -3,8 +3,9 @@ use Prim.Native.Nat.{ℕ, _+_, _≤_, _<_}
 use mathlib.Core.Path.{_≡_}
 use mathlib.Core.List.{List, [], _∷_}
 use lib.ListN.{length, getD}
-use Rattle.definition.specs.Basic.{ok, refused}
-use Rattle.definition.specs.Syntax.{Bytes, FuncType}
+use Rattle.definition.specs.Basic.{Answer, ok, refused, _>>=_}
+use Rattle.definition.specs.Syntax.{Bytes, Identifier, FuncType}
+use Rattle.definition.specs.Deinline.{Numbered, importOrder}
 use Rattle.definition.specs.Types.{Uses, uses, declared, typeNumber, intern, allTypes}
 use Rattle.space.specs.Kept.{Kept}
 use Rattle.signatures.specs.Table.{typeTable, typesIn}
@@ -30,16 +31,20 @@ unfoldable pub InternsAll : Bytes → List ℕ → ℕ → Typed → List ℕ �
 InternsAll s w d (T.Types n) w′ = InternedAll s w d n w′
 InternsAll s w d (T.Refused n q) w′ = Stopped s (uses (fieldsIn s)) w d n q w′
 
+-- the order of imports, over the whole stream, and then the types
+unfoldable pub typesAfterOrder : Numbered Identifier → Answer (List FuncType)
+typesAfterOrder fs = importOrder fs >>= λ _. allTypes fs
+
 -- all types are in the work area; the first `n` are the declared ones
 pub record HasTypes (s : Bytes) (w : List ℕ) (n : ℕ) (w′ : List ℕ) : Type 0 where
-  pub all : allTypes (fieldsIn s) ≡ ok (typesIn s w′)
+  pub all : typesAfterOrder (fieldsIn s) ≡ ok (typesIn s w′)
   pub declares : n ≡ length (declared (fieldsIn s))
   pub recalled : Recalled w′ (typesIn s w′) (uses (fieldsIn s))
   pub few : getD w′ 5896 0 ≤ 256
   pub kept : Kept 520 w w′
 
 pub record NoTypes (s : Bytes) (w : List ℕ) (n q : ℕ) (w′ : List ℕ) : Type 0 where
-  pub says : allTypes (fieldsIn s) ≡ refused n q
+  pub says : typesAfterOrder (fieldsIn s) ≡ refused n q
   pub long : length w′ ≡ length w
 
 unfoldable pub TypesDone : Bytes → List ℕ → Typed → List ℕ → Type 0

@@ -1,4 +1,5 @@
 // The declared types, wherever they stand.
+use crate::taken::Used;
 use fields::Field;
 use signatures::Signature;
 use typeuse::List;
@@ -65,23 +66,29 @@ fn declare(s: &[u8], work: &mut [u32], count: u32, f: Field) -> u32
     }
 }
 
-// All of them, in their order.
-pub fn declare_all(s: &[u8], work: &mut [u32]) -> u32
+// All of them, in their order. The same walk finds the first import that comes too late.
+pub fn declare_all(s: &[u8], work: &mut [u32]) -> Used
     requires { ⌜ (length (now s) ≤ 65536) × (16384 ≤ length (now work)) × Ahead (now s) (now work) begin ⌝ }
     ensures { λ r. ⌜ DeclaresAll (now (s .entry)) (now (work .entry)) r (now (work .exit)) ⌝ }
 {
     let mut c = walk::start();
+    let mut late = false;
     let mut count: u32 = 0;
     loop {
         let m = walk::visit(s, work, c);
         let what = m.what;
         match what {
             What::Field(f, _) => {
+                let x = order::field_standing(f);
+                if order::is_late(late, x) {
+                    return Used::Refused(11, c.rec);
+                }
+                late = order::late_after(late, x);
                 count = declare(s, work, count, f);
                 c = m.next;
             }
             What::Done => {
-                return count;
+                return Used::Types(count);
             }
         }
     }

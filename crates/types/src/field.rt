@@ -29,15 +29,7 @@ fn use_extern(s: &[u8], work: &mut [u32], count: u32, x: Extern, rec: u32) -> Us
 }
 
 // The module's own item; the body of a function begins at `at`, and has uses only where `looks` is true.
-fn use_own(
-    s: &[u8],
-    work: &mut [u32],
-    count: u32,
-    o: Own,
-    looks: bool,
-    at: usize,
-    rec: u32,
-) -> Used
+fn use_own(s: &[u8], work: &mut [u32], count: u32, o: Own, looks: bool, at: usize, rec: u32) -> Used
     requires { ⌜ (length (now s) ≤ 65536) × (16384 ≤ length (now work)) × (count ≤ 256) × (rec < 4096) × Skips looks (Types.bodyUses (rec + 1) (bodyIn (Read.ownBody (ownOf (now s) o)) (rec + 1) (now s) at)) ⌝ }
     ensures { λ r. ⌜ Handles rec (endAfter (Read.ownBody (ownOf (now (s .entry)) o)) rec (now (s .entry)) at) (now (s .entry)) (usesOwn rec (ownOf (now (s .entry)) o) (now (s .entry)) at) (now (work .entry)) count r (now (work .exit)) ⌝ }
 {

@@ -1,4 +1,4 @@
-// The pass over a stream: declared types first, then the uses in their order.
+// The pass over a stream: declared types and the order of imports first, then the uses in their order.
 use crate::declared::declare_all;
 use crate::field::use_field;
 use crate::taken::Used;
@@ -70,11 +70,13 @@ fn intern_all(s: &[u8], work: &mut [u32], declared: u32) -> Typed
     }
 }
 
-// All types of a stream, in the work area.
+// All types of a stream, in the work area; before them the order of imports.
 pub fn all_types(s: &[u8], work: &mut [u32]) -> Typed
     requires { ⌜ (length (now s) ≤ 65536) × (16384 ≤ length (now work)) × Ahead (now s) (now work) begin ⌝ }
     ensures { λ r. ⌜ TypesDone (now (s .entry)) (now (work .entry)) r (now (work .exit)) ⌝ }
 {
-    let declared = declare_all(s, work);
-    intern_all(s, work, declared)
+    match declare_all(s, work) {
+        Used::Types(declared) => intern_all(s, work, declared),
+        Used::Refused(n, r) => Typed::Refused(n, r),
+    }
 }

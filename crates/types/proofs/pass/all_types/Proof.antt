@@ -1,24 +1,41 @@
-use Rattle.walk.proofs.Steps.{ahead-kept}
-use Rattle.types.proofs.Passes.{types-done}
+use Rattle.types.proofs.Passes.{declared-few, declared-ahead, types-done, types-late}
 use borrow.Author.Needs.{needs}
 use Rattle.types.proofs.pass.all_types.Statement.{statement}
 use Rattle.types.proofs.pass.all_types.Tie as tie
 
--- src/pass.rt:77:9
 declare-all-requires : tie.Need-declare-all-requires
 declare-all-requires c κs = search needs
 
--- src/pass.rt:78:5
-intern-all-requires : tie.Need-intern-all-requires
-intern-all-requires c κs = search (ahead-kept, needs)
+enum-known-declared : tie.Need-enum-known-declared
+enum-known-declared c = search needs
 
--- src/pass.rt:73:1
+intern-all-requires : tie.Need-intern-all-requires
+intern-all-requires c κs = search (declared-few, declared-ahead, needs)
+
+enum-known-n : tie.Need-enum-known-n
+enum-known-n c = search needs
+
 same-length : tie.Need-same-length
 same-length c = search needs
 
--- src/pass.rt:73:1
 returns : tie.Need-returns
-returns c = search (types-done) depth 8
+returns c = search types-done
+
+same-length-2 : tie.Need-same-length-2
+same-length-2 c = search needs
+
+returns-2 : tie.Need-returns-2
+returns-2 c = search types-late
 
 pub all-types-spec : {M : Type 1} → statement M
-all-types-spec = tie.close (tie.spec declare-all-requires intern-all-requires same-length returns)
+all-types-spec =
+    tie.close
+    (tie.spec
+    declare-all-requires
+    enum-known-declared
+    intern-all-requires
+    enum-known-n
+    same-length
+    returns
+    same-length-2
+    returns-2)
