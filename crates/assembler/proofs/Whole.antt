@@ -27,11 +27,8 @@ use Rattle.walk.specs.Walk.{begin, fieldsIn, Ahead}
 use Rattle.walk.proofs.Steps.{ahead-kept}
 use Rattle.walk.proofs.Join.{fields-in}
 use Rattle.walk.proofs.Begin.{reads-accepted, Accepted}
-use Rattle.order.specs.Order.{ordered}
-use Rattle.order.specs.declared.Order as Ordered
-use Rattle.order.specs.declared.Order.the-variants as O
 use Rattle.types.specs.Pass as Pass
-use Rattle.types.specs.Pass.{TypesDone, HasTypes}
+use Rattle.types.specs.Pass.{typesAfterOrder, TypesDone, HasTypes}
 use Rattle.types.specs.declared.pass.Typed.{Typed}
 use Rattle.types.specs.declared.pass.Typed.the-variants as T
 use Rattle.names.specs.Register.{Registers, Stands}
@@ -45,7 +42,7 @@ use Rattle.sections.specs.declared.tally.Verdict.{Verdict}
 use Rattle.sections.specs.declared.tally.Verdict.the-variants as V′
 use Rattle.module.specs.Write.{Writable, allEntries, moduleItems}
 use Rattle.name_section.specs.Section.{namesIn}
-use Rattle.assembler.specs.Run.{Found, fromNames, fromTypes, fromOrder, fromFields, Ready, PassesBy, Passes}
+use Rattle.assembler.specs.Run.{Found, fromNames, fromTypes, fromFields, Ready, PassesBy, Passes}
 use Rattle.assembler.specs.Run.{heard, Does, makes, writes, saidBy, ReadyBy, Prepares, Runs, outcomeOf}
 use Rattle.assembler.specs.declared.Said.{Said}
 use Rattle.assembler.specs.declared.Passed.{Passed}
@@ -84,7 +81,7 @@ module _ (s w : List ℕ) (q : Registered) (w₁ : List ℕ) (h : Registers s w 
   unfolding fromTypes _>>=_ Registers
   register-not count p n r e v = (let g = rw e at h in let a = g .0 in refuses _ count s w p w₁ n r (rw a refl) v (g .1))
 
--- ## Types
+-- ## The order of imports, and the types
 
 -- each use has its number, by the words of both crates
 recalled-as : (w : List ℕ) (ts : List FuncType) (us : Uses) → Pass.Recalled w ts us → Recalled w ts us
@@ -111,31 +108,26 @@ module _ (s w : List ℕ) (q : Typed) (w₁ : List ℕ) (h : TypesDone s w q w�
     types-declared = has .declares
 
     pub types-done : (count : ℕ) (p : Passed) (w₂ : List ℕ) → Passes (fromTypes (fieldsIn s) (typesIn s w₁)) count s w₁ p w₂
-        → Passes (fromOrder (fieldsIn s)) count s w p w₂
-    unfolding fromOrder _>>=_
+        → Passes (fromFields (fieldsIn s)) count s w p w₂
+    unfolding fromFields _>>=_
     types-done count p w₂ y = let a = has .all in passes-on _ _ count s w w₁ p w₂ (rw a refl) (has .kept .long) y
 
-  pub types-not : (count : ℕ) (p : Passed) (n r : ℕ) → q ≡ T.Refused n r → p .verdict ≡ V′.Refused n r → Passes (fromOrder (fieldsIn s)) count s w p w₁
-  unfolding fromOrder _>>=_ TypesDone
+  pub types-not : (count : ℕ) (p : Passed) (n r : ℕ) → q ≡ T.Refused n r → p .verdict ≡ V′.Refused n r → Passes (fromFields (fieldsIn s)) count s w p w₁
+  unfolding fromFields _>>=_ TypesDone
   types-not count p n r e v = (let g = rw e at h in let a = g .says in refuses _ count s w p w₁ n r (rw a refl) v (g .long))
-
--- ## Import order
-
-module _ (s w : List ℕ) (q : Ordered.Order) (h : importOrder (fieldsIn s) ≡ ordered q) where
-  pub order-done : (count : ℕ) (p : Passed) (w₂ : List ℕ) → q ≡ O.Kept → Passes (fromOrder (fieldsIn s)) count s w p w₂ → Passes (fromFields (fieldsIn s)) count s w p w₂
-  unfolding fromFields _>>=_
-  order-done count p w₂ e y = passes-on _ _ count s w w p w₂ (rw (h, e) refl) refl y
-
-  pub order-not : (count : ℕ) (p : Passed) (n r : ℕ) → q ≡ O.Refused n r → p .verdict ≡ V′.Refused n r → Passes (fromFields (fieldsIn s)) count s w p w
-  unfolding fromFields _>>=_
-  order-not count p n r e v = refuses _ count s w p w n r (rw (h, e) refl) v refl
 
 -- ## The records
 
+-- what follows the types follows the order of imports and then them
+order-then : (a : Answer (Unit {0})) (b : Answer (List FuncType)) (k : List FuncType → Answer Found) → ((a >>= λ _. b) >>= k) ≡ (a >>= λ _. b >>= k)
+unfolding _>>=_
+order-then (ok u) b k = refl
+order-then (refused n r) b k = refl
+
 -- the stages are the definition's passes
 fields-found : (fs : Numbered Identifier) → fromFields fs ≡ (scope sameBytes fs >>= fromNames fs)
-unfolding fromFields fromOrder fromTypes
-fields-found fs = sym (scope-then sameBytes fs (fromNames fs))
+unfolding fromFields typesAfterOrder fromTypes
+fields-found fs = order-then (importOrder fs) (allTypes fs) (fromTypes fs) ∙ sym (scope-then sameBytes fs (fromNames fs))
 
 -- what follows them, on what they find and on the items alone
 found-then : (fs : Numbered Identifier) (a : Answer (Scope Identifier)) (k : Found → Answer Bytes) → (a >>= λ Γ. itemsIn Γ fs >>= λ is. k (Γ, is)) ≡ (a >>= fromNames fs >>= k)

@@ -6,14 +6,14 @@ use mathlib.Core.List.{List, [], _++_}
 use lib.ListN.{length}
 use Rattle.definition.specs.Basic.{Answer, ok, refused, _>>=_, sameBytes}
 use Rattle.definition.specs.Syntax.{Bytes, Identifier, FuncType, Item}
-use Rattle.definition.specs.Deinline.{Numbered, importOrder}
-use Rattle.definition.specs.Types.{allTypes}
+use Rattle.definition.specs.Deinline.{Numbered}
 use Rattle.definition.specs.Names.{Scope, space, register}
 use Rattle.definition.specs.Binary.{module′}
 use Rattle.definition.specs.NameSection.{nameSection}
 use Rattle.definition.specs.Assemble as Assemble
 use Rattle.definition.specs.Assemble.{itemsIn, fitting, Maker, moduleIn, namedModuleIn, refusal, say, assembleBy, outputAfter}
 use Rattle.walk.specs.Walk.{fieldsIn}
+use Rattle.types.specs.Pass.{typesAfterOrder}
 use Rattle.scope.specs.Scope.{scopeIn}
 use Rattle.sections.specs.Tally.{tallies, noTally}
 use Rattle.sections.specs.declared.tally.Verdict.{Verdict}
@@ -34,11 +34,8 @@ fromNames fs Γ = itemsIn Γ fs >>= λ is. ok (Γ, is)
 unfoldable pub fromTypes : Numbered Identifier → List FuncType → Answer Found
 fromTypes fs ts = register sameBytes [] fs >>= λ xs. fromNames fs (record { eq = sameBytes; names = λ k. space k xs; allTypes = ts })
 
-unfoldable pub fromOrder : Numbered Identifier → Answer Found
-fromOrder fs = allTypes fs >>= λ ts. fromTypes fs ts
-
 unfoldable pub fromFields : Numbered Identifier → Answer Found
-fromFields fs = importOrder fs >>= λ _. fromOrder fs
+fromFields fs = typesAfterOrder fs >>= λ ts. fromTypes fs ts
 
 -- what a writer asks for: the items as the work area has them, and their tally
 pub record Ready (s : List ℕ) (p : Passed) (w : List ℕ) : Type 0 where

@@ -3,7 +3,6 @@ pub mod export;
 
 use module::module_len;
 use names::Registered;
-use order::Order;
 use sections::Tally;
 use sections::Verdict;
 use stream::Count;
@@ -21,7 +20,7 @@ ghost use Rattle.scope.specs.Scope.{scopeIn, Recalled};
 ghost use Rattle.sections.specs.Tally.{tallies, noTally};
 ghost use Rattle.module.specs.Write.{Writable, allEntries, moduleItems};
 ghost use Rattle.name_section.specs.Section.{namesIn};
-ghost use Rattle.assembler.specs.Run.{Passes, Prepares, noRoom, Does, Runs, fromNames, fromTypes, fromOrder, fromFields, makes, outcomeOf};
+ghost use Rattle.assembler.specs.Run.{Passes, Prepares, noRoom, Does, Runs, fromNames, fromTypes, fromFields, makes, outcomeOf};
 
 // A number, a record, and how many bytes were written.
 pub struct Said {
@@ -88,25 +87,14 @@ fn register(s: &[u8], work: &mut [u32], count: u32, declared: u32) -> Passed
     }
 }
 
-// The types; then the names.
+// The order of imports and the types; then the names.
 fn intern(s: &[u8], work: &mut [u32], count: u32) -> Passed
     requires { ⌜ (length (now s) ≤ 65536) × (16384 ≤ length (now work)) × Ahead (now s) (now work) begin ⌝ }
-    ensures { λ r. ⌜ Passes (fromOrder (fieldsIn (now (s .entry)))) count (now (s .entry)) (now (work .entry)) r (now (work .exit)) ⌝ }
+    ensures { λ r. ⌜ Passes (fromFields (fieldsIn (now (s .entry)))) count (now (s .entry)) (now (work .entry)) r (now (work .exit)) ⌝ }
 {
     match types::all_types(s, work) {
         Typed::Types(declared) => register(s, work, count, declared),
         Typed::Refused(n, q) => refuse(n, q),
-    }
-}
-
-// Imports first; then the types.
-fn in_order(s: &[u8], work: &mut [u32], count: u32) -> Passed
-    requires { ⌜ (length (now s) ≤ 65536) × (16384 ≤ length (now work)) × Ahead (now s) (now work) begin ⌝ }
-    ensures { λ r. ⌜ Passes (fromFields (fieldsIn (now (s .entry)))) count (now (s .entry)) (now (work .entry)) r (now (work .exit)) ⌝ }
-{
-    match order::import_order(s, work) {
-        Order::Kept => intern(s, work, count),
-        Order::Refused(n, q) => refuse(n, q),
     }
 }
 
@@ -115,7 +103,7 @@ fn prepare(s: &[u8], work: &mut [u32]) -> Passed
     ensures { λ r. ⌜ Prepares (now (s .entry)) (now (work .entry)) r (now (work .exit)) ⌝ }
 {
     match stream::read_all(s, work) {
-        Count::Records(count) => in_order(s, work, count),
+        Count::Records(count) => intern(s, work, count),
         Count::Refused(n, q) => refuse(n, q),
     }
 }

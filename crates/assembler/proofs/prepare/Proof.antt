@@ -10,8 +10,8 @@ read-all-requires c κs = search needs
 enum-known-count : tie.Need-enum-known-count
 enum-known-count c = search needs
 
-in-order-requires : tie.Need-in-order-requires
-in-order-requires c κs = (search reads-short, search reads-long, search reads-ahead)
+intern-requires : tie.Need-intern-requires
+intern-requires c κs = (search reads-short, search reads-long, search reads-ahead)
 
 enum-known-n : tie.Need-enum-known-n
 enum-known-n c = search needs
@@ -37,7 +37,7 @@ prepare-spec =
     (tie.spec
     read-all-requires
     enum-known-count
-    in-order-requires
+    intern-requires
     enum-known-n
     refuse-requires
     same-length
