@@ -16,13 +16,13 @@ use base.Fml.{GName, Lft, Share, Fml, ftrue, fsep, flft, fdead, fobs, fauth, fre
 use prog.Wp.{Heap, Env, Spot, spotOf, Calls, Loops}
 use ghost.Atoms.{Atoms, sem}
 use contract.Monad.{fact}
-use types.Kit.{Post, Goal, runs, settles, frees, prop, atRet, Soaks, Given, Item, mean, Seq, Step, step, ‵, raw, _⊛_, ⋆, some, later, _$_, _∵_, !, qed, move, drop, use1, use3, split, join, rewrite, use2, pick, given, learn, fsplit, fsplit3, fjoin, fjoin3, fpick, fpack, feqI, frame, keep, show, check, await, done}
+use types.Kit.{Post, Goal, runs, lands, frees, prop, atRet, Soaks, Given, Item, mean, Seq, Step, step, ‵, raw, _⊛_, ⋆, some, later, _$_, _∵_, !, qed, move, drop, use1, use3, split, join, rewrite, use2, pick, given, learn, fsplit, fsplit3, fjoin, fjoin3, fpick, fpack, feqI, frame, keep, show, check, await, done}
 use types.Run.{Reads, Walks, Finds, Opds, look, init, store, forget, stop, hop, fld, from, load, of-opd, assigns, land, returns, free1, free0}
 use types.Part.{whole, sub, look-in}
 use types.Tokens.{lft-new, lft-end}
 use sound.WpLaws.{FmC}
 use denote.Triple.Statement.{Contract, Triple}
-use denote.Triple.Call.{calls-at, calls-at-last}
+use denote.Triple.Call.{calls-at}
 use types.SemTy.{Body}
 use denote.RattleType.{RattleType}
 use denote.Laws.{Is, shows}
@@ -283,16 +283,16 @@ module _ {M : Type 1} (𝓤 : URA M) (H : Heap 𝓤) (A : Atoms 𝓤) (W : Given
 -- ## A caller of a thin reader
 
 module _ {M : Type 1} (𝓤 : URA M) (H : Heap 𝓤) (A : Atoms 𝓤) (W : Given 𝓤 H A) where
-  -- What a thin reader's contract says at exit: φ of its last place, under the name of the loan, and so ψ. L is of its further parameters.
-  pub told : (L : Fml) {Z : Type 0} (γ : GName) (φ ψ : Place → Type 0) → ((p : Place) → φ p → ψ p)
+  -- What a thin reader's contract says at exit: φ of its last place, under the name of the loan. L is of its further parameters.
+  pub told : (L : Fml) {Z : Type 0} (γ : GName) (φ : Place → Type 0)
       → ent 𝓤 (ex 𝓤 (λ (ws : Unit {0} × (Place × Z)). sep 𝓤 (sem 𝓤 H A (fsep ftrue (fsep (fres γ (R .coded .code (ws .1 .0))) L))) (fact 𝓤 (φ (ws .1 .0)))))
-      (mean 𝓤 H A (some (λ (p : Place). given (ψ p) (last γ p))))
-  told L {Z} γ φ ψ so =
+      (mean 𝓤 H A (some (λ (p : Place). given (φ p) (last γ p))))
+  told L {Z} γ φ =
       qed W (some (λ (ws : Unit {0} × (Place × Z)). ‵ (fsep ftrue (fsep (fres γ (R .coded .code (ws .1 .0))) L)) ⊛ raw (fact 𝓤 (φ (ws .1 .0)))) ∷ []) ∵
       pick ! (λ ws. split ! $ move ! (1 ∷ []) $ heard ! (φ (ws .1 .0)) (λ e. fsplit ! $ move ! (1 ∷ []) $ fsplit ! $
-      show ! (λ (p : Place). guard 𝓤 (ψ p) (sem 𝓤 H A (fres γ (R .coded .code p)))) (ws .1 .0) $ check ! (so (ws .1 .0) e) $ keep ! (0 ∷ []) $ done !))
+      show ! (λ (p : Place). guard 𝓤 (φ p) (sem 𝓤 H A (fres γ (R .coded .code p)))) (ws .1 .0) $ check ! e $ keep ! (0 ∷ []) $ done !))
 
-  -- A local place is lent to a thin reader, whose call is the last statement of its part, and comes back moved on.
+  -- A local place is lent to a thin reader, and comes back moved on.
   module _ (κ : Lft) (q : Share) (s : RefT (List ℕ)) (h : Place) (b : ℕ) (X : What) where
     abbrev pub Asks : ℕ → GName → List (Item 𝓤)
     Asks α γ = (‵ (flft κ q) ⊛ ‵ (flft (α ∷ []) fullShare)) ∷ ‵ (Stream 𝓤 H A W κ (α ∷ []) q fullShare s) ∷ ‵ (Lends 𝓤 H A W κ (α ∷ []) q fullShare s b 0 γ h) ∷ []
@@ -309,12 +309,12 @@ module _ {M : Type 1} (𝓤 : URA M) (H : Heap 𝓤) (A : Atoms 𝓤) (W : Given
       pub came : (α : ℕ) (γ : GName) (u : Val) → ent 𝓤 (c .post (to α γ) u) (mean 𝓤 H A (Answers (said α γ) α u))
       pub tells : (α : ℕ) (γ : GName) (w : X .row .Denot) → ent 𝓤 (said α γ w) (mean 𝓤 H A (some (λ (p : Place). given (φ w p) (last γ p))))
 
-    pub lends-to : {K : Type 0} {Γ : List (Item 𝓤)} {E : Env 𝓤 H} {C : Calls 𝓤 H} {Λ : Loops 𝓤 H} {Z : Post 𝓤 H} {f : Name} {xs : List Opd} {d : MirPlace} → K → Is R h (low h ∷ []) → (vs : List Val) (φ : X .row .Denot → Place → Type 0)
+    pub lends-to : {K : Type 0} {Γ : List (Item 𝓤)} {E : Env 𝓤 H} {C : Calls 𝓤 H} {Λ : Loops 𝓤 H} {Z : Post 𝓤 H} {f : Name} {xs : List Opd} {d : MirPlace} {rest : MirBody} → K → Is R h (low h ∷ []) → (vs : List Val) (φ : X .row .Denot → Place → Type 0)
         → FmC 𝓤 H (W .laws) C → (c : Contract 𝓤) → Triple 𝓤 (C f) c → ByLoan c vs φ → ((X₀ X₁ : Item 𝓤) → Opds K W (X₀ ∷ X₁ ∷ Γ) E xs vs)
-        → ((u : Val) (w : X .row .Denot) (p : Place) → φ w p → Is (X .row) w (u ∷ []) → Is R p (low p ∷ []) → Seq K W (cell b 0 p ∷ ‵ (flft κ q) ∷ Γ) (settles E d u Z))
-        → Seq K W (cell b 0 h ∷ ‵ (flft κ q) ∷ ‵ (Stream 𝓤 H A W κ κ q q s) ∷ Γ) (runs C Λ E (call f xs d) Z)
+        → ((u : Val) (w : X .row .Denot) (p : Place) → φ w p → Is (X .row) w (u ∷ []) → Is R p (low p ∷ []) → Seq K W (cell b 0 p ∷ ‵ (flft κ q) ∷ Γ) (lands C Λ E d u rest Z))
+        → Seq K W (cell b 0 h ∷ ‵ (flft κ q) ∷ ‵ (Stream 𝓤 H A W κ κ q q s) ∷ Γ) (runs C Λ E (seq (call f xs d) rest) Z)
     lends-to {E = E} {xs = xs} t is vs φ fm c known r₀ ops k =
         lft-new t tt (λ α. move t (1 ∷ []) $ lent t tt (α ∷ []) h b is (λ γ. move t (3 ∷ 2 ∷ 4 ∷ 0 ∷ []) $ join t $ use3 W (raw (c .pre (r₀ .to α γ))) (r₀ .goes α γ) $
-        calls-at-last t fm c known (r₀ .to α γ) (subst (Opds _ W _ E xs) (sym (r₀ .args α γ)) (ops _ _)) (λ u. use1 W (Answers (r₀ .said α γ) α u) (r₀ .came α γ u) $ moved t tt (X .row) (r₀ .said α γ) φ (r₀ .tells α γ) u (λ w p e i.
+        calls-at t fm c known (r₀ .to α γ) (subst (Opds _ W _ E xs) (sym (r₀ .args α γ)) (ops _ _)) (λ u. use1 W (Answers (r₀ .said α γ) α u) (r₀ .came α γ u) $ moved t tt (X .row) (r₀ .said α γ) φ (r₀ .tells α γ) u (λ w p e i.
         -- [the last place; the tokens; the loan]
         move t (1 ∷ []) $ split t $ move t (1 ∷ []) $ split t $ lft-end t tt $ move t (0 ∷ 4 ∷ 3 ∷ []) $ back t tt p b (λ j. move t (1 ∷ []) $ drop t $ k u w p e i j)))))

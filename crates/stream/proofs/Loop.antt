@@ -1,7 +1,7 @@
 -- The loop over all records: what it started from passes as what is left passes from here.
 use mathlib.Core.Path.{_≡_, refl, ap, sym, _∙_, subst}
 use Prim.Native.Nat.{ℕ, zero, suc, _+_, _-_, _*_, _≤_, _<_, _^_, min}
-use mathlib.Core.Bool.{Bool, true, false}
+use mathlib.Core.Bool.{Bool, true, false, _||_}
 use mathlib.Core.List.{List, [], _∷_, _++_, append-nil}
 use mathlib.Core.Option.{Option, none, some}
 use lib.Dec.{leb, ltb}
@@ -16,9 +16,9 @@ use mir.Val.{Fits}
 use Rattle.definition.specs.Basic.{if_then_else_, Answer, ok, refused}
 use Rattle.definition.specs.Syntax as Syntax
 use Rattle.definition.specs.Syntax.{Bytes, Identifier, Rec, field, instr, bodyEnd}
-use Rattle.definition.specs.Reader.{Step, got, fault, onward}
+use Rattle.definition.specs.Reader.{Step, got, fault}
 use Rattle.definition.specs.Instructions.{bodyRec}
-use Rattle.definition.specs.Records.{Room, fieldRec}
+use Rattle.definition.specs.Records.{Room}
 use Rattle.definition.specs.Read as Read
 use Rattle.definition.specs.Read.{room, bodyAfter, seenAfter, nothingSeen, recordIn, oneRecord, beginsIn, atEnd, read}
 use Rattle.laws.specs.Steps.{total}
@@ -28,14 +28,15 @@ use Rattle.sources.specs.Views.{roomOf, noneSeen}
 use Rattle.sources.specs.declared.seen.Seen.{Seen}
 use Rattle.fields.specs.Views.{fieldOf}
 use Rattle.fields.specs.declared.field.Field.{Field}
-use Rattle.instr.specs.Views.{instrIs}
-use Rattle.instr.specs.declared.Instr.{Instr}
-use Rattle.stream.specs.Pass.{bodyOf, depthOf, recordPast, placeAfter, movedBy, nextRecordAt, recordAt, Passed, endOf, pass, passed, endWords, countWords, areaAfter, areaOf, counted, reading, readingArea, Walks, Reads}
+use Rattle.stream.specs.Uses.{mayUse, endWord}
+use Rattle.stream.specs.Pass.{bodyOf, recordPast, placeAfter, movedBy, fieldRecordAt, bodyRecordAt, Passed, usedAfter, endOf, pass, passed, endWords, countWords, areaAfter, areaOf, counted, reading, readingArea, Walks, Reads}
 use Rattle.stream.specs.Counting.{fieldSeen}
-use Rattle.stream.specs.Answers.{recordAnswer, endPut}
+use Rattle.stream.specs.Answers.{outsideAnswer, Kept, an-instr, an-end, keptOf, keptAnswer, keptAt, insideAnswer, endPut}
 use Rattle.stream.specs.declared.record.Place.{Place}
-use Rattle.stream.specs.declared.record.Record.{Record}
-use Rattle.stream.specs.declared.record.Record.the-variants as R
+use Rattle.stream.specs.declared.record.Outside.{Outside}
+use Rattle.stream.specs.declared.record.Outside.the-variants as U
+use Rattle.stream.specs.declared.record.Inside.{Inside}
+use Rattle.stream.specs.declared.record.Inside.the-variants as N
 use Rattle.stream.specs.declared.pass.Count.{Count}
 use Rattle.stream.specs.declared.pass.Count.the-variants as C
 use Rattle.stream.proofs.Model.{passed-says, pass-end, pass-fault, pass-full, pass-got}
@@ -51,41 +52,77 @@ pub record Was (free : Room) (p : Place) (s : Bytes) (x : Rec Identifier) (q : P
   pub next : q .rec ≡ p .rec + 1
   pub deep : bodyOf (q .depth) ≡ bodyAfter (bodyOf (p .depth)) x
 
-record-was : (free : Room) (p : Place) (s : Bytes) (x : Rec Identifier) (q : Place) → recordAt free p s ≡ (ok x, q) → Was free p s x q
-unfolding recordAt nextRecordAt placeAfter recordPast
-record-was free p s x q e = go (leb 4096 (p .rec)) refl (recordIn free (bodyOf (p .depth)) s (p .at)) refl e
-  where
-    go : (t : Bool) → leb 4096 (p .rec) ≡ t → (st : Step (Rec Identifier)) → recordIn free (bodyOf (p .depth)) s (p .at) ≡ st
-        → (if t then (refused (if beginsIn (getD s (p .at) 0) (bodyOf (p .depth)) then 7 else 4) (p .rec), p) else movedBy p st) ≡ (ok x, q)
-        → Was free p s x q
-    go true d st f e = let j : refused (if beginsIn (getD s (p .at) 0) (bodyOf (p .depth)) then 7 else 4) (p .rec) ≡ ok x = ap (λ (z : Answer (Rec Identifier) × Place). z .0) e in let z : _≡_ {A = ℕ} 0 1 = cc in absurd (omega arith)
-    go false d (fault k) f e = let j : refused k (p .rec) ≡ ok x = ap (λ (z : Answer (Rec Identifier) × Place). z .0) e in let z : _≡_ {A = ℕ} 0 1 = cc in absurd (omega arith)
-    go false d (got y n) f e =
-        let j : ok y ≡ ok x = ap (λ (z : Answer (Rec Identifier) × Place). z .0) e in
-        let a : y ≡ x = cc in
-        let b : placeAfter p y n ≡ q = ap (λ (z : Answer (Rec Identifier) × Place). z .1) e in
-        record {
-          few = leb-false 4096 (p .rec) d;
-          reads = f ∙ ap (λ z. got z n) a ∙ ap (λ (z : Place). got x (z .at)) b;
-          next = sym (ap (λ (z : Place). z .rec) b);
-          deep = sym (ap (λ (z : Place). bodyOf (z .depth)) b) ∙ body-depth (bodyAfter (bodyOf (p .depth)) y) ∙ ap (bodyAfter (bodyOf (p .depth))) a;
-        }
+module _ (free : Room) (p : Place) (s : Bytes) (x : Rec Identifier) (q : Place) (h : p .rec < 4096) where
+  moved-was : (st : Step (Rec Identifier)) → recordIn free (bodyOf (p .depth)) s (p .at) ≡ st → movedBy p st ≡ (ok x, q) → Was free p s x q
+  unfolding placeAfter recordPast
+  moved-was (fault k) f e = let j : refused k (p .rec) ≡ ok x = ap (λ (z : Answer (Rec Identifier) × Place). z .0) e in let z : _≡_ {A = ℕ} 0 1 = cc in absurd (omega arith)
+  moved-was (got y n) f e =
+      let j : ok y ≡ ok x = ap (λ (z : Answer (Rec Identifier) × Place). z .0) e in
+      let a : y ≡ x = cc in
+      let b : placeAfter p y n ≡ q = ap (λ (z : Answer (Rec Identifier) × Place). z .1) e in
+      record {
+        few = h;
+        reads = f ∙ ap (λ z. got z n) a ∙ ap (λ (z : Place). got x (z .at)) b;
+        next = sym (ap (λ (z : Place). z .rec) b);
+        deep = sym (ap (λ (z : Place). bodyOf (z .depth)) b) ∙ body-depth (bodyAfter (bodyOf (p .depth)) y) ∙ ap (bodyAfter (bodyOf (p .depth))) a;
+      }
+
+  -- outside a body
+  field-was : p .depth < 1 → fieldRecordAt free p s ≡ (ok x, q) → Was free p s x q
+  unfolding fieldRecordAt
+  field-was d e = moved-was (recordIn free none s (p .at)) (ap (λ b. recordIn free b s (p .at)) (outside (p .depth) d)) e
+
+  -- in one
+  body-was : 1 ≤ p .depth → bodyRecordAt p s ≡ (ok x, q) → Was free p s x q
+  unfolding bodyRecordAt
+  body-was d e = moved-was (bodyRec (p .depth - 1) s (p .at)) (ap (λ b. recordIn free b s (p .at)) (inside (p .depth) d)) e
+
+-- the record of which this was kept
+record Kept-of (y : Answer (Rec Identifier) × Place) (k : Kept) (q : Place) : Type 0 where
+  rec : Rec Identifier
+  is : y ≡ (ok rec, q)
+  keeps : keptOf rec ≡ k
+
+kept-of : (y : Answer (Rec Identifier) × Place) (k : Kept) (q : Place) → keptAt y ≡ (ok k, q) → Kept-of y k q
+kept-of (ok x, p) k q e =
+    let a : ok (keptOf x) ≡ ok k = ap (λ (z : Answer Kept × Place). z .0) e in
+    let b : p ≡ q = ap (λ (z : Answer Kept × Place). z .1) e in
+    record { rec = x; is = rw b; keeps = cc }
+kept-of (refused n r, p) k q e =
+    let a : refused n r ≡ ok k = ap (λ (z : Answer Kept × Place). z .0) e in let z : _≡_ {A = ℕ} 0 1 = cc in absurd (omega arith)
+
+-- an instruction
+record On-instr (u : Bool) (x : Rec Identifier) : Type 0 where
+  it : Syntax.Instr Identifier
+  is : x ≡ instr it
+  uses : mayUse it ≡ u
+
+on-instr : (u : Bool) (x : Rec Identifier) → keptOf x ≡ an-instr u → On-instr u x
+on-instr u (field f) e = let z : _≡_ {A = ℕ} 0 1 = cc in absurd (omega arith)
+on-instr u (instr x) e = record { it = x; is = refl; uses = cc }
+on-instr u bodyEnd e = let z : _≡_ {A = ℕ} 0 1 = cc in absurd (omega arith)
+
+-- a body's end
+on-end : (x : Rec Identifier) → keptOf x ≡ an-end → x ≡ bodyEnd
+on-end (field f) e = let z : _≡_ {A = ℕ} 0 1 = cc in absurd (omega arith)
+on-end (instr x) e = let z : _≡_ {A = ℕ} 0 1 = cc in absurd (omega arith)
+on-end bodyEnd e = refl
 
 -- ## The loop
 
-pub record Going (s : Bytes) (w₀ : List ℕ) (p : Place) (c : Seen) (ended : ℕ) (w : List ℕ) : Type 0 where
+pub record Going (s : Bytes) (w₀ : List ℕ) (p : Place) (c : Seen) (ended : ℕ) (used : Bool) (w : List ℕ) : Type 0 where
   pub seen : Read.Seen
   pub ends : List ℕ
   pub few : p .rec ≤ 4096
   pub body : seen .body ≡ bodyOf (p .depth)
   pub counts : Counts seen c
-  pub same : passed s ≡ pass (4096 - p .rec) (p .rec) seen ends s (p .at)
+  pub same : passed s ≡ pass (4096 - p .rec) (p .rec) seen used ends s (p .at)
   pub area : w ≡ sets w₀ 8 (endWords ends)
   pub number : length ends ≡ 2 * ended
   pub fewer : ended ≤ p .rec
   pub long : length w ≡ length w₀
 
-pub begin : (s : Bytes) (w : List ℕ) (c : Seen) → c ≡ noneSeen → Going s w (record { at = 0; rec = 0; depth = 0 }) c 0 w
+pub begin : (s : Bytes) (w : List ℕ) (c : Seen) → c ≡ noneSeen → Going s w (record { at = 0; rec = 0; depth = 0 }) c 0 false w
 unfolding passed nothingSeen endWords
 begin s w c e = record {
   seen = nothingSeen;
@@ -100,152 +137,192 @@ begin s w c e = record {
   long = refl;
 }
 
-module _ (s : Bytes) (w₀ : List ℕ) (p : Place) (c : Seen) (ended : ℕ) (w : List ℕ) (v : Going s w₀ p c ended w) (h : p .at < length s) where
+module _ (s : Bytes) (w₀ : List ℕ) (p : Place) (c : Seen) (ended : ℕ) (used : Bool) (w : List ℕ) (v : Going s w₀ p c ended used w) (h : p .at < length s) where
   -- the definition reads the same record
   one-read : (x : Rec Identifier) (q : Place) → Was (roomOf c) p s x q → oneRecord (v .seen) s (p .at) ≡ got x (q .at)
   unfolding oneRecord
   one-read x q a = rw (room-same (v .counts), v .body) (a .reads)
 
   turned : (x : Rec Identifier) (q : Place) → Was (roomOf c) p s x q
-      → passed s ≡ pass (4096 - q .rec) (q .rec) (seenAfter (v .seen) x) (v .ends ++ endOf x (q .at) (q .rec)) s (q .at)
+      → passed s ≡ pass (4096 - q .rec) (q .rec) (seenAfter (v .seen) x) (usedAfter used x) (v .ends ++ endOf used x (q .at) (q .rec)) s (q .at)
   turned x q a =
       let l : 0 < 4096 - p .rec = omega (arith, a .few) in
       let d : 4096 - p .rec - 1 ≡ 4096 - q .rec = omega (arith, a .next) in
       let m = a .next in
-      v .same ∙ pass-got (p .rec) (v .seen) (v .ends) s (p .at) (4096 - p .rec) x (q .at) h l (one-read x q a) ∙ rw (d, ← m)
+      v .same ∙ pass-got (p .rec) (v .seen) used (v .ends) s (p .at) (4096 - p .rec) x (q .at) h l (one-read x q a) ∙ rw (d, ← m)
 
   body-on : (x : Rec Identifier) (q : Place) → Was (roomOf c) p s x q → seenAfter (v .seen) x .body ≡ bodyOf (q .depth)
   unfolding seenAfter
   body-on x q a = ap (λ b. bodyAfter b x) (v .body) ∙ sym (a .deep)
 
-  module _ (what : Record) (q : Place) where
-    -- the record number is the measure
-    pub less-field : (f : Field) → what ≡ R.Field f → recordAt (roomOf c) p s ≡ recordAnswer s what q → 4097 - q .rec < 4097 - p .rec
-    less-field f d e = let a = record-was (roomOf c) p s _ q (e ∙ ap (λ y. recordAnswer s y q) d) in omega (arith, a .next, a .few)
+  -- a refusal ends the pass
+  stopped : (n r : ℕ) → passed s ≡ record { says = refused n r; seen = v .seen; ends = v .ends } → Walks s w₀ (C.Refused n r) w
+  unfolding areaAfter
+  stopped n r g = record { says = sym (passed-says s) ∙ ap (λ (x : Passed). x .says) g; leaves = v .area ∙ rw g }
 
-    pub less-instr : (i : Instr) → what ≡ R.Instr i → recordAt (roomOf c) p s ≡ recordAnswer s what q → 4097 - q .rec < 4097 - p .rec
-    less-instr i d e = let a = record-was (roomOf c) p s _ q (e ∙ ap (λ y. recordAnswer s y q) d) in omega (arith, a .next, a .few)
+  -- one record too many
+  pub full-walk : (n : ℕ) → 4096 ≤ p .rec → n ≡ (if beginsIn (getD s (p .at) 0) (bodyOf (p .depth)) then 7 else 4) → Walks s w₀ (C.Refused n (p .rec)) w
+  full-walk n l e =
+      let m : 4096 - p .rec ≡ 0 = omega arith in
+      let b = v .body in
+      stopped n (p .rec) (v .same ∙ pass-full (p .rec) (v .seen) used (v .ends) s (p .at) (4096 - p .rec) h m ∙ rw (b, e))
 
-    pub less-end : what ≡ R.End → recordAt (roomOf c) p s ≡ recordAnswer s what q → 4097 - q .rec < 4097 - p .rec
-    less-end d e = let a = record-was (roomOf c) p s _ q (e ∙ ap (λ y. recordAnswer s y q) d) in omega (arith, a .next, a .few)
+  module _ (l : p .rec < 4096) (q : Place) where
+    -- a record that is not read
+    faulted : (n : ℕ) (st : Step (Rec Identifier)) → recordIn (roomOf c) (bodyOf (p .depth)) s (p .at) ≡ st → movedBy p st .0 ≡ refused n (q .rec)
+        → Walks s w₀ (C.Refused n (q .rec)) w
+    unfolding oneRecord
+    faulted n (got y next) f e = let z : _≡_ {A = ℕ} 0 1 = cc in absurd (omega arith)
+    faulted n (fault m) f e =
+        let j : m ≡ n = cc in
+        let i : p .rec ≡ q .rec = cc in
+        let g : oneRecord (v .seen) s (p .at) ≡ fault m = rw (room-same (v .counts), v .body) f in
+        stopped n (q .rec) (v .same ∙ pass-fault (p .rec) (v .seen) used (v .ends) s (p .at) (4096 - p .rec) m h (omega arith) g ∙ rw (j, i))
 
-    -- a field
-    pub again-field : (f : Field) (c′ : Seen) → what ≡ R.Field f → recordAt (roomOf c) p s ≡ recordAnswer s what q → c′ ≡ fieldSeen c f → Going s w₀ q c′ ended w
-    again-field f c′ d e g =
-        let a = record-was (roomOf c) p s (field (fieldOf s f)) q (e ∙ ap (λ y. recordAnswer s y q) d) in
-        record {
-          seen = seenAfter (v .seen) (field (fieldOf s f));
-          ends = v .ends;
-          few = omega (arith, a .next, a .few);
-          body = body-on _ q a;
-          counts = rw g (counts-field s (v .seen) c f (v .counts));
-          same = rw append-nil at (turned _ q a);
-          area = v .area;
-          number = v .number;
-          fewer = omega (arith, a .next, v .fewer);
-          long = v .long;
-        }
+    -- ### Outside a body
 
-    -- an instruction
-    pub again-instr : (i : Instr) → what ≡ R.Instr i → recordAt (roomOf c) p s ≡ recordAnswer s what q → Going s w₀ q c ended w
-    again-instr i d e =
-        let a = record-was (roomOf c) p s (instr (instrIs s i)) q (e ∙ ap (λ y. recordAnswer s y q) d) in
-        record {
-          seen = seenAfter (v .seen) (instr (instrIs s i));
-          ends = v .ends;
-          few = omega (arith, a .next, a .few);
-          body = body-on _ q a;
-          counts = counts-instr (v .seen) c (instrIs s i) (v .counts);
-          same = rw append-nil at (turned _ q a);
-          area = v .area;
-          number = v .number;
-          fewer = omega (arith, a .next, v .fewer);
-          long = v .long;
-        }
+    module _ (d : p .depth < 1) (what : Outside) (e : fieldRecordAt (roomOf c) p s ≡ outsideAnswer s what q) where
+      was-field : (f : Field) → what ≡ U.Field f → Was (roomOf c) p s (field (fieldOf s f)) q
+      was-field f k = field-was (roomOf c) p s (field (fieldOf s f)) q l d (e ∙ ap (λ y. outsideAnswer s y q) k)
 
-    -- a body's end: its place fits a word, and two words are stored while there is room for them
-    pub end-fits : what ≡ R.End → recordAt (roomOf c) p s ≡ recordAnswer s what q → length s ≤ 65536 → q .at < 2 ^ 32
-    end-fits d e l =
-        let a = record-was (roomOf c) p s bodyEnd q (e ∙ ap (λ y. recordAnswer s y q) d) in
-        omega (arith, end-of (bodyOf (p .depth)) (q .at) (a .reads))
-      where
-        not-field : (m : Step (Syntax.FieldRec Identifier)) (n : ℕ) → onward (λ f k. got (field f) k) m ≡ got bodyEnd n → ⊥
-        not-field (got f k) n e = let z : _≡_ {A = ℕ} 0 1 = cc in omega arith
-        not-field (fault k) n e = let z : _≡_ {A = ℕ} 0 1 = cc in omega arith
+      -- the record number is the measure
+      pub less-field : (f : Field) → what ≡ U.Field f → 4097 - q .rec < 4097 - p .rec
+      less-field f k = omega (arith, was-field f k .next, l)
 
-        end-of : (b : Option ℕ) (n : ℕ) → recordIn (roomOf c) b s (p .at) ≡ got bodyEnd n → n ≤ length s
-        end-of none n e = absurd (not-field (fieldRec (roomOf c) s (p .at)) n e)
-        end-of (some k) n e = end-inside k s (p .at) n e
+      pub again-field : (f : Field) (c′ : Seen) → what ≡ U.Field f → c′ ≡ fieldSeen c f → Going s w₀ q c′ ended used w
+      again-field f c′ k g =
+          let a = was-field f k in
+          record {
+            seen = seenAfter (v .seen) (field (fieldOf s f));
+            ends = v .ends;
+            few = omega (arith, a .next);
+            body = body-on _ q a;
+            counts = rw g (counts-field s (v .seen) c f (v .counts));
+            same = rw append-nil at (turned _ q a);
+            area = v .area;
+            number = v .number;
+            fewer = omega (arith, a .next, v .fewer);
+            long = v .long;
+          }
 
-    pub ended-fits : what ≡ R.End → recordAt (roomOf c) p s ≡ recordAnswer s what q → Fits w32 (ended + 1)
-    ended-fits d e = let a = record-was (roomOf c) p s bodyEnd q (e ∙ ap (λ y. recordAnswer s y q) d) in record { fits = omega (arith, v .fewer, a .few) }
+      pub refused-field : (n : ℕ) → what ≡ U.Refused n → Walks s w₀ (C.Refused n (q .rec)) w
+      unfolding fieldRecordAt
+      refused-field n k =
+          faulted n (recordIn (roomOf c) none s (p .at)) (ap (λ b. recordIn (roomOf c) b s (p .at)) (outside (p .depth) d))
+          (ap (λ (x : Answer (Rec Identifier) × Place). x .0) (e ∙ ap (λ y. outsideAnswer s y q) k))
 
-    pub again-end : (w′ : List ℕ) → what ≡ R.End → recordAt (roomOf c) p s ≡ recordAnswer s what q → w′ ≡ endPut w ended (q .at) (q .rec) → Going s w₀ q c (ended + 1) w′
-    unfolding endPut endWords
-    again-end w′ d e g =
-        let a = record-was (roomOf c) p s bodyEnd q (e ∙ ap (λ y. recordAnswer s y q) d) in
-        record {
-          seen = seenAfter {I = Identifier} (v .seen) bodyEnd;
-          ends = v .ends ++ (q .at ∷ q .rec ∷ []);
-          few = omega (arith, a .next, a .few);
-          body = body-on bodyEnd q a;
-          counts = counts-end (v .seen) c (v .counts);
-          same = turned bodyEnd q a;
-          area = g ∙ stored (decLe 256 ended);
-          number = length-append (v .ends) (q .at ∷ q .rec ∷ []) ∙ omega (arith, v .number);
-          fewer = omega (arith, a .next, v .fewer);
-          long = ap length g ∙ kept (decLe 256 ended);
-        }
-      where
-        kept : Dec (256 ≤ ended) → length (endPut w ended (q .at) (q .rec)) ≡ length w₀
-        kept (yes k) = rw (le-ltb _ _ k) (v .long)
-        kept (no k) = let n : ended < 256 = omega arith in rw (lt-ltb _ _ n, length-set, length-set) (v .long)
+    -- ### In a body
 
-        stored : Dec (256 ≤ ended) → endPut w ended (q .at) (q .rec) ≡ sets w₀ 8 (endWords (v .ends ++ (q .at ∷ q .rec ∷ [])))
-        stored (yes k) =
-            let n : 512 ≤ length (v .ends) = omega (arith, v .number) in
-            rw (le-ltb _ _ k, take-append-le 512 (v .ends) (q .at ∷ q .rec ∷ []) n) (v .area)
-        stored (no k) =
-            let n : ended < 256 = omega arith in
-            let m : length (v .ends ++ (q .at ∷ q .rec ∷ [])) ≤ 512 = omega (arith, v .number, length-append (v .ends) (q .at ∷ q .rec ∷ [])) in
-            let t : take 512 (v .ends) ≡ v .ends = take-all 512 (v .ends) (omega (arith, v .number)) in
-            let i = v .number in
-            let u : w ≡ sets w₀ 8 (v .ends) = v .area ∙ rw t in
-            let z : 8 + 2 * ended + 1 ≡ suc (8 + 2 * ended) = omega arith in
-            rw (lt-ltb _ _ n, take-all 512 (v .ends ++ (q .at ∷ q .rec ∷ [])) m, sets-append w₀ 8 (v .ends) (q .at ∷ q .rec ∷ []), i, u, z)
+    module _ (d : 1 ≤ p .depth) (what : Inside) (e : keptAt (bodyRecordAt p s) ≡ insideAnswer what q) where
+      record Was-instr (u : Bool) : Type 0 where
+        it : Syntax.Instr Identifier
+        uses : mayUse it ≡ u
+        was : Was (roomOf c) p s (instr it) q
 
-    -- a refusal
-    pub refused-walk : (n : ℕ) → what ≡ R.Refused n → recordAt (roomOf c) p s ≡ recordAnswer s what q → Walks s w₀ (C.Refused n (q .rec)) w
-    unfolding areaAfter recordAt nextRecordAt oneRecord
-    refused-walk n d e = stop (v .same ∙ last (decLe 4096 (p .rec)))
-      where
-        stop : passed s ≡ record { says = refused n (q .rec); seen = v .seen; ends = v .ends } → Walks s w₀ (C.Refused n (q .rec)) w
-        stop g = record { says = sym (passed-says s) ∙ ap (λ (x : Passed). x .says) g; leaves = v .area ∙ rw g }
+      was-instr : (u : Bool) → what ≡ N.On u → Was-instr u
+      was-instr u k =
+          let a = kept-of (bodyRecordAt p s) (an-instr u) q (e ∙ ap (λ y. insideAnswer y q) k) in
+          let b = on-instr u (a .rec) (a .keeps) in
+          record { it = b .it; uses = b .uses; was = body-was (roomOf c) p s (instr (b .it)) q l d (a .is ∙ ap (λ z. (ok z, q)) (b .is)) }
 
-        faulted : (st : Step (Rec Identifier)) → movedBy p st .0 ≡ refused n (q .rec) → (st ≡ fault n) × (q .rec ≡ p .rec)
-        faulted (got y next) e = let z : _≡_ {A = ℕ} 0 1 = cc in absurd (omega arith)
-        faulted (fault m) e = (cc, cc)
+      was-end : what ≡ N.End → Was (roomOf c) p s bodyEnd q
+      was-end k =
+          let a = kept-of (bodyRecordAt p s) an-end q (e ∙ ap (λ y. insideAnswer y q) k) in
+          body-was (roomOf c) p s bodyEnd q l d (a .is ∙ ap (λ z. (ok z, q)) (on-end (a .rec) (a .keeps)))
 
-        last : Dec (4096 ≤ p .rec) → pass (4096 - p .rec) (p .rec) (v .seen) (v .ends) s (p .at) ≡ record { says = refused n (q .rec); seen = v .seen; ends = v .ends }
-        last (yes l) =
-            let m : 4096 - p .rec ≡ 0 = omega arith in
-            let b = v .body in
-            let f : _≡_ {A = Answer (Rec Identifier)} (refused (if beginsIn (getD s (p .at) 0) (bodyOf (p .depth)) then 7 else 4) (p .rec)) (refused n (q .rec)) = ap (λ (x : Answer (Rec Identifier) × Place). x .0) (rw (le-leb _ _ l) at (e ∙ ap (λ y. recordAnswer s y q) d)) in
-            let a : (if beginsIn (getD s (p .at) 0) (bodyOf (p .depth)) then 7 else 4) ≡ n = cc in
-            let j : p .rec ≡ q .rec = cc in
-            pass-full (p .rec) (v .seen) (v .ends) s (p .at) (4096 - p .rec) h m ∙ rw (b, a, j)
-        last (no l) =
-            let m : p .rec < 4096 = omega arith in
-            let f = faulted (recordIn (roomOf c) (bodyOf (p .depth)) s (p .at)) (ap (λ (x : Answer (Rec Identifier) × Place). x .0) (rw (lt-leb _ _ m) at (e ∙ ap (λ y. recordAnswer s y q) d))) in
-            let g : oneRecord (v .seen) s (p .at) ≡ fault n = rw (room-same (v .counts), v .body) (f .0) in
-            let j = f .1 in
-            pass-fault (p .rec) (v .seen) (v .ends) s (p .at) (4096 - p .rec) n h (omega arith) g ∙ rw j
+      pub less-instr : (u : Bool) → what ≡ N.On u → 4097 - q .rec < 4097 - p .rec
+      less-instr u k = omega (arith, was-instr u k .was .next, l)
+
+      pub less-end : what ≡ N.End → 4097 - q .rec < 4097 - p .rec
+      less-end k = omega (arith, was-end k .next, l)
+
+      -- an instruction
+      again-instr : (u : Bool) → what ≡ N.On u → Going s w₀ q c ended (used || u) w
+      again-instr u k =
+          let a = was-instr u k in
+          let b = a .uses in
+          record {
+            seen = seenAfter (v .seen) (instr (a .it));
+            ends = v .ends;
+            few = omega (arith, a .was .next);
+            body = body-on _ q (a .was);
+            counts = counts-instr (v .seen) c (a .it) (v .counts);
+            same = rw (append-nil, b) at (turned _ q (a .was));
+            area = v .area;
+            number = v .number;
+            fewer = omega (arith, a .was .next, v .fewer);
+            long = v .long;
+          }
+
+      -- the body may use a type by an instruction before, or not before this one
+      pub again-first : (u : Bool) → what ≡ N.On u → used ≡ true → Going s w₀ q c ended used w
+      again-first u k t = rw t (subst (λ z. Going s w₀ q c ended (z || u) w) t (again-instr u k))
+
+      pub again-second : (u : Bool) → what ≡ N.On u → used ≡ false → Going s w₀ q c ended u w
+      again-second u k t = subst (λ z. Going s w₀ q c ended (z || u) w) t (again-instr u k)
+
+      -- a body's end: its place fits a word, and two words are stored while there is room for them
+      pub end-fits : what ≡ N.End → length s ≤ 65536 → q .at < 2 ^ 32
+      end-fits k m = let a = was-end k in omega (arith, end-inside (p .depth - 1) s (p .at) (q .at) (ap (λ b. recordIn (roomOf c) b s (p .at)) (sym (inside (p .depth) d)) ∙ a .reads))
+
+      pub end-few : what ≡ N.End → q .rec ≤ 4096
+      end-few k = omega (arith, was-end k .next, l)
+
+      pub ended-fits : what ≡ N.End → Fits w32 (ended + 1)
+      ended-fits k = record { fits = omega (arith, v .fewer, l) }
+
+      pub again-end : (w′ : List ℕ) → what ≡ N.End → w′ ≡ endPut w ended (q .at) (endWord (q .rec) used) → Going s w₀ q c (ended + 1) false w′
+      unfolding endPut endWords
+      again-end w′ k g =
+          let a = was-end k in
+          record {
+            seen = seenAfter {I = Identifier} (v .seen) bodyEnd;
+            ends = v .ends ++ (q .at ∷ second ∷ []);
+            few = omega (arith, a .next);
+            body = body-on bodyEnd q a;
+            counts = counts-end (v .seen) c (v .counts);
+            same = turned bodyEnd q a;
+            area = g ∙ stored (decLe 256 ended);
+            number = length-append (v .ends) (q .at ∷ second ∷ []) ∙ omega (arith, v .number);
+            fewer = omega (arith, a .next, v .fewer);
+            long = ap length g ∙ kept (decLe 256 ended);
+          }
+        where
+          second : ℕ
+          second = endWord (q .rec) used
+
+          kept : Dec (256 ≤ ended) → length (endPut w ended (q .at) second) ≡ length w₀
+          kept (yes k) = rw (le-ltb _ _ k) (v .long)
+          kept (no k) = let n : ended < 256 = omega arith in rw (lt-ltb _ _ n, length-set, length-set) (v .long)
+
+          stored : Dec (256 ≤ ended) → endPut w ended (q .at) second ≡ sets w₀ 8 (endWords (v .ends ++ (q .at ∷ second ∷ [])))
+          stored (yes k) =
+              let n : 512 ≤ length (v .ends) = omega (arith, v .number) in
+              rw (le-ltb _ _ k, take-append-le 512 (v .ends) (q .at ∷ second ∷ []) n) (v .area)
+          stored (no k) =
+              let n : ended < 256 = omega arith in
+              let m : length (v .ends ++ (q .at ∷ second ∷ [])) ≤ 512 = omega (arith, v .number, length-append (v .ends) (q .at ∷ second ∷ [])) in
+              let t : take 512 (v .ends) ≡ v .ends = take-all 512 (v .ends) (omega (arith, v .number)) in
+              let i = v .number in
+              let u : w ≡ sets w₀ 8 (v .ends) = v .area ∙ rw t in
+              let z : 8 + 2 * ended + 1 ≡ suc (8 + 2 * ended) = omega arith in
+              rw (lt-ltb _ _ n, take-all 512 (v .ends ++ (q .at ∷ second ∷ [])) m, sets-append w₀ 8 (v .ends) (q .at ∷ second ∷ []), i, u, z)
+
+      pub refused-instr : (n : ℕ) → what ≡ N.Refused n → Walks s w₀ (C.Refused n (q .rec)) w
+      unfolding bodyRecordAt
+      refused-instr n k =
+          faulted n (bodyRec (p .depth - 1) s (p .at)) (ap (λ b. recordIn (roomOf c) b s (p .at)) (inside (p .depth) d))
+          (not-kept (movedBy p (bodyRec (p .depth - 1) s (p .at)) .0) (ap (λ (x : Answer Kept × Place). x .0) (e ∙ ap (λ y. insideAnswer y q) k)))
+        where
+          not-kept : (y : Answer (Rec Identifier)) → keptAnswer y ≡ refused n (q .rec) → y ≡ refused n (q .rec)
+          not-kept (ok x) e = let z : _≡_ {A = ℕ} 0 1 = cc in absurd (omega arith)
+          not-kept (refused m r) e = cc
 
 -- ## The stream's end
 
-module _ (s : Bytes) (w₀ : List ℕ) (p : Place) (c : Seen) (ended : ℕ) (w : List ℕ) (v : Going s w₀ p c ended w) (h : length s ≤ p .at) where
+module _ (s : Bytes) (w₀ : List ℕ) (p : Place) (c : Seen) (ended : ℕ) (used : Bool) (w : List ℕ) (v : Going s w₀ p c ended used w) (h : length s ≤ p .at) where
   at-end : passed s ≡ record { says = total (p .rec) (atEnd (p .rec) (bodyOf (p .depth))); seen = v .seen; ends = v .ends }
-  at-end = let b = v .body in v .same ∙ pass-end (p .rec) (v .seen) (v .ends) s (p .at) (4096 - p .rec) h ∙ rw b
+  at-end = let b = v .body in v .same ∙ pass-end (p .rec) (v .seen) used (v .ends) s (p .at) (4096 - p .rec) h ∙ rw b
 
   -- in a body it is refused
   pub end-in-body : 0 < p .depth → Walks s w₀ (C.Refused 2 (p .rec)) w
@@ -290,6 +367,10 @@ module _ (w₀ xs w : List ℕ) (i : ℕ) (v : Counting w₀ xs w i) (f : length
 
 pub second-word : (w : List ℕ) (n a : ℕ) → 16384 ≤ length w → n < 256 → 8 + 2 * n + 1 < length (set w (8 + 2 * n) a)
 second-word w n a h l = rw (length-set w (8 + 2 * n) a) (omega arith)
+
+pub ends-put : (w : List ℕ) (n a r x : ℕ) (u : Bool) → n < 256 → x ≡ endWord r u → set (set w (8 + 2 * n) a) (8 + 2 * n + 1) x ≡ endPut w n a (endWord r u)
+unfolding endPut
+ends-put w n a r x u l e = rw (lt-ltb _ _ l, e)
 
 -- ## The two lengths before it
 

@@ -4,11 +4,13 @@ use Prim.Native.Nat.{ℕ, zero, suc, _+_, _-_, _≤_, _<_}
 use mathlib.Core.Bool.{Bool, true, false, not, _||_}
 use mathlib.Core.List.{List, [], _∷_}
 use mathlib.Core.Option.{Option, none, some}
-use lib.Dec.{T, eqb, leb, ltb, ltb→lt, nltb→le}
+use lib.Dec.{eqb, leb}
 use lib.ListN.{length, getD}
 use borrow.Author.Tests.{lt-leb, le-leb, ne-eqb}
 use native.Mathlib.Omega.{arith}
 use native.Mathlib.Numerals.{add-one}
+use mir.Syntax.{w32}
+use mir.Val.{Fits}
 use Rattle.definition.specs.Basic.{if_then_else_, Answer, ok, refused, between, isSome}
 use Rattle.definition.specs.Syntax as Syntax
 use Rattle.definition.specs.Syntax.{Bytes, Identifier, Rec, field, instr, bodyEnd}
@@ -16,8 +18,14 @@ use Rattle.definition.specs.Reader.{Step, got, fault}
 use Rattle.definition.specs.Instructions.{bodyRec, formOf}
 use Rattle.definition.specs.Records.{Room, fieldRec}
 use Rattle.definition.specs.Read.{bodyAfter, fieldBody, sourceBody, ownBody, openAfter, beginsIn}
+use Rattle.definition.specs.Types.{isShort}
 use Rattle.laws.proofs.Bodies.{opens-few, ends-one}
 use Rattle.laws.proofs.Exits.{between-low}
+use Rattle.token.specs.declared.text.Part.{Part}
+use Rattle.token.specs.declared.index.Index.{Index}
+use Rattle.typeuse.specs.Views.{useOf}
+use Rattle.typeuse.specs.declared.TypeUse.{TypeUse}
+use Rattle.expr.specs.declared.Plain.{Plain}
 use Rattle.sources.specs.declared.source.Own.the-variants as O
 use Rattle.sources.specs.declared.source.Source.the-variants as S
 use Rattle.fields.specs.Views.{fieldOf, fieldAt}
@@ -32,8 +40,10 @@ use Rattle.instr.specs.declared.Instr.{Instr}
 use Rattle.instr.specs.declared.Instr.the-variants as I
 use Rattle.instr.specs.declared.BodyAt.{BodyAt}
 use Rattle.instr.specs.declared.BodyAt.the-variants as BA
-use Rattle.stream.specs.Pass.{bodyOf, depthOf, recordPast, placeAfter, fieldRecordAt, bodyRecordAt, nextRecordAt, recordAt}
-use Rattle.stream.specs.Answers.{fieldDepth, instrDepth, Few}
+use Rattle.stream.specs.Uses.{mayUse}
+use Rattle.stream.specs.Pass.{bodyOf, depthOf, recordPast, placeAfter, fieldRecordAt, bodyRecordAt}
+use Rattle.stream.specs.Answers.{fieldDepth, an-end, keptAt, insideAnswer, onPast}
+use Rattle.stream.specs.declared.record.InsideAt.{InsideAt}
 use Rattle.stream.specs.declared.record.Place.{Place}
 
 -- ## Depths
@@ -66,22 +76,10 @@ field-depth s b (F.Start x) = refl
 field-depth s b (F.Elem i m xs) = refl
 field-depth s b (F.Data i m d) = refl
 
-instr-depth : (s : Bytes) (d : ℕ) (i : Instr) → 1 ≤ d → Few i d → instrDepth i d ≡ depthOf (bodyAfter (bodyOf d) (instr (instrIs s i)))
-unfolding bodyAfter openAfter
-instr-depth s zero i h f = absurd (omega arith)
-instr-depth s (suc k) (I.Opens op l t) h f = omega arith
-instr-depth s (suc k) (I.Elses l) h f = omega arith
-instr-depth s (suc k) (I.Ends l) h f = omega arith
-instr-depth s (suc k) (I.Indirect x t) h f = omega arith
-instr-depth s (suc k) (I.Plain p) h f = omega arith
-
--- what was read in a body fits how deep it stands
-pub few-open : (s : Bytes) (at d : ℕ) (r : BodyAt) (i : Instr) (n : ℕ) → 1 ≤ d → bodyRec (d - 1) s at ≡ bodyAt s r → r ≡ BA.Got i n → Few i d
-few-open s at d r (I.Opens op l t) n h e g = let f = opens-few (d - 1) s n op _ _ at (e ∙ ap (bodyAt s) g) in omega arith
-few-open s at d r (I.Elses l) n h e g = tt
-few-open s at d r (I.Ends l) n h e g = let f = ends-one (d - 1) s n _ at (e ∙ ap (bodyAt s) g) in omega arith
-few-open s at d r (I.Indirect x t) n h e g = tt
-few-open s at d r (I.Plain p) n h e g = tt
+-- what opens a block found few enough open
+pub opens-fit : (s : Bytes) (at d : ℕ) (r : BodyAt) (i : Instr) (n op : ℕ) (l : Part) (t : TypeUse) → 1 ≤ d → bodyRec (d - 1) s at ≡ bodyAt s r → r ≡ BA.Got i n → i ≡ I.Opens op l t
+    → Fits w32 (d + 1)
+opens-fit s at d r i n op l t h e g k = let f = opens-few (d - 1) s n op _ _ at (e ∙ ap (bodyAt s) g ∙ ap (λ z. bodyAt s (BA.Got z n)) k) in record { fits = omega arith }
 
 -- ## Which bytes may begin a record
 
@@ -107,17 +105,6 @@ begins-form b d r v h n e g t = t ∙ ap (λ x. isSome (formIs x)) (sym g) ∙ s
 
 -- ## The ways out
 
--- one too many
-pub record-full : (free : Room) (p : Place) (s : Bytes) (n : ℕ) → 4096 ≤ p .rec → n ≡ (if beginsIn (getD s (p .at) 0) (bodyOf (p .depth)) then 7 else 4)
-    → recordAt free p s ≡ (refused n (p .rec), p)
-unfolding recordAt
-record-full free p s n h e = rw (le-leb _ _ h, e)
-
--- else the one that may stand there
-pub record-next : (free : Room) (p : Place) (s : Bytes) (y : Answer (Rec Identifier) × Place) → p .rec < 4096 → nextRecordAt free p s ≡ y → recordAt free p s ≡ y
-unfolding recordAt
-record-next free p s y h e = rw (lt-leb _ _ h) e
-
 module _ (free : Room) (p : Place) (s : Bytes) (r : FieldAt) (e : fieldRec free s (p .at) ≡ fieldAt s r) where
   pub record-field : (f : Field) (next d : ℕ) (q : Place) → r ≡ FA.Got f next → q ≡ recordPast p next d → d ≡ fieldDepth f → fieldRecordAt free p s ≡ (ok (field (fieldOf s f)), q)
   unfolding fieldRecordAt placeAfter
@@ -128,29 +115,46 @@ module _ (free : Room) (p : Place) (s : Bytes) (r : FieldAt) (e : fieldRec free 
   record-no-field n g = rw (e, g)
 
 module _ (p : Place) (s : Bytes) (o : 1 ≤ p .depth) (r : BodyAt) (e : bodyRec (p .depth - 1) s (p .at) ≡ bodyAt s r) where
-  pub record-instr : (i : Instr) (next d : ℕ) (q : Place) → r ≡ BA.Got i next → q ≡ recordPast p next d → d ≡ instrDepth i (p .depth) → bodyRecordAt p s ≡ (ok (instr (instrIs s i)), q)
-  unfolding bodyRecordAt placeAfter
-  record-instr i next d q g a l =
-      let b = instr-depth s (p .depth) i o (few-open s (p .at) (p .depth) r i next o e g) in
-      rw (a, l, b, e, g)
+  -- an instruction, and how deep the place after it stands
+  module _ (i : Instr) (next : ℕ) (g : r ≡ BA.Got i next) (x : InsideAt) where
+    -- the instruction that was matched
+    read-is : (v : Instr) → i ≡ v → bodyRec (p .depth - 1) s (p .at) ≡ got (instr (instrIs s v)) next
+    read-is v k = e ∙ ap (bodyAt s) g ∙ ap (λ z. bodyAt s (BA.Got z next)) k
 
-  pub record-end : (next : ℕ) (q : Place) → r ≡ BA.End next → q ≡ recordPast p next 0 → bodyRecordAt p s ≡ (ok bodyEnd, q)
+    went : (v : Instr) (d : ℕ) (u : Bool) → i ≡ v → d ≡ depthOf (bodyAfter (bodyOf (p .depth)) (instr (instrIs s v))) → u ≡ mayUse (instrIs s v) → x ≡ onPast p next d u
+        → keptAt (bodyRecordAt p s) ≡ insideAnswer (x .what) (x .place)
+    unfolding bodyRecordAt placeAfter onPast
+    went v d u k l m a = rw (a, read-is v k, ← l, ← m)
+
+    pub record-opens : (op : ℕ) (l : Part) (t : TypeUse) (b : Bool) → i ≡ I.Opens op l t → b ≡ isShort (useOf s t) → x ≡ onPast p next (p .depth + 1) (not b)
+        → keptAt (bodyRecordAt p s) ≡ insideAnswer (x .what) (x .place)
+    unfolding bodyAfter openAfter mayUse
+    record-opens op l t b k m a = went (I.Opens op l t) (p .depth + 1) (not b) k (rw (inside (p .depth) o) (omega arith)) (ap not m) a
+
+    pub record-elses : (l : Part) → i ≡ I.Elses l → x ≡ onPast p next (p .depth) false → keptAt (bodyRecordAt p s) ≡ insideAnswer (x .what) (x .place)
+    unfolding bodyAfter openAfter mayUse
+    record-elses l k a = went (I.Elses l) (p .depth) false k (rw (inside (p .depth) o) (omega arith)) refl a
+
+    pub record-ends : (l : Part) → i ≡ I.Ends l → x ≡ onPast p next (p .depth - 1) false → keptAt (bodyRecordAt p s) ≡ insideAnswer (x .what) (x .place)
+    unfolding bodyAfter openAfter mayUse
+    record-ends l k a =
+        let f = ends-one (p .depth - 1) s next _ (p .at) (read-is (I.Ends l) k) in
+        went (I.Ends l) (p .depth - 1) false k (rw (inside (p .depth) o) (omega arith)) refl a
+
+    pub record-indirect : (y : Index) (t : TypeUse) → i ≡ I.Indirect y t → x ≡ onPast p next (p .depth) true → keptAt (bodyRecordAt p s) ≡ insideAnswer (x .what) (x .place)
+    unfolding bodyAfter openAfter mayUse
+    record-indirect y t k a = went (I.Indirect y t) (p .depth) true k (rw (inside (p .depth) o) (omega arith)) refl a
+
+    pub record-plain : (y : Plain) → i ≡ I.Plain y → x ≡ onPast p next (p .depth) false → keptAt (bodyRecordAt p s) ≡ insideAnswer (x .what) (x .place)
+    unfolding bodyAfter openAfter mayUse
+    record-plain y k a = went (I.Plain y) (p .depth) false k (rw (inside (p .depth) o) (omega arith)) refl a
+
+  pub record-end : (next : ℕ) (q : Place) → r ≡ BA.End next → q ≡ recordPast p next 0 → keptAt (bodyRecordAt p s) ≡ (ok an-end, q)
   unfolding bodyRecordAt placeAfter bodyAfter
   record-end next q g a = rw (a, e, g)
 
-  pub record-no-instr : (n : ℕ) → r ≡ BA.Fault n → bodyRecordAt p s ≡ (refused n (p .rec), p)
+  pub record-no-instr : (n : ℕ) → r ≡ BA.Fault n → keptAt (bodyRecordAt p s) ≡ (refused n (p .rec), p)
   unfolding bodyRecordAt
   record-no-instr n g = rw (e, g)
 
-pub ruleset record-ways = (record-full, record-next, record-field, record-no-field, record-instr, record-end, record-no-instr)
-
--- ## Which record may stand there
-
-module _ (free : Room) (p : Place) (s : Bytes) where
-  pub stands-field : T (ltb (p .depth) 1) → nextRecordAt free p s ≡ fieldRecordAt free p s
-  unfolding nextRecordAt fieldRecordAt
-  stands-field t = rw (outside (p .depth) (ltb→lt (p .depth) 1 t))
-
-  pub stands-instr : T (not (ltb (p .depth) 1)) → nextRecordAt free p s ≡ bodyRecordAt p s
-  unfolding nextRecordAt bodyRecordAt
-  stands-instr t = rw (inside (p .depth) (nltb→le (p .depth) 1 t))
+pub ruleset record-ways = (record-field, record-no-field, record-opens, record-elses, record-ends, record-indirect, record-plain, record-end, record-no-instr)

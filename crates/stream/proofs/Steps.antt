@@ -1,14 +1,9 @@
 -- The small steps of the code: counts, depths, bytes.
 use mathlib.Core.Path.{_≡_, refl, ap, sym, _∙_}
-use Prim.Native.Nat.{ℕ, _+_, _-_, _*_, _≤_, _<_}
+use Prim.Native.Nat.{ℕ}
 use mathlib.Core.Bool.{Bool, true, false}
 use mathlib.Core.List.{List}
 use lib.ListN.{getD, set}
-use lib.Dec.{ltb}
-use native.Mathlib.Omega.{arith}
-use mir.Syntax.{w32}
-use mir.Val.{Fits}
-use borrow.Author.Tests.{lt-ltb, le-ltb}
 use Rattle.definition.specs.Basic.{if_then_else_}
 use Rattle.definition.specs.Syntax as Syntax
 use Rattle.definition.specs.Syntax.{code}
@@ -22,11 +17,12 @@ use Rattle.sources.specs.declared.source.Source.{Source}
 use Rattle.sources.specs.declared.source.Source.the-variants as S
 use Rattle.fields.specs.declared.field.Field.{Field}
 use Rattle.fields.specs.declared.field.Field.the-variants as F
-use Rattle.instr.specs.declared.Instr.{Instr}
-use Rattle.instr.specs.declared.Instr.the-variants as I
-use Rattle.stream.specs.Pass.{bodyOf}
+use Rattle.stream.specs.Pass.{bodyOf, recordPast}
 use Rattle.stream.specs.Counting.{up, oneMore, externBrings, ownBrings, sourceBrings, fieldSeen}
-use Rattle.stream.specs.Answers.{ownDepth, sourceDepth, fieldDepth, instrDepth, Few, endPut}
+use Rattle.stream.specs.Answers.{ownDepth, sourceDepth, fieldDepth, onPast}
+use Rattle.stream.specs.declared.record.Place.{Place}
+use Rattle.stream.specs.declared.record.Inside.the-variants as N
+use Rattle.stream.specs.declared.record.InsideAt.{InsideAt}
 
 -- ## Counting
 
@@ -60,14 +56,11 @@ source-deep n x v e d = rw e d
 pub own-deep : (n : ℕ) (o v : Own) → o ≡ v → n ≡ ownDepth v → n ≡ ownDepth o
 own-deep n o v e d = rw e d
 
-pub instr-deep : (n d : ℕ) (i v : Instr) → i ≡ v → n ≡ instrDepth v d → n ≡ instrDepth i d
-instr-deep n d i v e h = rw e h
+-- ## An instruction
 
-pub opens-fit : (d : ℕ) (i : Instr) (op : ℕ) (l : _) (t : _) → Few i d → i ≡ I.Opens op l t → Fits w32 (d + 1)
-opens-fit d i op l t f e = let h : d < 129 = rw e at f in record { fits = omega arith }
-
-pub ends-fit : (d : ℕ) (i : Instr) (l : _) → Few i d → i ≡ I.Ends l → 1 ≤ d
-ends-fit d i l f e = let h : 1 < d = rw e at f in omega arith
+pub on-is : (p q : Place) (next d : ℕ) (u : Bool) → q ≡ recordPast p next d → _≡_ {A = InsideAt} (record { what = N.On u; place = q }) (onPast p next d u)
+unfolding onPast
+on-is p q next d u e = rw e
 
 -- ## One record too many
 

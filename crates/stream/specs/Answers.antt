@@ -1,11 +1,11 @@
 -- What the code's answers and small steps mean.
-use Prim.Native.Nat.{ℕ, _+_, _-_, _*_, _<_, _^_}
+use Prim.Native.Nat.{ℕ, _+_, _*_}
+use mathlib.Core.Bool.{Bool}
 use mathlib.Core.List.{List}
 use lib.Dec.{ltb}
 use lib.ListN.{set}
 use Rattle.definition.specs.Basic.{if_then_else_, Answer, ok, refused}
-use Rattle.definition.specs.Syntax as Syntax
-use Rattle.definition.specs.Syntax.{Bytes, Identifier, Rec, field, bodyEnd}
+use Rattle.definition.specs.Syntax.{Bytes, Identifier, Rec, field, instr, bodyEnd}
 use Rattle.sources.specs.declared.source.Own.{Own}
 use Rattle.sources.specs.declared.source.Own.the-variants as O
 use Rattle.sources.specs.declared.source.Source.{Source}
@@ -13,18 +13,46 @@ use Rattle.sources.specs.declared.source.Source.the-variants as S
 use Rattle.fields.specs.Views.{fieldOf}
 use Rattle.fields.specs.declared.field.Field.{Field}
 use Rattle.fields.specs.declared.field.Field.the-variants as F
-use Rattle.instr.specs.Views.{instrIs}
-use Rattle.instr.specs.declared.Instr.{Instr}
-use Rattle.instr.specs.declared.Instr.the-variants as I
 use Rattle.stream.specs.declared.record.Place.{Place}
-use Rattle.stream.specs.declared.record.Record.{Record}
-use Rattle.stream.specs.declared.record.Record.the-variants as R
+use Rattle.stream.specs.declared.record.Outside.{Outside}
+use Rattle.stream.specs.declared.record.Outside.the-variants as U
+use Rattle.stream.specs.declared.record.Inside.{Inside}
+use Rattle.stream.specs.declared.record.Inside.the-variants as N
+use Rattle.stream.specs.declared.record.InsideAt.{InsideAt}
+use Rattle.stream.specs.Uses.{mayUse}
+use Rattle.stream.specs.Pass.{recordPast}
 
-abbrev pub recordAnswer : Bytes → Record → Place → Answer (Rec Identifier) × Place
-recordAnswer s (R.Field f) q = (ok (field (fieldOf s f)), q)
-recordAnswer s (R.Instr i) q = (ok (Syntax.instr (instrIs s i)), q)
-recordAnswer s R.End q = (ok bodyEnd, q)
-recordAnswer s (R.Refused n) q = (refused n (q .rec), q)
+-- outside a body
+abbrev pub outsideAnswer : Bytes → Outside → Place → Answer (Rec Identifier) × Place
+outsideAnswer s (U.Field f) q = (ok (field (fieldOf s f)), q)
+outsideAnswer s (U.Refused n) q = (refused n (q .rec), q)
+
+-- what the pass keeps of a record in a body: of an instruction, whether it may use a type
+pub data Kept : Type 0 where
+  a-field : Kept
+  an-instr : Bool → Kept
+  an-end : Kept
+
+abbrev pub keptOf : Rec Identifier → Kept
+keptOf (field f) = a-field
+keptOf (instr x) = an-instr (mayUse x)
+keptOf bodyEnd = an-end
+
+abbrev pub keptAnswer : Answer (Rec Identifier) → Answer Kept
+keptAnswer (ok x) = ok (keptOf x)
+keptAnswer (refused n r) = refused n r
+
+abbrev pub keptAt : Answer (Rec Identifier) × Place → Answer Kept × Place
+keptAt y = (keptAnswer (y .0), y .1)
+
+abbrev pub insideAnswer : Inside → Place → Answer Kept × Place
+insideAnswer (N.On u) q = (ok (an-instr u), q)
+insideAnswer N.End q = (ok an-end, q)
+insideAnswer (N.Refused n) q = (refused n (q .rec), q)
+
+-- an instruction was read
+unfoldable pub onPast : Place → ℕ → ℕ → Bool → InsideAt
+onPast p next depth u = record { what = N.On u; place = recordPast p next depth }
 
 -- how deep the place after a field stands: in the body of an own function, or outside
 abbrev pub ownDepth : Own → ℕ
@@ -48,22 +76,6 @@ fieldDepth (F.Start x) = 0
 fieldDepth (F.Elem i m xs) = 0
 fieldDepth (F.Data i m d) = 0
 
--- and after an instruction
-abbrev pub instrDepth : Instr → ℕ → ℕ
-instrDepth (I.Opens op l t) d = d + 1
-instrDepth (I.Elses l) d = d
-instrDepth (I.Ends l) d = d - 1
-instrDepth (I.Indirect x t) d = d
-instrDepth (I.Plain p) d = d
-
--- a block opens where few enough are open, and an end stands where one is
-abbrev pub Few : Instr → ℕ → Type 0
-Few (I.Opens op l t) d = d < 129
-Few (I.Elses l) d = Unit {0}
-Few (I.Ends l) d = 1 < d
-Few (I.Indirect x t) d = Unit {0}
-Few (I.Plain p) d = Unit {0}
-
 -- the two words of the n-th body's end
 unfoldable pub endPut : List ℕ → ℕ → ℕ → ℕ → List ℕ
-endPut w n at rec = if ltb n 256 then set (set w (8 + 2 * n) at) (8 + 2 * n + 1) rec else w
+endPut w n first second = if ltb n 256 then set (set w (8 + 2 * n) first) (8 + 2 * n + 1) second else w

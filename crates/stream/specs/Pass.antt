@@ -1,11 +1,11 @@
 -- What the reading pass says and leaves.
 use Prim.Native.Nat.{ℕ, zero, suc, _+_, _-_, min}
-use mathlib.Core.Bool.{Bool}
+use mathlib.Core.Bool.{Bool, false, _||_}
 use mathlib.Core.List.{List, [], _∷_, _++_}
 use mathlib.Core.Option.{Option, none, some}
 use mathlib.Core.Path.{_≡_}
 use lib.Dec.{leb, ltb}
-use lib.ListN.{length, getD, take}
+use lib.ListN.{length, take}
 use lib.Seq.{sets}
 use Rattle.definition.specs.Basic.{if_then_else_, Answer, ok, refused}
 use Rattle.definition.specs.Syntax.{Bytes, Identifier, Space, funcs, tables, mems, globals, types, elems, datas, Rec, field, instr, bodyEnd}
@@ -13,8 +13,9 @@ use Rattle.definition.specs.Reader.{Step, got, fault}
 use Rattle.definition.specs.Instructions.{bodyRec}
 use Rattle.definition.specs.Records.{Room}
 use Rattle.definition.specs.Spaces.{count}
-use Rattle.definition.specs.Read.{Seen, nothingSeen, seenAfter, bodyAfter, recordIn, oneRecord, beginsIn, atEnd, records, read}
+use Rattle.definition.specs.Read.{Seen, nothingSeen, seenAfter, bodyAfter, recordIn, oneRecord, atEnd, records, read}
 use Rattle.laws.specs.Steps.{total}
+use Rattle.stream.specs.Uses.{mayUse, endWord}
 use Rattle.stream.specs.declared.record.Place.{Place}
 use Rattle.stream.specs.declared.pass.Count.{Count}
 use Rattle.stream.specs.declared.pass.Count.the-variants as C
@@ -42,49 +43,47 @@ abbrev pub movedBy : Place → Step (Rec Identifier) → Answer (Rec Identifier)
 movedBy p (got x next) = (ok x, placeAfter p x next)
 movedBy p (fault n) = (refused n (p .rec), p)
 
--- a field's record at a place, a record of a body, and the one that may stand there
+-- a field's record at a place, and a record of a body
 unfoldable pub fieldRecordAt : Room → Place → Bytes → Answer (Rec Identifier) × Place
 fieldRecordAt free p s = movedBy p (recordIn free none s (p .at))
 
 unfoldable pub bodyRecordAt : Place → Bytes → Answer (Rec Identifier) × Place
 bodyRecordAt p s = movedBy p (bodyRec (p .depth - 1) s (p .at))
 
-unfoldable pub nextRecordAt : Room → Place → Bytes → Answer (Rec Identifier) × Place
-nextRecordAt free p s = movedBy p (recordIn free (bodyOf (p .depth)) s (p .at))
-
--- the 4,097th is refused
-unfoldable pub recordAt : Room → Place → Bytes → Answer (Rec Identifier) × Place
-recordAt free p s =
-    if leb 4096 (p .rec) then (refused (if beginsIn (getD s (p .at) 0) (bodyOf (p .depth)) then 7 else 4) (p .rec), p) else
-    nextRecordAt free p s
-
 -- ## The pass, record by record
 
--- where it stops: what it says, what has been seen, and for each body that has ended the place and the record after it
+-- where it stops: what it says, what has been seen, and two words for each body that has ended
 pub record Passed : Type 0 where
   pub says : Answer ℕ
   pub seen : Seen
   pub ends : List ℕ
 
-abbrev pub endOf : Rec Identifier → ℕ → ℕ → List ℕ
-endOf (field f) next r = []
-endOf (instr x) next r = []
-endOf bodyEnd next r = next ∷ r ∷ []
+-- may the open body use a type?
+abbrev pub usedAfter : Bool → Rec Identifier → Bool
+usedAfter used (field f) = used
+usedAfter used (instr x) = used || mayUse x
+usedAfter used bodyEnd = false
+
+-- the place after a body, and the record after it with what the body may use
+abbrev pub endOf : Bool → Rec Identifier → ℕ → ℕ → List ℕ
+endOf used (field f) next r = []
+endOf used (instr x) next r = []
+endOf used bodyEnd next r = next ∷ endWord r used ∷ []
 
 abbrev pub onRecord : (Rec Identifier → ℕ → Passed) → (ℕ → Passed) → Step (Rec Identifier) → Passed
 onRecord f g (got x next) = f x next
 onRecord f g (fault n) = g n
 
 -- `left` records at most; `r` is the number of the next
-unfoldable pub pass : ℕ → ℕ → Seen → List ℕ → Bytes → ℕ → Passed
-pass zero r seen ends s here = record { says = total r (records zero r seen s here); seen = seen; ends = ends }
-pass (suc left) r seen ends s here =
+unfoldable pub pass : ℕ → ℕ → Seen → Bool → List ℕ → Bytes → ℕ → Passed
+pass zero r seen used ends s here = record { says = total r (records zero r seen s here); seen = seen; ends = ends }
+pass (suc left) r seen used ends s here =
     if leb (length s) here then record { says = total r (atEnd r (seen .body)); seen = seen; ends = ends } else
-    onRecord (λ x next. pass left (r + 1) (seenAfter seen x) (ends ++ endOf x next (r + 1)) s next)
+    onRecord (λ x next. pass left (r + 1) (seenAfter seen x) (usedAfter used x) (ends ++ endOf used x next (r + 1)) s next)
     (λ n. record { says = refused n r; seen = seen; ends = ends }) (oneRecord seen s here)
 
 unfoldable pub passed : Bytes → Passed
-passed s = pass 4096 0 nothingSeen [] s 0
+passed s = pass 4096 0 nothingSeen false [] s 0
 
 -- ## The work area
 
@@ -103,7 +102,7 @@ countWords seen =
     ∷ capped seen datas
     ∷ []
 
--- from word 8 on, for each body of the first 256, the place and the record after it
+-- from word 8 on, two words for each body of the first 256
 unfoldable pub endWords : List ℕ → List ℕ
 endWords ends = take 512 ends
 

@@ -9,6 +9,4 @@ pub use counting::with_field;
 pub use pass::Count;
 pub use pass::read_all;
 pub use record::Place;
-pub use record::RecordAt;
 pub use record::field_depth;
-pub use record::read_record;

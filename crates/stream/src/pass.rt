@@ -1,8 +1,11 @@
 // The pass over all records.
 use crate::counting::with_field;
+use crate::record::Inside;
+use crate::record::Outside;
 use crate::record::Place;
-use crate::record::Record;
-use crate::record::read_record;
+use crate::record::too_many;
+use crate::thin::next_field;
+use crate::thin::next_instr;
 use sources::Seen;
 ghost use mathlib.Core.Path.{_≡_};
 ghost use Prim.Native.Nat.{ℕ, _+_, _*_, _≤_, _<_, _^_};
@@ -10,21 +13,33 @@ ghost use lib.ListN.{length, set};
 ghost use lib.Seq.{sets};
 ghost use Rattle.stream.specs.Pass.{Reads, Walks};
 ghost use Rattle.stream.specs.Answers.{endPut};
+ghost use Rattle.stream.specs.Uses.{endWord};
 
 pub enum Count {
     Records(u32),
     Refused(u8, u32),
 }
 
-// Where a body ended: the place and the record after it.
-fn put_end(work: &mut [u32], n: u32, p: Place)
-    requires { ⌜ (16384 ≤ length (now work)) × (p .at < 2 ^ 32) ⌝ }
-    ensures { λ _. ⌜ now (work .exit) ≡ endPut (now (work .entry)) n (p .at) (p .rec) ⌝ }
+// The second word of a body's end: the record after it, and 8,192 more where the body may use a type.
+fn end_word(rec: u32, used: bool) -> u32
+    requires { ⌜ rec ≤ 4096 ⌝ }
+    ensures { λ r. ⌜ r ≡ endWord rec used ⌝ }
+{
+    if used {
+        return rec + 8192;
+    }
+    rec
+}
+
+// Where a body ended: the place and the record after it, and whether interning has to look at the body.
+fn put_end(work: &mut [u32], n: u32, p: Place, used: bool)
+    requires { ⌜ (16384 ≤ length (now work)) × (p .at < 2 ^ 32) × (p .rec ≤ 4096) ⌝ }
+    ensures { λ _. ⌜ now (work .exit) ≡ endPut (now (work .entry)) n (p .at) (endWord (p .rec) used) ⌝ }
 {
     if n < 256 {
         let i = 8 + 2 * (n as usize);
         work[i] = p.at as u32;
-        work[i + 1] = p.rec;
+        work[i + 1] = end_word(p.rec, used);
     }
 }
 
@@ -52,6 +67,7 @@ fn walk(s: &[u8], work: &mut [u32]) -> Count
     };
     let mut seen = Seen::none();
     let mut ended: u32 = 0;
+    let mut used = false;
     loop {
         if s.len() <= p.at {
             if 0 < p.depth {
@@ -60,20 +76,37 @@ fn walk(s: &[u8], work: &mut [u32]) -> Count
             put_counts(work, seen);
             return Count::Records(p.rec);
         }
-        let r = read_record(s, p, seen);
-        let what = r.what;
-        p = r.place;
-        match what {
-            Record::Field(f) => {
-                seen = with_field(seen, f);
+        if 4096 <= p.rec {
+            return Count::Refused(too_many(s, p), p.rec);
+        }
+        if p.depth < 1 {
+            let r = next_field(s, p, seen);
+            let what = r.what;
+            p = r.place;
+            match what {
+                Outside::Field(f) => {
+                    seen = with_field(seen, f);
+                }
+                Outside::Refused(n) => {
+                    return Count::Refused(n, p.rec);
+                }
             }
-            Record::Instr(_) => {}
-            Record::End => {
-                put_end(work, ended, p);
-                ended += 1;
-            }
-            Record::Refused(n) => {
-                return Count::Refused(n, p.rec);
+        } else {
+            let r = next_instr(s, p);
+            let what = r.what;
+            p = r.place;
+            match what {
+                Inside::On(uses) => {
+                    used = used || uses;
+                }
+                Inside::End => {
+                    put_end(work, ended, p, used);
+                    ended += 1;
+                    used = false;
+                }
+                Inside::Refused(n) => {
+                    return Count::Refused(n, p.rec);
+                }
             }
         }
     }

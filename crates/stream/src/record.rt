@@ -1,5 +1,4 @@
 // One record at the running place, and the place after it.
-use crate::thin::next_record;
 use fields::Field;
 use fields::FieldAt;
 use instr::BodyAt;
@@ -14,8 +13,8 @@ ghost use lib.ListN.{getD};
 ghost use Rattle.definition.specs.Basic.{if_then_else_};
 ghost use Rattle.definition.specs.Read as Read;
 ghost use Rattle.sources.specs.Views.{roomOf};
-ghost use Rattle.stream.specs.Pass.{bodyOf, recordPast, fieldRecordAt, bodyRecordAt, recordAt};
-ghost use Rattle.stream.specs.Answers.{recordAnswer, fieldDepth, instrDepth, Few};
+ghost use Rattle.stream.specs.Pass.{bodyOf, recordPast, fieldRecordAt, bodyRecordAt};
+ghost use Rattle.stream.specs.Answers.{outsideAnswer, keptAt, insideAnswer, onPast, fieldDepth};
 
 // The running place: a byte, the number of its record, and how deep it stands: 0 outside a body, in one the number of open blocks and one more.
 pub struct Place {
@@ -24,18 +23,30 @@ pub struct Place {
     pub depth: u32,
 }
 
-// What a record is.
-pub enum Record {
+// What stands outside a body: a field.
+pub enum Outside {
     Field(Field),
-    Instr(Instr),
-    // a body's end
+    Refused(u8),
+}
+
+// What was read outside a body, and the place after it. A refusal leaves the place where it was.
+pub struct OutsideAt {
+    pub what: Outside,
+    pub place: Place,
+}
+
+// What stands in a body. Of an instruction the pass keeps one thing only, so nothing larger is handed on.
+pub enum Inside {
+    // an instruction: may it use a type?
+    On(bool),
+    // the body's end
     End,
     Refused(u8),
 }
 
-// What was read, and the place after it. A refusal leaves the place where it was.
-pub struct RecordAt {
-    pub what: Record,
+// What was read in a body, and the place after it. A refusal leaves the place where it was.
+pub struct InsideAt {
+    pub what: Inside,
     pub place: Place,
 }
 
@@ -88,19 +99,6 @@ pub fn field_depth(f: Field) -> u32
     }
 }
 
-fn instr_depth(i: Instr, depth: u32) -> u32
-    requires { ⌜ Few i depth ⌝ }
-    ensures { λ r. ⌜ r ≡ instrDepth i depth ⌝ }
-{
-    match i {
-        Instr::Opens(_, _, _) => depth + 1,
-        Instr::Ends(_) => depth - 1,
-        Instr::Elses(_) => depth,
-        Instr::Indirect(_, _) => depth,
-        Instr::Plain(_) => depth,
-    }
-}
-
 // May a record begin with this byte?
 fn begins(b: u8, depth: u32) -> bool
     ensures { λ r. ⌜ r ≡ Read.beginsIn b (bodyOf depth) ⌝ }
@@ -134,7 +132,7 @@ fn byte_or_zero(s: &[u8], at: usize) -> u8
 }
 
 // The refusal of a record that is one too many: 7, and 4 where no record may begin so.
-fn too_many(s: &[u8], p: Place) -> u8
+pub fn too_many(s: &[u8], p: Place) -> u8
     ensures { λ r. ⌜ r ≡ (if Read.beginsIn (getD (now (s .entry)) (p .at) 0) (bodyOf (p .depth)) then 7 else 4) ⌝ }
 {
     let b = byte_or_zero(s, p.at);
@@ -157,53 +155,54 @@ fn after_record(p: Place, at: usize, depth: u32) -> Place
 }
 
 // A field's record, for which `seen` says what may still come.
-pub fn field_record(s: &[u8], p: Place, seen: Seen) -> RecordAt
+pub fn field_record(s: &[u8], p: Place, seen: Seen) -> OutsideAt
     requires { ⌜ p .rec < 4096 ⌝ }
-    ensures { λ r. ⌜ fieldRecordAt (roomOf seen) p (now (s .entry)) ≡ recordAnswer (now (s .entry)) (r .what) (r .place) ⌝ }
+    ensures { λ r. ⌜ fieldRecordAt (roomOf seen) p (now (s .entry)) ≡ outsideAnswer (now (s .entry)) (r .what) (r .place) ⌝ }
 {
     match fields::read_field(s, p.at, seen) {
         FieldAt::Got(f, at) => {
             let place = after_record(p, at, field_depth(f));
-            let what = Record::Field(f);
-            RecordAt { what, place }
+            let what = Outside::Field(f);
+            OutsideAt { what, place }
         }
         FieldAt::Fault(n) => {
-            let what = Record::Refused(n);
-            RecordAt { what, place: p }
+            let what = Outside::Refused(n);
+            OutsideAt { what, place: p }
         }
     }
+}
+
+// An instruction was read.
+fn on(p: Place, at: usize, depth: u32, uses: bool) -> InsideAt
+    requires { ⌜ p .rec < 4096 ⌝ }
+    ensures { λ r. ⌜ r ≡ onPast p at depth uses ⌝ }
+{
+    let place = after_record(p, at, depth);
+    let what = Inside::On(uses);
+    InsideAt { what, place }
 }
 
 // A record of a body.
-pub fn body_record(s: &[u8], p: Place) -> RecordAt
+pub fn body_record(s: &[u8], p: Place) -> InsideAt
     requires { ⌜ (p .rec < 4096) × (1 ≤ p .depth) ⌝ }
-    ensures { λ r. ⌜ bodyRecordAt p (now (s .entry)) ≡ recordAnswer (now (s .entry)) (r .what) (r .place) ⌝ }
+    ensures { λ r. ⌜ keptAt (bodyRecordAt p (now (s .entry))) ≡ insideAnswer (r .what) (r .place) ⌝ }
 {
     match instr::read_body(s, p.at, p.depth - 1) {
-        BodyAt::Got(i, at) => {
-            let place = after_record(p, at, instr_depth(i, p.depth));
-            let what = Record::Instr(i);
-            RecordAt { what, place }
-        }
+        BodyAt::Got(i, at) => match i {
+            Instr::Opens(_, _, t) => on(p, at, p.depth + 1, !signatures::is_short(s, t)),
+            Instr::Elses(_) => on(p, at, p.depth, false),
+            Instr::Ends(_) => on(p, at, p.depth - 1, false),
+            Instr::Indirect(_, _) => on(p, at, p.depth, true),
+            Instr::Plain(_) => on(p, at, p.depth, false),
+        },
         BodyAt::End(at) => {
             let place = after_record(p, at, 0);
-            let what = Record::End;
-            RecordAt { what, place }
+            let what = Inside::End;
+            InsideAt { what, place }
         }
         BodyAt::Fault(n) => {
-            let what = Record::Refused(n);
-            RecordAt { what, place: p }
+            let what = Inside::Refused(n);
+            InsideAt { what, place: p }
         }
     }
-}
-
-// The record at a place. Outside a body it is a field, for which `seen` says what may still come.
-pub fn read_record(s: &[u8], p: Place, seen: Seen) -> RecordAt
-    ensures { λ r. ⌜ recordAt (roomOf seen) p (now (s .entry)) ≡ recordAnswer (now (s .entry)) (r .what) (r .place) ⌝ }
-{
-    if 4096 <= p.rec {
-        let what = Record::Refused(too_many(s, p));
-        return RecordAt { what, place: p };
-    }
-    next_record(s, p, seen)
 }

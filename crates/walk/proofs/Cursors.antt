@@ -1,6 +1,7 @@
 -- Where the walk goes on by the work area is where the model goes on.
 use mathlib.Core.Path.{_≡_, refl, ap, sym, _∙_}
 use Prim.Native.Nat.{ℕ, zero, suc, _+_, _-_, _*_, _≤_, _<_}
+use mathlib.Core.Bool.{Bool, true, false}
 use mathlib.Core.List.{List, [], _∷_, _++_}
 use mathlib.Core.Option.{none, some}
 use lib.Dec.{leb}
@@ -11,10 +12,13 @@ use native.Mathlib.Omega.{arith}
 use native.Mathlib.Nat.{add-zero}
 use mir.Syntax.{w32}
 use mir.Val.{Fits}
-use Rattle.definition.specs.Syntax.{Bytes}
+use Rattle.definition.specs.Basic.{if_then_else_}
+use Rattle.definition.specs.Syntax.{Bytes, Identifier, Instr, Rec, field, instr, bodyEnd}
+use Rattle.definition.specs.Reader.{Step, got, fault}
+use Rattle.definition.specs.Instructions.{bodyRec}
 use Rattle.definition.specs.Records.{fieldRec}
 use Rattle.definition.specs.Spaces.{brings, sourceSpace, segments}
-use Rattle.definition.specs.Read.{fieldBody, sourceBody, ownBody, isStart}
+use Rattle.definition.specs.Read.{openAfter, fieldBody, sourceBody, ownBody, isStart}
 use Rattle.sources.specs.Views.{roomOf, sourceOf, noneSeen}
 use Rattle.sources.specs.declared.seen.Seen.{Seen}
 use Rattle.sources.specs.declared.source.Own.the-variants as O
@@ -25,11 +29,12 @@ use Rattle.fields.specs.declared.field.Field.{Field}
 use Rattle.fields.specs.declared.field.Field.the-variants as F
 use Rattle.fields.specs.declared.field.FieldAt.{FieldAt}
 use Rattle.fields.specs.declared.field.FieldAt.the-variants as FA
+use Rattle.stream.specs.Uses.{anyUse, endWord}
 use Rattle.stream.specs.Pass.{bodyOf}
 use Rattle.stream.specs.Counting.{oneMore, sourceBrings, fieldSeen}
 use Rattle.stream.specs.Answers.{fieldDepth}
 use Rattle.stream.proofs.Counts.{extern-brings, own-brings}
-use Rattle.walk.specs.Walk.{begin, onVisit, afterField, counting, seenWith, cursorAfter, visitAt, visitIn, endOf, endsFrom, Ahead, endIn, usesIn, stopIn, cursorIn}
+use Rattle.walk.specs.Walk.{begin, onVisit, onBody, afterBody, bodyIn, afterField, counting, seenWith, cursorAfter, visitAt, visitIn, endOf, endHere, endsFrom, Ahead, endRecord, endIn, usesIn, stopIn, cursorIn}
 use Rattle.walk.specs.declared.Cursor.{Cursor}
 use Rattle.walk.specs.declared.Stop.{Stop}
 
@@ -39,9 +44,9 @@ pub start-is : (seen : Seen) → seen ≡ noneSeen → _≡_ {A = Cursor} (recor
 unfolding begin
 start-is seen e = rw e
 
-pub end-is : (w : List ℕ) (n a r : ℕ) → a ≡ getD w (8 + 2 * n) 0 → r ≡ getD w (8 + 2 * n + 1) 0 → _≡_ {A = Stop} (record { at = a; rec = r }) (endIn w n)
+pub end-is : (w : List ℕ) (n a x r : ℕ) → a ≡ getD w (8 + 2 * n) 0 → x ≡ getD w (8 + 2 * n + 1) 0 → r ≡ endRecord x → _≡_ {A = Stop} (record { at = a; rec = r }) (endIn w n)
 unfolding endIn
-end-is w n a r e d = rw (e, d)
+end-is w n a x r e d g = rw (e, g, d)
 
 pub uses-is : (w : List ℕ) (n r : ℕ) → r ≡ getD w (8 + 2 * n + 1) 0 → leb 8192 r ≡ usesIn w n
 unfolding usesIn
@@ -122,23 +127,39 @@ body-is s (F.Data i m d) = refl
 -- ## The two words of a body's end
 
 -- the first two words from a place on
-end-words : (w : List ℕ) (n a r : ℕ) (more : List ℕ) → drop (8 + 2 * n) (take 520 w) ≡ a ∷ r ∷ more → endIn w n ≡ record { at = a; rec = r }
-unfolding endIn
-end-words w n a r more e =
+pub end-words : (w : List ℕ) (n a x : ℕ) (more : List ℕ) → drop (8 + 2 * n) (take 520 w) ≡ a ∷ x ∷ more → (getD w (8 + 2 * n) 0 ≡ a) × (getD w (8 + 2 * n + 1) 0 ≡ x)
+end-words w n a x more e =
     let l : 2 ≤ length (drop (8 + 2 * n) (take 520 w)) = rw e (omega arith) in
-    let m : 8 + 2 * n + 1 < 520 = omega (arith, length-drop (8 + 2 * n) (take 520 w), length-take 520 w) in
-    let first : getD w (8 + 2 * n) 0 ≡ a =
-    sym (getD-take 520 w (8 + 2 * n) 0 (omega arith)) ∙ rw add-zero at (sym (getD-drop (8 + 2 * n) (take 520 w) 0 0)) ∙ ap (λ (l : List ℕ). getD l 0 0) e in
-    let second : getD w (8 + 2 * n + 1) 0 ≡ r =
-    sym (getD-take 520 w (8 + 2 * n + 1) 0 m) ∙ sym (getD-drop (8 + 2 * n) (take 520 w) 1 0) ∙ ap (λ (l : List ℕ). getD l 1 0) e in
-    rw (first, second)
+    let m : 8 + 2 * n + 1 < 520 = omega (arith, length-drop (8 + 2 * n) (take 520 w), length-take 520 w) in (
+      sym (getD-take 520 w (8 + 2 * n) 0 (omega arith)) ∙ rw add-zero at (sym (getD-drop (8 + 2 * n) (take 520 w) 0 0)) ∙ ap (λ (l : List ℕ). getD l 0 0) e,
+      sym (getD-take 520 w (8 + 2 * n + 1) 0 m) ∙ sym (getD-drop (8 + 2 * n) (take 520 w) 1 0) ∙ ap (λ (l : List ℕ). getD l 1 0) e,
+    )
+
+-- the second word's record
+end-record : (r : ℕ) (u : Bool) → r ≤ 4096 → endRecord (endWord r u) ≡ r
+unfolding endRecord endWord
+end-record r true h = let l : 8192 ≤ r + 8192 = omega arith in rw (le-leb _ _ l) (omega arith)
+end-record r false h = let l : r < 8192 = omega arith in rw (lt-leb _ _ l)
+
+-- the record after a body is one of those that were left
+after-few : (left k r : ℕ) (s : Bytes) (here : ℕ) → afterBody left k r s here .rec ≤ left + r
+unfolding afterBody
+after-few zero k r s here = omega arith
+after-few (suc n) k r s here = go (bodyRec k s here) (λ x next. after-few n (openAfter x k) (r + 1) s next)
+  where
+    go : (st : Step (Rec Identifier)) → ((x : Instr Identifier) (next : ℕ) → afterBody n (openAfter x k) (r + 1) s next .rec ≤ n + (r + 1))
+        → onBody st (λ x next. afterBody n (openAfter x k) (r + 1) s next) (λ next. record { at = next; rec = r + 1 }) (record { at = here; rec = r }) .rec ≤ suc n + r
+    go (got (field f) next) ih = omega arith
+    go (got (instr x) next) ih = omega (arith, ih x next)
+    go (got bodyEnd next) ih = omega arith
+    go (fault k) ih = omega arith
 
 -- where the next field is read, its cursor is the one that the work area gives
 module _ (s : Bytes) (w : List ℕ) (c : Cursor) (v : Ahead s w c) (f : Field) (here : ℕ) where
-  cursor-is : 1 ≤ c .left → visitAt c s ≡ some (record { field = fieldOf s f; head-end = here; next = cursorAfter c (fieldOf s f) s here })
+  cursor-is : 1 ≤ c .left → c .rec < 4096 → visitAt c s ≡ some (record { field = fieldOf s f; head-end = here; next = cursorAfter c (fieldOf s f) s here })
       → cursorIn w c f here ≡ cursorAfter c (fieldOf s f) s here
-  unfolding cursorIn cursorAfter endsFrom
-  cursor-is h e = go (c .left) refl (fieldDepth f) refl (depth-few f)
+  unfolding cursorIn cursorAfter endsFrom endHere endIn
+  cursor-is h few e = go (c .left) refl (fieldDepth f) refl (depth-few f)
     where
       go : (left : ℕ) → c .left ≡ left → (d : ℕ) → fieldDepth f ≡ d → d ≤ 1 → cursorIn w c f here ≡ cursorAfter c (fieldOf s f) s here
       go zero l d g k = absurd (omega arith)
@@ -146,11 +167,15 @@ module _ (s : Bytes) (w : List ℕ) (c : Cursor) (v : Ahead s w c) (f : Field) (
       go (suc n) l (suc zero) g k =
           let b : fieldBody (fieldOf s f) ≡ some 0 = body-is s f ∙ rw g in
           let next = cursorAfter c (fieldOf s f) s here in
-          let x : endsFrom (c .left) c s ≡ endOf (fieldBody (fieldOf s f)) next ++ endsFrom n next s =
-          ap (λ m. endsFrom m c s) l ∙ ap (λ m. onVisit m (λ v. endOf (fieldBody (v .field)) (v .next) ++ endsFrom n (v .next) s) []) e in
-          let y = end-words w (c .own) (afterField (some 0) (c .rec + 1) s here .at) (afterField (some 0) (c .rec + 1) s here .rec)
-          (endsFrom n next s ++ v .ends .rest) (v .ends .is ∙ ap (λ z. z ++ v .ends .rest) x ∙ rw b) in
-          rw (g, b, field-seen s (c .seen) f, y)
+          let x : endsFrom (c .left) c s ≡ endOf (fieldBody (fieldOf s f)) next (bodyIn (fieldBody (fieldOf s f)) (c .rec + 1) s here) ++ endsFrom n next s =
+          ap (λ m. endsFrom m c s) l ∙ ap (λ m. onVisit m (λ v. endHere c s v ++ endsFrom n (v .next) s) []) e in
+          let r = afterField (some 0) (c .rec + 1) s here .rec in
+          let u = anyUse (bodyIn (some 0) (c .rec + 1) s here) in
+          let y = end-words w (c .own) (afterField (some 0) (c .rec + 1) s here .at) (endWord r u) (endsFrom n next s ++ v .ends .rest) (v .ends .is ∙ ap (λ z. z ++ v .ends .rest) x ∙ rw b) in
+          let y₀ = y .0 in
+          let y₁ = y .1 in
+          let z = end-record r u (omega (arith, after-few (4096 - (c .rec + 1)) 0 (c .rec + 1) s here)) in
+          rw (g, b, field-seen s (c .seen) f, y₀, y₁, z)
       go (suc n) l (suc (suc d)) g k = absurd (omega arith)
 
 -- ## The ways out of a visit
@@ -194,7 +219,7 @@ module _ (s : Bytes) (c : Cursor) where
     visit-got w f here next v d k =
         let a : visitAt c s ≡ some (record { field = fieldOf s f; head-end = here; next = cursorAfter c (fieldOf s f) s here }) =
         rw (lt-leb _ _ h, lt-leb _ _ g, e, d) in
-        let b = cursor-is s w c v f here l a in
+        let b = cursor-is s w c v f here l h a in
         some-left l ∙ a ∙ rw (k, b)
 
 pub ruleset visit-ways = (visit-none, visit-full, visit-end, visit-fault, visit-got)

@@ -1,7 +1,7 @@
 -- On an accepted stream the fields of the walk are the definition's, and the ends of bodies are those that reading leaves.
 use mathlib.Core.Path.{_≡_, refl, ap, sym, _∙_}
 use Prim.Native.Nat.{ℕ, zero, suc, _+_, _-_, _*_, _≤_, _<_}
-use mathlib.Core.Bool.{Bool, true, false}
+use mathlib.Core.Bool.{Bool, true, false, _||_}
 use mathlib.Core.List.{List, [], _∷_, _++_, append-nil, append-assoc}
 use mathlib.Core.Option.{Option, none, some}
 use lib.Dec.{eqb, leb, ltb}
@@ -24,12 +24,13 @@ use Rattle.laws.proofs.Backwards.{came, passed}
 use Rattle.laws.proofs.Reading.{records-end, records-full, accepted-next, Next}
 use Rattle.sources.specs.Views.{countOf, roomOf}
 use Rattle.sources.specs.declared.seen.Seen.{Seen}
+use Rattle.stream.specs.Uses.{mayUse, anyUse, endWord}
 use Rattle.stream.specs.Pass as Pass
 use Rattle.stream.specs.Pass.{Passed, pass}
 use Rattle.stream.specs.Counting.{oneMore}
 use Rattle.stream.proofs.Model.{pass-end, pass-got}
 use Rattle.stream.proofs.Counts.{Holds, Counts, holds-more, counts-none, room-same}
-use Rattle.walk.specs.Walk.{bodyFrom, afterBody, bodyIn, afterField, bodies, counting, seenWith, begin, cursorAfter, Visited, visitAt, fieldsHere, fieldsFrom, fieldsAhead, fieldsIn, endOf, endsFrom}
+use Rattle.walk.specs.Walk.{bodyFrom, afterBody, bodyIn, afterField, bodies, counting, seenWith, begin, cursorAfter, Visited, visitAt, fieldsHere, fieldsFrom, fieldsAhead, fieldsIn, endOf, endHere, endsFrom}
 use Rattle.walk.specs.declared.Cursor.{Cursor}
 use Rattle.walk.specs.declared.Stop.{Stop}
 use Rattle.walk.proofs.Gives.{Roomy, RoomyField, roomy}
@@ -87,7 +88,16 @@ record After (left k r : ℕ) (seen : Read.Seen) (s : Bytes) (here : ℕ) (rs : 
   fewer : later < left
   body : bodyFrom left k s here ≡ bodyOf rs
   fields : (seen : List Space) → deinlineFrom r seen rs ≡ deinlineFrom (stop .rec) seen rest
-  passes : (ends : List ℕ) → pass left r seen ends s here ≡ pass later (stop .rec) seen′ (ends ++ (stop .at ∷ stop .rec ∷ [])) s (stop .at)
+  passes : (used : Bool) (ends : List ℕ)
+      → pass left r seen used ends s here ≡ pass later (stop .rec) seen′ false (ends ++ (stop .at ∷ endWord (stop .rec) (used || anyUse (bodyFrom left k s here)) ∷ [])) s (stop .at)
+
+or-none : (u : Bool) → u ≡ u || false
+or-none true = refl
+or-none false = refl
+
+or-more : (t u v : Bool) → (t || u) || v ≡ t || (u || v)
+or-more true u v = refl
+or-more false u v = refl
 
 body-record : (k : ℕ) (seen : Read.Seen) (s : Bytes) (here : ℕ) (x : Rec Identifier) (next : ℕ) → seen .body ≡ some k → oneRecord seen s here ≡ got x next
     → bodyRec k s here ≡ got x next
@@ -96,7 +106,7 @@ body-record k seen s here x next b e = ap (λ z. recordIn (room seen) z s here) 
 
 body-after : (left k r : ℕ) (seen : Read.Seen) (s : Bytes) (here : ℕ) (rs : List (Rec Identifier)) → seen .body ≡ some k
     → records left r seen s here ≡ ok rs → After left k r seen s here rs
-unfolding bodyFrom afterBody bodyOf deinlineFrom seenAfter bodyAfter itemsAfter startedAfter
+unfolding bodyFrom afterBody bodyOf deinlineFrom seenAfter bodyAfter itemsAfter startedAfter anyUse
 body-after zero k r seen s here rs b e = go (decLe (length s) here)
   where
     go : Dec (length s ≤ here) → After zero k r seen s here rs
@@ -129,7 +139,9 @@ body-after (suc n) k r seen s here rs b e = go (decLe (length s) here) (λ k′ 
           fewer = omega (arith, v .fewer);
           body = rw (d, i) (ap (λ z. x ∷ z) (v .body));
           fields = λ seen. rw i (v .fields seen);
-          passes = λ ends. pass-got r seen ends s here (suc n) (instr x) next h (omega arith) e ∙ rw (m, append-nil) (v .passes ends);
+          passes = λ used ends.
+              pass-got r seen used ends s here (suc n) (instr x) next h (omega arith) e
+              ∙ rw (m, append-nil, d, ← or-more used (mayUse x) (anyUse (bodyFrom n (openAfter x k) s next))) (v .passes (used || mayUse x) ends);
         }
     on h ih bodyEnd next rest e i g =
         let d = body-record k seen s here bodyEnd next b e in
@@ -148,7 +160,7 @@ body-after (suc n) k r seen s here rs b e = go (decLe (length s) here) (λ k′ 
           fewer = omega arith;
           body = rw (d, i);
           fields = λ seen. rw i;
-          passes = λ ends. pass-got r seen ends s here (suc n) bodyEnd next h (omega arith) e ∙ rw m;
+          passes = λ used ends. pass-got r seen used ends s here (suc n) bodyEnd next h (omega arith) e ∙ rw (m, d, ← or-none used);
         }
 
     go : Dec (length s ≤ here) → Again → After (suc n) k r seen s here rs
@@ -273,8 +285,8 @@ record Onward (c : Cursor) (f : FieldRec Identifier) (s : Bytes) (next n : ℕ) 
   fewer : later ≤ n
   body : bodyIn (fieldBody f) (c .rec + 1) s next ≡ bodyOf rest
   fields : deinlineFrom (c .rec + 1) (brings f ++ seen .items) rest ≡ deinlineFrom (cursorAfter c f s next .rec) (seen′ .items) rest′
-  passes : (es : List ℕ) → pass n (c .rec + 1) (seenAfter seen (field f)) es s next
-      ≡ pass later (cursorAfter c f s next .rec) seen′ (es ++ endOf (fieldBody f) (cursorAfter c f s next)) s (cursorAfter c f s next .at)
+  passes : (es : List ℕ) → pass n (c .rec + 1) (seenAfter seen (field f)) false es s next
+      ≡ pass later (cursorAfter c f s next .rec) seen′ false (es ++ endOf (fieldBody f) (cursorAfter c f s next) (bodyIn (fieldBody f) (c .rec + 1) s next)) s (cursorAfter c f s next .at)
   more : count funcs (seen .items) + bodies (fieldBody f) ≤ count funcs (seen′ .items)
 
 module _ (c : Cursor) (f : FieldRec Identifier) (s : Bytes) (next n : ℕ) (seen : Read.Seen) (rest : List (Rec Identifier))
@@ -298,9 +310,9 @@ module _ (c : Cursor) (f : FieldRec Identifier) (s : Bytes) (next n : ℕ) (seen
         body = ap (λ z. bodyIn z (c .rec + 1) s next) b ∙ sym (no-body n (c .rec + 1) (seenAfter seen (field f)) s next rest b g);
         fields = sym (ap (λ (z : Stop). deinlineFrom (z .rec) (brings f ++ seen .items) rest) q);
         passes = λ es.
-            ap (λ z. pass n (c .rec + 1) (seenAfter seen (field f)) z s next) (sym (append-nil es))
-            ∙ sym (ap (λ (z : Stop). pass n (z .rec) (seenAfter seen (field f)) (es ++ []) s (z .at)) q)
-            ∙ ap (λ z. pass n (cursorAfter c f s next .rec) (seenAfter seen (field f)) (es ++ endOf z (cursorAfter c f s next)) s (cursorAfter c f s next .at)) (sym b);
+            ap (λ z. pass n (c .rec + 1) (seenAfter seen (field f)) false z s next) (sym (append-nil es))
+            ∙ sym (ap (λ (z : Stop). pass n (z .rec) (seenAfter seen (field f)) false (es ++ []) s (z .at)) q)
+            ∙ ap (λ z. pass n (cursorAfter c f s next .rec) (seenAfter seen (field f)) false (es ++ endOf z (cursorAfter c f s next) (bodyIn z (c .rec + 1) s next)) s (cursorAfter c f s next .at)) (sym b);
         more = k .more;
       }
 
@@ -330,9 +342,10 @@ module _ (c : Cursor) (f : FieldRec Identifier) (s : Bytes) (next n : ℕ) (seen
             ∙ sym (ap (λ (z : Stop). deinlineFrom (z .rec) (brings f ++ seen .items) (a .rest)) q)
             ∙ ap (λ z. deinlineFrom (cursorAfter c f s next .rec) z (a .rest)) (sym i);
         passes = λ es.
-            a .passes es
-            ∙ sym (ap (λ (z : Stop). pass (a .later) (z .rec) (a .seen′) (es ++ (z .at ∷ z .rec ∷ [])) s (z .at)) q)
-            ∙ ap (λ z. pass (a .later) (cursorAfter c f s next .rec) (a .seen′) (es ++ endOf z (cursorAfter c f s next)) s (cursorAfter c f s next .at)) (sym b);
+            a .passes false es
+            ∙ sym (ap (λ (z : Stop). pass (a .later) (z .rec) (a .seen′) false (es ++ (z .at ∷ endWord (z .rec) (anyUse (bodyFrom n j s next)) ∷ [])) s (z .at)) q)
+            ∙ ap (λ i. pass (a .later) (cursorAfter c f s next .rec) (a .seen′) false (es ++ endOf (some j) (cursorAfter c f s next) (bodyFrom i j s next)) s (cursorAfter c f s next .at)) (sym m)
+            ∙ ap (λ z. pass (a .later) (cursorAfter c f s next .rec) (a .seen′) false (es ++ endOf z (cursorAfter c f s next) (bodyIn z (c .rec + 1) s next)) s (cursorAfter c f s next .at)) (sym b);
         more = rw i (k .more);
       }
 
@@ -350,7 +363,7 @@ module _ (c : Cursor) (f : FieldRec Identifier) (s : Bytes) (next n : ℕ) (seen
 -- the fields and the ends from a cursor on, and how many ends there are
 record Joined (fuel : ℕ) (c : Cursor) (s : Bytes) (left : ℕ) (seen : Read.Seen) (rs : List (Rec Identifier)) : Type 0 where
   fields : fieldsFrom fuel c s ≡ deinlineFrom (c .rec) (seen .items) rs
-  ends : (es : List ℕ) → pass left (c .rec) seen es s (c .at) .ends ≡ es ++ endsFrom fuel c s
+  ends : (es : List ℕ) → pass left (c .rec) seen false es s (c .at) .ends ≡ es ++ endsFrom fuel c s
   few : length (endsFrom fuel c s) + 2 * count funcs (seen .items) ≤ 512
 
 -- at the stream's end nothing is visited
@@ -370,9 +383,9 @@ visit-read c s seen f next v l h e =
     let d : fieldRec (roomOf (c .seen)) s (c .at) ≡ got f next = rw (← room-same v) e in
     rw (lt-leb _ _ l, lt-leb _ _ h, d)
 
-ends-long : (b : Option ℕ) (c : Cursor) → length (endOf b c) ≡ 2 * bodies b
-ends-long none c = refl
-ends-long (some k) c = refl
+ends-long : (b : Option ℕ) (c : Cursor) (xs : List (Syntax.Instr Identifier)) → length (endOf b c xs) ≡ 2 * bodies b
+ends-long none c xs = refl
+ends-long (some k) c xs = refl
 
 -- nothing is left
 joined-end : (fuel : ℕ) (c : Cursor) (s : Bytes) (left : ℕ) (seen : Read.Seen) (rs : List (Rec Identifier)) → length s ≤ c .at
@@ -383,8 +396,8 @@ joined-end fuel c s left seen rs h v = go fuel
     none-left : rs ≡ []
     none-left = at-end (c .rec) seen s (c .at) rs left h (v .goes-on) (v .outside)
 
-    ends-same : (es : List ℕ) → pass left (c .rec) seen es s (c .at) .ends ≡ es
-    ends-same es = ap (λ (z : Passed). z .ends) (pass-end (c .rec) seen es s (c .at) left h)
+    ends-same : (es : List ℕ) → pass left (c .rec) seen false es s (c .at) .ends ≡ es
+    ends-same es = ap (λ (z : Passed). z .ends) (pass-end (c .rec) seen false es s (c .at) left h)
 
     go : (fuel : ℕ) → Joined fuel c s left seen rs
     go zero = record { fields = rw none-left; ends = λ es. ends-same es ∙ sym (append-nil es); few = omega (arith, v .funcs) }
@@ -396,24 +409,25 @@ joined-end fuel c s left seen rs h v = go fuel
 joined-field : (m : ℕ) (c : Cursor) (s : Bytes) (n : ℕ) (seen : Read.Seen) (rs rest : List (Rec Identifier)) (f : FieldRec Identifier) (next : ℕ)
     → Counts seen (c .seen) → RoomyField (room seen) f
     → visitAt c s ≡ some (record { field = f; head-end = next; next = cursorAfter c f s next })
-    → ((es : List ℕ) → pass (suc n) (c .rec) seen es s (c .at) ≡ pass n (c .rec + 1) (seenAfter seen (field f)) es s next)
+    → ((es : List ℕ) → pass (suc n) (c .rec) seen false es s (c .at) ≡ pass n (c .rec + 1) (seenAfter seen (field f)) false es s next)
     → rs ≡ field f ∷ rest
     → (o : Onward c f s next n seen rest)
     → Joined m (cursorAfter c f s next) s (o .later) (o .seen′) (o .rest′)
     → Joined (suc m) c s (suc n) seen rs
-unfolding fieldsFrom endsFrom deinlineFrom fieldsHere
+unfolding fieldsFrom endsFrom deinlineFrom fieldsHere endHere
 joined-field m c s n seen rs rest f next v k d p i o j =
     let a : bodyIn (fieldBody f) (c .rec + 1) s next ≡ bodyOf rest = o .body in
     let b : fieldsOf (countOf (c .seen)) f (bodyOf rest) ≡ fieldsOf (λ k. count k (seen .items)) f (bodyOf rest) = number-is seen (c .seen) f (bodyOf rest) v k in
     let g : fieldsFrom m (cursorAfter c f s next) s ≡ deinlineFrom (c .rec + 1) (brings f ++ seen .items) rest = j .fields ∙ sym (o .fields) in
-    let l = length-append (endOf (fieldBody f) (cursorAfter c f s next)) (endsFrom m (cursorAfter c f s next) s) in
-    let e = ends-long (fieldBody f) (cursorAfter c f s next) in
+    let x = endOf (fieldBody f) (cursorAfter c f s next) (bodyIn (fieldBody f) (c .rec + 1) s next) in
+    let l = length-append x (endsFrom m (cursorAfter c f s next) s) in
+    let e = ends-long (fieldBody f) (cursorAfter c f s next) (bodyIn (fieldBody f) (c .rec + 1) s next) in
     record {
       fields = rw (d, i, a, b, g);
       ends = λ es.
           ap (λ (z : Passed). z .ends) (p es ∙ o .passes es)
-          ∙ j .ends (es ++ endOf (fieldBody f) (cursorAfter c f s next))
-          ∙ append-assoc es (endOf (fieldBody f) (cursorAfter c f s next)) (endsFrom m (cursorAfter c f s next) s)
+          ∙ j .ends (es ++ x)
+          ∙ append-assoc es x (endsFrom m (cursorAfter c f s next) s)
           ∙ rw d;
       few = rw d (omega (arith, l, e, j .few, o .more));
     }
@@ -443,7 +457,7 @@ joined (suc m) c s left seen rs h v = go (decLe (length s) (c .at)) left h v (λ
         let t : suc n - 1 ≡ n = omega arith in
         let o = onward-is c (f .rec) s (x .next) n seen (x .rest) (v .counts) (omega (arith, v .sum)) (field-funcs seen (v .funcs) (f .rec) k) w in
         joined-field m c s n seen rs (x .rest) (f .rec) (x .next) (v .counts) k d
-        (λ es. pass-got (c .rec) seen es s (c .at) (suc n) (field (f .rec)) (x .next) g (omega arith) y ∙ rw (t, append-nil))
+        (λ es. pass-got (c .rec) seen false es s (c .at) (suc n) (field (f .rec)) (x .next) g (omega arith) y ∙ rw (t, append-nil))
         i o (ih (cursorAfter c (f .rec) s (x .next)) (o .later) (o .seen′) (o .rest′) (omega (arith, o .fewer)) (o .stands))
 
     go : Dec (length s ≤ c .at) → (left : ℕ) → left ≤ suc m → Stands c s left seen rs → Again → Joined (suc m) c s left seen rs

@@ -1,8 +1,8 @@
 -- What a visit tells a caller. `told` is the visit's promise, and `is` is what a match on the answer gives.
 use mathlib.Core.Path.{_≡_, refl, ap, sym, _∙_}
 use Prim.Native.Nat.{ℕ, zero, suc, _+_, _-_, _*_, _≤_, _<_}
-use mathlib.Core.Bool.{Bool, true, false}
-use mathlib.Core.List.{List, [], _++_}
+use mathlib.Core.Bool.{Bool, true, false, not, _||_}
+use mathlib.Core.List.{List, [], _∷_, _++_}
 use mathlib.Core.Option.{Option, none, some}
 use lib.Dec.{leb}
 use lib.ListN.{length, take, drop}
@@ -10,10 +10,11 @@ use lib.Seq.{drop-drop}
 use borrow.Author.Tests.{leb-false}
 use native.Mathlib.Omega.{arith}
 use Rattle.definition.specs.Basic.{if_then_else_}
-use Rattle.definition.specs.Syntax.{Bytes, Identifier, FieldRec}
+use Rattle.definition.specs.Syntax.{Bytes, Identifier, FieldRec, Instr, opens, elses, ends, indirect, plain}
 use Rattle.definition.specs.Reader.{Step, got, fault}
 use Rattle.definition.specs.Records.{fieldRec}
-use Rattle.definition.specs.Types.{bodyUses}
+use Rattle.definition.specs.Types as Types
+use Rattle.definition.specs.Types.{isShort, instrUses, usedAt, bodyUses}
 use Rattle.definition.specs.Read.{fieldBody}
 use Rattle.definition.specs.Token.{string, param}
 use Rattle.token.specs.Views.{idOf}
@@ -27,12 +28,14 @@ use Rattle.sources.specs.declared.source.Source.the-variants as S
 use Rattle.fields.specs.Views.{fieldOf}
 use Rattle.fields.specs.declared.field.Field.{Field}
 use Rattle.fields.specs.declared.field.Field.the-variants as F
+use Rattle.stream.specs.Uses.{mayUse, anyUse, endWord}
 use Rattle.space.specs.Kept.{Kept}
-use Rattle.walk.specs.Walk.{onVisit, bodyIn, bodies, cursorAfter, Visited, visitStep, visitAt, visitIn, visitOf, metOf, fieldsHere, fieldsFrom, fieldsAhead, endOf, endsFrom, Ahead, usesIn}
+use Rattle.walk.specs.Walk.{onVisit, bodyIn, bodies, cursorAfter, Visited, visitStep, visitAt, visitIn, visitOf, metOf, fieldsHere, fieldsFrom, fieldsAhead, endOf, endHere, endsFrom, Ahead, usesIn}
 use Rattle.walk.specs.declared.Cursor.{Cursor}
 use Rattle.walk.specs.declared.Met.{Met}
 use Rattle.walk.specs.declared.What.{What}
 use Rattle.walk.specs.declared.What.the-variants as W
+use Rattle.walk.proofs.Cursors.{end-words}
 use Rattle.walk.proofs.Gives.{func-few}
 
 -- ## Backwards through a visit
@@ -69,6 +72,35 @@ some-visit s c v e = go (c .left) e
     go : (left : ℕ) → visitIn left c s ≡ some v → (1 ≤ left) × (visitAt c s ≡ some v)
     go zero e = let z : _≡_ {A = ℕ} 0 1 = cc in absurd (omega arith)
     go (suc n) e = (omega arith, e)
+
+-- ## Bodies that use no type
+
+-- a word without the mark
+unmarked : (r : ℕ) (u : Bool) → leb 8192 (endWord r u) ≡ false → u ≡ false
+unfolding endWord
+unmarked r true e = let l = leb-false 8192 (r + 8192) e in absurd (omega arith)
+unmarked r false e = refl
+
+no-use : (x : Instr Identifier) → mayUse x ≡ false → instrUses x ≡ []
+unfolding mayUse instrUses
+no-use (opens op l t) e = go (isShort t) e
+  where
+    go : (b : Bool) → not b ≡ false → (if b then [] else Types.useOf t) ≡ []
+    go true e = refl
+    go false e = let z : _≡_ {A = ℕ} 0 1 = cc in absurd (omega arith)
+no-use (elses l) e = refl
+no-use (ends l) e = refl
+no-use (indirect x t) e = let z : _≡_ {A = ℕ} 0 1 = cc in absurd (omega arith)
+no-use (plain p) e = refl
+
+unused : (xs : List (Instr Identifier)) (r : ℕ) → anyUse xs ≡ false → bodyUses r xs ≡ []
+unfolding anyUse bodyUses
+unused [] r e = refl
+unused (x ∷ xs) r e = go (mayUse x) refl e (unused xs (r + 1))
+  where
+    go : (b : Bool) → mayUse x ≡ b → b || anyUse xs ≡ false → (anyUse xs ≡ false → bodyUses (r + 1) xs ≡ []) → usedAt r (instrUses x) ++ bodyUses (r + 1) xs ≡ []
+    go true d e ih = let z : _≡_ {A = ℕ} 0 1 = cc in absurd (omega arith)
+    go false d e ih = rw (no-use x d) (ih e)
 
 -- ## What a caller has
 
@@ -128,20 +160,32 @@ module _ (s : Bytes) (c : Cursor) (r : Met) (told : visitIn (c .left) c s ≡ vi
             ap (λ z. onVisit z (λ v. fieldsHere c s v ++ fieldsFrom n (v .next) s) []) (at-met .1) ∙ rw m
 
     -- the ends of bodies that are still ahead
-    ends-are : endsFrom (c .left) c s ≡ endOf (fieldBody (fieldOf s f)) (r .next) ++ endsFrom (r .next .left) (r .next) s
-    unfolding endsFrom
+    abbrev body : List (Instr Identifier)
+    body = bodyIn (fieldBody (fieldOf s f)) (c .rec + 1) s here
+
+    ends-are : endsFrom (c .left) c s ≡ endOf (fieldBody (fieldOf s f)) (r .next) body ++ endsFrom (r .next .left) (r .next) s
+    unfolding endsFrom endHere
     ends-are = go (c .left) refl (at-met .0)
       where
         go : (left : ℕ) → c .left ≡ left → 1 ≤ left
-            → endsFrom left c s ≡ endOf (fieldBody (fieldOf s f)) (r .next) ++ endsFrom (r .next .left) (r .next) s
+            → endsFrom left c s ≡ endOf (fieldBody (fieldOf s f)) (r .next) body ++ endsFrom (r .next .left) (r .next) s
         go zero l h = absurd (omega arith)
         go (suc n) l h =
             let m : r .next .left ≡ n = omega (arith, left-less) in
-            ap (λ z. onVisit z (λ v. endOf (fieldBody (v .field)) (v .next) ++ endsFrom n (v .next) s) []) (at-met .1) ∙ rw m
+            ap (λ z. onVisit z (λ v. endHere c s v ++ endsFrom n (v .next) s) []) (at-met .1) ∙ rw m
 
     -- a body that is not marked uses no type
     pub visit-unused : (w : List ℕ) → Ahead s w c → usesIn w (c .own) ≡ false → bodyUses (c .rec + 1) (bodyIn (fieldBody (fieldOf s f)) (c .rec + 1) s here) ≡ []
-    visit-unused w v e = ?
+    unfolding usesIn bodyUses
+    visit-unused w v e = go (fieldBody (fieldOf s f)) refl ends-are
+      where
+        go : (b : Option ℕ) → fieldBody (fieldOf s f) ≡ b → endsFrom (c .left) c s ≡ endOf b (r .next) body ++ endsFrom (r .next .left) (r .next) s
+            → bodyUses (c .rec + 1) body ≡ []
+        go none d g = rw d
+        go (some k) d g =
+            let x = end-words w (c .own) (r .next .at) (endWord (r .next .rec) (anyUse body)) (endsFrom (r .next .left) (r .next) s ++ v .ends .rest)
+            (v .ends .is ∙ ap (λ z. z ++ v .ends .rest) g) in
+            unused body (c .rec + 1) (unmarked (r .next .rec) (anyUse body) (ap (leb 8192) (sym (x .1)) ∙ e))
 
     own-is : r .next .own ≡ c .own + bodies (fieldBody (fieldOf s f))
     unfolding cursorAfter
@@ -151,7 +195,7 @@ module _ (s : Bytes) (c : Cursor) (r : Met) (told : visitIn (c .left) c s ≡ vi
     pub visit-ahead : (w : List ℕ) → Ahead s w c → Ahead s w (r .next)
     visit-ahead w v = go (fieldBody (fieldOf s f)) ends-are own-is
       where
-        go : (b : Option ℕ) → endsFrom (c .left) c s ≡ endOf b (r .next) ++ endsFrom (r .next .left) (r .next) s → r .next .own ≡ c .own + bodies b
+        go : (b : Option ℕ) → endsFrom (c .left) c s ≡ endOf b (r .next) body ++ endsFrom (r .next .left) (r .next) s → r .next .own ≡ c .own + bodies b
             → Ahead s w (r .next)
         go none e o =
             let same : 8 + 2 * r .next .own ≡ 8 + 2 * c .own = omega arith in

@@ -19,6 +19,7 @@ use Rattle.sources.specs.Views.{countOf, roomOf, noneSeen}
 use Rattle.sources.specs.declared.seen.Seen.{Seen}
 use Rattle.fields.specs.Views.{fieldOf}
 use Rattle.fields.specs.declared.field.Field.{Field}
+use Rattle.stream.specs.Uses.{anyUse, endWord}
 use Rattle.stream.specs.Counting.{oneMore, fieldSeen}
 use Rattle.stream.specs.Answers.{fieldDepth}
 use Rattle.walk.specs.declared.Cursor.{Cursor}
@@ -138,14 +139,17 @@ fieldsIn s = fieldsAhead begin s
 
 -- ## The ends of bodies, in the work area
 
--- the place and the record after a body
-abbrev pub endOf : Option ℕ → Cursor → List ℕ
-endOf none c = []
-endOf (some k) c = c .at ∷ c .rec ∷ []
+-- the place after a body, and the record after it with what the body may use
+abbrev pub endOf : Option ℕ → Cursor → List (Syntax.Instr Identifier) → List ℕ
+endOf none c b = []
+endOf (some k) c b = c .at ∷ endWord (c .rec) (anyUse b) ∷ []
+
+unfoldable pub endHere : Cursor → Bytes → Visited → List ℕ
+endHere c s v = endOf (fieldBody (v .field)) (v .next) (bodyIn (fieldBody (v .field)) (c .rec + 1) s (v .head-end))
 
 unfoldable pub endsFrom : ℕ → Cursor → Bytes → List ℕ
 endsFrom zero c s = []
-endsFrom (suc left) c s = onVisit (visitAt c s) (λ v. endOf (fieldBody (v .field)) (v .next) ++ endsFrom left (v .next) s) []
+endsFrom (suc left) c s = onVisit (visitAt c s) (λ v. endHere c s v ++ endsFrom left (v .next) s) []
 
 -- ys begins with xs
 pub record Begins (xs ys : List ℕ) : Type 0 where
@@ -157,9 +161,13 @@ pub record Ahead (s : Bytes) (w : List ℕ) (c : Cursor) : Type 0 where
   pub ends : Begins (endsFrom (c .left) c s) (drop (8 + 2 * c .own) (take 520 w))
   pub few : c .own + c .left ≤ 4096
 
+-- the record in the second word of an end
+unfoldable pub endRecord : ℕ → ℕ
+endRecord x = if leb 8192 x then x - 8192 else x
+
 -- the n-th body's end, as the work area has it
 unfoldable pub endIn : List ℕ → ℕ → Stop
-endIn w n = record { at = getD w (8 + 2 * n) 0; rec = getD w (8 + 2 * n + 1) 0 }
+endIn w n = record { at = getD w (8 + 2 * n) 0; rec = endRecord (getD w (8 + 2 * n + 1) 0) }
 
 -- may the n-th body use a type?
 unfoldable pub usesIn : List ℕ → ℕ → Bool

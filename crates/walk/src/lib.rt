@@ -4,7 +4,7 @@ use fields::FieldAt;
 use sources::Seen;
 ghost use mathlib.Core.Path.{_≡_};
 ghost use Prim.Native.Nat.{ℕ, _+_, _≤_, _<_};
-ghost use Rattle.walk.specs.Walk.{Ahead, visitIn, visitOf, begin, endIn, usesIn, stopIn, cursorIn};
+ghost use Rattle.walk.specs.Walk.{Ahead, visitIn, visitOf, begin, endRecord, endIn, usesIn, stopIn, cursorIn};
 
 // Where a walk stands: the byte and the number of the next record, how many own functions came before it, how many fields it may
 // still visit, and what the fields before have brought.
@@ -47,13 +47,23 @@ pub fn start() -> Cursor
     }
 }
 
+// The record in the second word of a body's end.
+fn end_record(x: u32) -> u32
+    ensures { λ r. ⌜ r ≡ endRecord x ⌝ }
+{
+    if 8192 <= x {
+        return x - 8192;
+    }
+    x
+}
+
 // Where the n-th body ended.
 fn body_end(work: &[u32], n: u32) -> Stop
     ensures { λ r. ⌜ r ≡ endIn (now (work .entry)) n ⌝ }
 {
     let i = 8 + 2 * (n as usize);
     let at = space::word(work, i);
-    let rec = space::word(work, i + 1);
+    let rec = end_record(space::word(work, i + 1));
     Stop {
         at: at as usize,
         rec,

@@ -18,6 +18,9 @@ add-word c = search needs
 word-requires-2 : tie.Need-word-requires-2
 word-requires-2 c κs = search needs
 
+end-record-requires : tie.Need-end-record-requires
+end-record-requires c κs = search needs
+
 cast-t7 : tie.Need-cast-t7
 cast-t7 c = search needs
 
@@ -26,4 +29,13 @@ returns c = search end-is
 
 pub body-end-spec : {M : Type 1} → statement M
 body-end-spec =
-    tie.close (tie.spec mul-i add-i word-requires add-word word-requires-2 cast-t7 returns)
+    tie.close
+    (tie.spec
+    mul-i
+    add-i
+    word-requires
+    add-word
+    word-requires-2
+    end-record-requires
+    cast-t7
+    returns)

@@ -1,5 +1,5 @@
 use Rattle.laws.proofs.Exits.{exits}
-use Rattle.stream.proofs.Loop.{second-word}
+use Rattle.stream.proofs.Loop.{second-word, ends-put}
 use Rattle.stream.specs.Answers.{endPut}
 use borrow.Author.Needs.{needs}
 use Rattle.stream.proofs.pass.put_end.Statement.{statement}
@@ -20,6 +20,9 @@ mul-work c = search needs
 slice-write-work : tie.Need-slice-write-work
 slice-write-work c = search needs
 
+end-word-requires : tie.Need-end-word-requires
+end-word-requires c κs = search needs
+
 add-work : tie.Need-add-work
 add-work c = search needs
 
@@ -33,8 +36,7 @@ same-length : tie.Need-same-length
 same-length c = search needs
 
 returns : tie.Need-returns
-unfolding endPut
-returns c = search (exits) depth 12
+returns c = search ends-put
 
 returns-2 : tie.Need-returns-2
 unfolding endPut
@@ -49,6 +51,7 @@ put-end-spec =
     cast-work
     mul-work
     slice-write-work
+    end-word-requires
     add-work
     mul-work-2
     slice-write-work-2

@@ -1,14 +1,14 @@
 use Prim.Native.Nat.{_-_}
-use Rattle.stream.proofs.Loop.{Going, begin, end-in-body, end-accepted, refused-walk, less-field, again-field, less-instr, again-instr, end-fits, ended-fits, less-end, again-end}
+use Rattle.stream.proofs.Loop.{Going, begin, end-in-body, end-accepted, full-walk, less-field, again-field, refused-field, less-instr, again-first, again-second, end-fits, end-few, ended-fits, less-end, again-end, refused-instr}
 use borrow.Author.Needs.{needs}
 use Rattle.stream.proofs.pass.walk.Statement.{statement}
 use Rattle.stream.proofs.pass.walk.Tie as tie
 
 abbrev Inv-loop : tie.InvT-loop
-Inv-loop s work₀ p₀ seen₀ ended₀ work p seen ended = Going s work₀ p seen ended work
+Inv-loop s work₀ p₀ seen₀ ended₀ used₀ work p seen ended used = Going s work₀ p seen ended used work
 
 abbrev μ-loop : tie.MeasureT-loop
-μ-loop s work₀ p₀ seen₀ ended₀ work p seen ended = 4097 - p .rec
+μ-loop s work₀ p₀ seen₀ ended₀ used₀ work p seen ended used = 4097 - p .rec
 
 none-requires : tie.Need-none-requires Inv-loop μ-loop
 none-requires c κs = search needs
@@ -31,8 +31,17 @@ same-length-2 c = search needs
 returns-2 : tie.Need-returns-2 Inv-loop μ-loop
 returns-2 c = search end-accepted
 
-read-record-requires : tie.Need-read-record-requires Inv-loop μ-loop
-read-record-requires c κs = search needs
+too-many-requires : tie.Need-too-many-requires Inv-loop μ-loop
+too-many-requires c κs = search needs
+
+same-length-3 : tie.Need-same-length-3 Inv-loop μ-loop
+same-length-3 c = search needs
+
+returns-3 : tie.Need-returns-3 Inv-loop μ-loop
+returns-3 c = search full-walk
+
+next-field-requires : tie.Need-next-field-requires Inv-loop μ-loop
+next-field-requires c κs = search needs
 
 enum-known-what : tie.Need-enum-known-what Inv-loop μ-loop
 enum-known-what c = search needs
@@ -46,38 +55,56 @@ loop-less c = search less-field
 loop-again : tie.Need-loop-again Inv-loop μ-loop
 loop-again c = search again-field
 
-enum-told : tie.Need-enum-told Inv-loop μ-loop
-enum-told c = search needs
+enum-known-what-2 : tie.Need-enum-known-what-2 Inv-loop μ-loop
+enum-known-what-2 c = search needs
+
+same-length-4 : tie.Need-same-length-4 Inv-loop μ-loop
+same-length-4 c = search needs
+
+returns-4 : tie.Need-returns-4 Inv-loop μ-loop
+returns-4 c = search refused-field
+
+next-instr-requires : tie.Need-next-instr-requires Inv-loop μ-loop
+next-instr-requires c κs = search needs
+
+enum-known-what-3 : tie.Need-enum-known-what-3 Inv-loop μ-loop
+enum-known-what-3 c = search needs
 
 loop-less-2 : tie.Need-loop-less-2 Inv-loop μ-loop
 loop-less-2 c = search less-instr
 
 loop-again-2 : tie.Need-loop-again-2 Inv-loop μ-loop
-loop-again-2 c = search again-instr
+loop-again-2 c = search again-first
 
-enum-told-2 : tie.Need-enum-told-2 Inv-loop μ-loop
-enum-told-2 c = search needs
+loop-less-3 : tie.Need-loop-less-3 Inv-loop μ-loop
+loop-less-3 c = search less-instr
+
+loop-again-3 : tie.Need-loop-again-3 Inv-loop μ-loop
+loop-again-3 c = search again-second
+
+enum-told : tie.Need-enum-told Inv-loop μ-loop
+enum-told c = search needs
 
 put-end-requires : tie.Need-put-end-requires Inv-loop μ-loop
-put-end-requires c κs = (search needs, search end-fits)
+put-end-requires c κs = (search needs, search end-fits, search end-few)
 
 add-ended : tie.Need-add-ended Inv-loop μ-loop
 add-ended c = search ended-fits
 
-loop-less-3 : tie.Need-loop-less-3 Inv-loop μ-loop
-loop-less-3 c = search less-end
+loop-less-4 : tie.Need-loop-less-4 Inv-loop μ-loop
+loop-less-4 c = search less-end
 
-loop-again-3 : tie.Need-loop-again-3 Inv-loop μ-loop
-loop-again-3 c = search again-end
+loop-again-4 : tie.Need-loop-again-4 Inv-loop μ-loop
+loop-again-4 c = search again-end
 
-enum-known-what-2 : tie.Need-enum-known-what-2 Inv-loop μ-loop
-enum-known-what-2 c = search needs
+enum-known-what-4 : tie.Need-enum-known-what-4 Inv-loop μ-loop
+enum-known-what-4 c = search needs
 
-same-length-3 : tie.Need-same-length-3 Inv-loop μ-loop
-same-length-3 c = search needs
+same-length-5 : tie.Need-same-length-5 Inv-loop μ-loop
+same-length-5 c = search needs
 
-returns-3 : tie.Need-returns-3 Inv-loop μ-loop
-returns-3 c = search refused-walk
+returns-5 : tie.Need-returns-5 Inv-loop μ-loop
+returns-5 c = search refused-instr
 
 pub walk-spec : {M : Type 1} → statement M
 walk-spec =
@@ -92,19 +119,28 @@ walk-spec =
     put-counts-requires
     same-length-2
     returns-2
-    read-record-requires
+    too-many-requires
+    same-length-3
+    returns-3
+    next-field-requires
     enum-known-what
     with-field-requires
     loop-less
     loop-again
-    enum-told
+    enum-known-what-2
+    same-length-4
+    returns-4
+    next-instr-requires
+    enum-known-what-3
     loop-less-2
     loop-again-2
-    enum-told-2
-    put-end-requires
-    add-ended
     loop-less-3
     loop-again-3
-    enum-known-what-2
-    same-length-3
-    returns-3)
+    enum-told
+    put-end-requires
+    add-ended
+    loop-less-4
+    loop-again-4
+    enum-known-what-4
+    same-length-5
+    returns-5)

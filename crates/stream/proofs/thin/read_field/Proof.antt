@@ -37,18 +37,18 @@ use denote.Exit.{yes}
 use denote.Triple.Clauses.{ensured, lasts}
 use Rattle.sources.specs.Views.{roomOf}
 use Rattle.stream.specs.Pass.{fieldRecordAt}
-use Rattle.stream.specs.Answers.{recordAnswer}
+use Rattle.stream.specs.Answers.{outsideAnswer}
 use Rattle.stream.specs.declared.record.Place.{Place}
 use Rattle.sources.specs.declared.seen.Seen.{Seen}
-use Rattle.stream.specs.declared.record.Record.{Record}
-use Rattle.stream.specs.declared.record.RecordAt.{RecordAt}
+use Rattle.stream.specs.declared.record.Outside.{Outside}
+use Rattle.stream.specs.declared.record.OutsideAt.{OutsideAt}
 use Rattle.stream.proofs.Lent.{R, low, What, Pair, pairTy, held, streamTy, lentTy, moving, Stream, Entry, Left, enters, moves-on, leaves, asks, ByValue, frees-all}
-use Rattle.stream.proofs.LentTypes.{what, answer}
+use Rattle.stream.proofs.LentTypes.{outside, outside-at}
 use Rattle.stream.proofs.record.Place.Laws as P′
 use Rattle.sources.proofs.seen.Seen as N
 use Rattle.sources.proofs.seen.Seen.Laws as N′
-use Rattle.stream.proofs.record.Record as X
-use Rattle.stream.proofs.record.Record.Laws as X′
+use Rattle.stream.proofs.record.Outside as X
+use Rattle.stream.proofs.record.Outside.Laws as X′
 use Rattle.stream.proofs.record.field_record as callee
 use Rattle.stream.proofs.record.field_record.Symbol as callee-def
 use Rattle.stream.proofs.record.field_record.Symbol.{name as #field-record}
@@ -121,13 +121,13 @@ module _ {M : Type 1} (𝓤 : URA M) (H : Heap 𝓤) (A : Atoms 𝓤) (W : Given
   abbrev Post : Val → SProp 𝓤
   Post = walkOf 𝓤 H A self.ended stayed (self.clauses 𝓤 H A at-mem run) .post (((κ, (κ′, tt)), (q, (q′, tt)), bounds, x, at), tt)
 
-  abbrev Says : Record → Place → Type 0
-  Says w p = fieldRecordAt (roomOf n) h (now s) ≡ recordAnswer (now s) w p
+  abbrev Says : Outside → Place → Type 0
+  Says w p = fieldRecordAt (roomOf n) h (now s) ≡ outsideAnswer (now s) w p
 
   abbrev to : Callee 𝓤 H A at-mem run .Ghost
   to = (((κ, tt), (q, tt), tt, (s, (h, (n, tt))), (val ∷ [], (low h ∷ [], (num ∷ [], tt)))), tt)
 
-  exits : (w : Record) (p : Place) → Says w p → Is X.the-row w (X′.lowered w ∷ [])
+  exits : (w : Outside) (p : Place) → Says w p → Is X.the-row w (X′.lowered w ∷ [])
       → ent 𝓤 (⋆ 𝓤 H A (Left 𝓤 H A W κ κ′ q q′ s b o γ p)) (Post (X′.lowered w))
   exits w p e is =
       qed W (Left 𝓤 H A W κ κ′ q q′ s b o γ p) ∵
@@ -141,19 +141,19 @@ module _ {M : Type 1} (𝓤 : URA M) (H : Heap 𝓤) (A : Atoms 𝓤) (W : Given
       qed W (‵ (flft κ q) ∷ ‵ (Stream 𝓤 H A W κ κ′ q q′ s) ∷ []) ∵ says ! f $ nothing ! $ owned ! N.the-row (Is N.the-row) (LL.makes N.the-type N′.the-plain 𝓤 H A) n _ n-is $ fjoin ! $
       by ! (asks 𝓤 H A W κ κ′ q q′ s h Further is)
 
-  abbrev Ensured : RecordAt → SProp 𝓤
+  abbrev Ensured : OutsideAt → SProp 𝓤
   Ensured r = ensured 𝓤 H A callee.ended (callee.clauses 𝓤 H A at-mem run) (κ, tt) (s, (h, (n, tt))) tt r
 
-  said : (r : RecordAt) → ent 𝓤 (Ensured r) (fact 𝓤 (Says (r .what) (r .place)))
+  said : (r : OutsideAt) → ent 𝓤 (Ensured r) (fact 𝓤 (Says (r .what) (r .place)))
   said r = exE 𝓤 _ (λ ws. snd∗ 𝓤 (sem 𝓤 H A (lasts callee.ended (κ, tt) (s, (h, (n, tt))) ws)) (fact 𝓤 (Says (r .what) (r .place))))
 
-  called : h .rec < 4096 → ByValue 𝓤 H A W κ κ′ q q′ s what answer (Callee 𝓤 H A at-mem run) h (val ∷ low h ∷ num ∷ []) Says
+  called : h .rec < 4096 → ByValue 𝓤 H A W κ κ′ q q′ s outside outside-at (Callee 𝓤 H A at-mem run) h (val ∷ low h ∷ num ∷ []) Says
   called f = record { to = to; args = refl; said = Ensured; goes = goes f; came = λ u. id⊢ 𝓤 _; tells = said }
 
   -- the walk at the records' own types
   module _ (C : Calls 𝓤 H) (Λ : Loops 𝓤 H) (fm : FmC 𝓤 H (W .laws) C) (known : Triple 𝓤 (C #field-record) (Callee 𝓤 H A at-mem run)) where
     here : h .rec < 4096 → Is (ShrSlice (named 0) κ u8) s (val ∷ []) → ent 𝓤 (onEntry 𝓤 H A self.signature (κ, (κ′, tt)) (q, (q′, tt)) x at) (WpFn 𝓤 H C Λ code.function (val ∷ vptr b o ∷ num ∷ []) Post)
-    here f p = walk 𝓤 H A W κ κ′ q q′ s b o γ h n n-is what answer Says Post C Λ fm (Callee 𝓤 H A at-mem run) known (called f) exits p
+    here f p = walk 𝓤 H A W κ κ′ q q′ s b o γ h n n-is outside outside-at Says Post C Λ fm (Callee 𝓤 H A at-mem run) known (called f) exits p
 
 module _ {M : Type 1} (𝓤 : URA M) (H : Heap 𝓤) (A : Atoms 𝓤) (W : Given 𝓤 H A) (at-mem : Memory → SProp 𝓤) (run : Routine → Fun 𝓤) where
   walks : (C : Calls 𝓤 H) (Λ : Loops 𝓤 H) → FmC 𝓤 H (W .laws) C → Triple 𝓤 (C #field-record) (Callee 𝓤 H A at-mem run) → Walks 𝓤 H A self.ended stayed (WpFn 𝓤 H C Λ code.function) (self.clauses 𝓤 H A at-mem run)

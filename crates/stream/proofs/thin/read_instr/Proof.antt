@@ -35,15 +35,15 @@ use denote.Triple.Walked.{says, needs, Stays, stay-none-slice, stay-ref, walkOf,
 use denote.Exit.{yes}
 use denote.Triple.Clauses.{ensured, lasts}
 use Rattle.stream.specs.Pass.{bodyRecordAt}
-use Rattle.stream.specs.Answers.{recordAnswer}
+use Rattle.stream.specs.Answers.{keptAt, insideAnswer}
 use Rattle.stream.specs.declared.record.Place.{Place}
-use Rattle.stream.specs.declared.record.Record.{Record}
-use Rattle.stream.specs.declared.record.RecordAt.{RecordAt}
+use Rattle.stream.specs.declared.record.Inside.{Inside}
+use Rattle.stream.specs.declared.record.InsideAt.{InsideAt}
 use Rattle.stream.proofs.Lent.{R, low, What, Pair, pairTy, held, streamTy, lentTy, moving, Stream, Entry, Left, enters, moves-on, leaves, asks, ByValue, frees-all}
-use Rattle.stream.proofs.LentTypes.{what, answer}
+use Rattle.stream.proofs.LentTypes.{inside, inside-at}
 use Rattle.stream.proofs.record.Place.Laws as P′
-use Rattle.stream.proofs.record.Record as X
-use Rattle.stream.proofs.record.Record.Laws as X′
+use Rattle.stream.proofs.record.Inside as X
+use Rattle.stream.proofs.record.Inside.Laws as X′
 use Rattle.stream.proofs.record.body_record as callee
 use Rattle.stream.proofs.record.body_record.Symbol as callee-def
 use Rattle.stream.proofs.record.body_record.Symbol.{name as #body-record}
@@ -104,13 +104,13 @@ module _ {M : Type 1} (𝓤 : URA M) (H : Heap 𝓤) (A : Atoms 𝓤) (W : Given
   abbrev Post : Val → SProp 𝓤
   Post = walkOf 𝓤 H A self.ended stayed (self.clauses 𝓤 H A at-mem run) .post (((κ, (κ′, tt)), (q, (q′, tt)), bounds, x, at), tt)
 
-  abbrev Says : Record → Place → Type 0
-  Says w p = bodyRecordAt h (now s) ≡ recordAnswer (now s) w p
+  abbrev Says : Inside → Place → Type 0
+  Says w p = keptAt (bodyRecordAt h (now s)) ≡ insideAnswer w p
 
   abbrev to : Callee 𝓤 H A at-mem run .Ghost
   to = (((κ, tt), (q, tt), tt, (s, (h, tt)), (val ∷ [], (low h ∷ [], tt))), tt)
 
-  exits : (w : Record) (p : Place) → Says w p → Is X.the-row w (X′.lowered w ∷ [])
+  exits : (w : Inside) (p : Place) → Says w p → Is X.the-row w (X′.lowered w ∷ [])
       → ent 𝓤 (⋆ 𝓤 H A (Left 𝓤 H A W κ κ′ q q′ s b o γ p)) (Post (X′.lowered w))
   exits w p e is =
       qed W (Left 𝓤 H A W κ κ′ q q′ s b o γ p) ∵
@@ -121,19 +121,19 @@ module _ {M : Type 1} (𝓤 : URA M) (H : Heap 𝓤) (A : Atoms 𝓤) (W : Given
   goes : (h .rec < 4096) × (1 ≤ h .depth) → Is R h (low h ∷ []) → ent 𝓤 (⋆ 𝓤 H A (‵ (flft κ q) ∷ ‵ (Stream 𝓤 H A W κ κ′ q q′ s) ∷ [])) (Callee 𝓤 H A at-mem run .pre to)
   goes f is = qed W (‵ (flft κ q) ∷ ‵ (Stream 𝓤 H A W κ κ′ q q′ s) ∷ []) ∵ says ! f $ nothing ! $ by ! (asks 𝓤 H A W κ κ′ q q′ s h ftrue is)
 
-  abbrev Ensured : RecordAt → SProp 𝓤
+  abbrev Ensured : InsideAt → SProp 𝓤
   Ensured r = ensured 𝓤 H A callee.ended (callee.clauses 𝓤 H A at-mem run) (κ, tt) (s, (h, tt)) tt r
 
-  said : (r : RecordAt) → ent 𝓤 (Ensured r) (fact 𝓤 (Says (r .what) (r .place)))
+  said : (r : InsideAt) → ent 𝓤 (Ensured r) (fact 𝓤 (Says (r .what) (r .place)))
   said r = exE 𝓤 _ (λ ws. snd∗ 𝓤 (sem 𝓤 H A (lasts callee.ended (κ, tt) (s, (h, tt)) ws)) (fact 𝓤 (Says (r .what) (r .place))))
 
-  called : (h .rec < 4096) × (1 ≤ h .depth) → ByValue 𝓤 H A W κ κ′ q q′ s what answer (Callee 𝓤 H A at-mem run) h (val ∷ low h ∷ []) Says
+  called : (h .rec < 4096) × (1 ≤ h .depth) → ByValue 𝓤 H A W κ κ′ q q′ s inside inside-at (Callee 𝓤 H A at-mem run) h (val ∷ low h ∷ []) Says
   called f = record { to = to; args = refl; said = Ensured; goes = goes f; came = λ u. id⊢ 𝓤 _; tells = said }
 
   -- the walk at the records' own types
   module _ (C : Calls 𝓤 H) (Λ : Loops 𝓤 H) (fm : FmC 𝓤 H (W .laws) C) (known : Triple 𝓤 (C #body-record) (Callee 𝓤 H A at-mem run)) where
     here : (h .rec < 4096) × (1 ≤ h .depth) → Is (ShrSlice (named 0) κ u8) s (val ∷ []) → ent 𝓤 (onEntry 𝓤 H A self.signature (κ, (κ′, tt)) (q, (q′, tt)) x at) (WpFn 𝓤 H C Λ code.function (val ∷ vptr b o ∷ []) Post)
-    here f p = walk 𝓤 H A W κ κ′ q q′ s b o γ h what answer Says Post C Λ fm (Callee 𝓤 H A at-mem run) known (called f) exits p
+    here f p = walk 𝓤 H A W κ κ′ q q′ s b o γ h inside inside-at Says Post C Λ fm (Callee 𝓤 H A at-mem run) known (called f) exits p
 
 module _ {M : Type 1} (𝓤 : URA M) (H : Heap 𝓤) (A : Atoms 𝓤) (W : Given 𝓤 H A) (at-mem : Memory → SProp 𝓤) (run : Routine → Fun 𝓤) where
   walks : (C : Calls 𝓤 H) (Λ : Loops 𝓤 H) → FmC 𝓤 H (W .laws) C → Triple 𝓤 (C #body-record) (Callee 𝓤 H A at-mem run) → Walks 𝓤 H A self.ended stayed (WpFn 𝓤 H C Λ code.function) (self.clauses 𝓤 H A at-mem run)
