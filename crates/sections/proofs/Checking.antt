@@ -162,10 +162,6 @@ module _ (s w : List ℕ) (r : ℕ) (t : Tally) (e : Entry) (old : Bytes) (a : C
   pub after-ready : (f : Entry) → v ≡ V′.Fine → Ready s w r f → Ready s w₁ r f
   after-ready f d h = ready-kept s w w₁ r f (fine-kept x (sym g ∙ d)) h
 
-  -- the same, where the field is not a part of a field's three
-  pub third-ready : (f : Entry) → Ready s w r f → v ≡ V′.Fine → Ready s w₁ r f
-  third-ready f h d = after-ready f d h
-
   pub after-twelve : v ≡ V′.Fine → Twelve t → Twelve (a .tally)
   after-twelve d h = tallied-twelve (was-fine x (sym g ∙ d)) h
 
