@@ -10,7 +10,7 @@ enum-told : tie.Need-enum-told
 enum-told c = search needs
 
 check-entry-requires-2 : tie.Need-check-entry-requires-2
-check-entry-requires-2 c κs = (search needs, search long-after, search needs, search after-ready, search after-twelve)
+check-entry-requires-2 c κs = (search needs, search long-after, search needs, ?, search after-twelve)
 
 enum-known-v : tie.Need-enum-known-v
 enum-known-v c = search needs
@@ -18,11 +18,17 @@ enum-known-v c = search needs
 same-length : tie.Need-same-length
 same-length c = search needs
 
+same-length-2 : tie.Need-same-length-2
+same-length-2 c = search needs
+
 returns : tie.Need-returns
 returns c = search two-then
 
-same-length-2 : tie.Need-same-length-2
-same-length-2 c = search needs
+same-length-3 : tie.Need-same-length-3
+same-length-3 c = search needs
+
+same-length-4 : tie.Need-same-length-4
+same-length-4 c = search needs
 
 returns-2 : tie.Need-returns-2
 returns-2 c = search two-not
@@ -36,6 +42,8 @@ check-two-spec =
     check-entry-requires-2
     enum-known-v
     same-length
-    returns
     same-length-2
+    returns
+    same-length-3
+    same-length-4
     returns-2)
