@@ -1,8 +1,8 @@
--- Copying what was kept: a section that had room in its part stands there.
-use Prim.Native.Nat.{ℕ, zero, suc, _+_, _-_, _^_, _≤_, _<_, min, max}
+-- The parts of the kept bytes, and what is copied from them: a section that had room in its part stands there.
+use Prim.Native.Nat.{ℕ, _+_, _-_, _^_, _≤_, _<_}
 use mathlib.Core.Path.{_≡_, refl, sym, _∙_, ap}
-use mathlib.Core.List.{List, [], _∷_, _++_}
-use lib.ListN.{length, getD, take, drop, replicate, getD-replicate}
+use mathlib.Core.List.{List}
+use lib.ListN.{length, take, drop, getD-replicate}
 use lib.Seq.{take-take, take-at}
 use native.Mathlib.Omega.{arith}
 use borrow.Rule.Slice.PartMut.{mid-len}
@@ -13,7 +13,6 @@ use Rattle.emit.proofs.Laws.{put-is, put-room}
 use Rattle.space.proofs.Kept.{kept-same}
 use Rattle.content.specs.Entry.{Entries}
 use Rattle.sections.specs.Parts.{startOf, partIn}
-use Rattle.sections.specs.Tally.{noTally}
 use Rattle.sections.proofs.Keeping.{start-up, start-within}
 use Rattle.module.specs.Write.{Writes, Held, allEntries}
 
@@ -22,7 +21,7 @@ exact : (n size room : ℕ) → size ≡ past 0 n → size ≤ room → room < 2
 unfolding past
 exact n size room e h s = omega arith
 
--- bytes that have room are what is first after they were put there
+-- bytes that were put first and had room are the first ones
 put-first : (old new bs : Bytes) (at to size : ℕ) → Put old at bs to new → at ≡ 0 → size ≡ past 0 (length bs) → size ≤ length old → take size new ≡ bs
 put-first old new bs at to size p z e h =
     let n : length bs ≡ size = exact (length bs) size (length old) e h (p .short) in
@@ -33,7 +32,7 @@ module _ (kept : Bytes) (k a b : ℕ) (h : k < 12) (from : a ≡ startOf (length
   pub part-order : a ≤ b
   part-order = rw (from, to) (start-up (length kept) k h)
 
-  part-within : b ≤ length kept
+  pub part-within : b ≤ length kept
   part-within = rw to (start-within (length kept) (k + 1))
 
   part-is : partIn kept k ≡ take (b - a) (drop a kept)

@@ -24,10 +24,11 @@ use Rattle.content.specs.Entry.{Entries, entriesOf}
 use Rattle.sections.specs.Tally.{tallies, noTally}
 use Rattle.sections.specs.Content.{Fine, kept, bytesIn, typeEntries}
 use Rattle.sections.specs.declared.tally.Tally.{Tally}
+use Rattle.sections.proofs.Keeping.{section-append, joined-append}
 use Rattle.module.specs.Length.{Counted, contentLen, moduleLen, sectionsFrom}
 use Rattle.module.specs.Added.{typeBytes}
 use Rattle.module.specs.Write.{Writes, Writable, Held, Counts, allEntries, addedIn, keptItems, moduleItems}
-use Rattle.module.proofs.Full.{in-append, joined-append, good-items}
+use Rattle.module.proofs.Full.{good-items}
 use Rattle.module.proofs.Lengths.{size-of, count-of, content-long, module-is, module-long}
 use Rattle.module.proofs.Emitting.{scope-same, types-same, recalled-same}
 
@@ -91,7 +92,7 @@ module _ (k declared : ℕ) (s w w′ old : List ℕ) (at : ℕ) where
       let ts = typeEntries (drop declared (typesIn s w)) in
       let q′ : Put mid a (joined (inSection k ts)) b new = put-is q (rw d refl) in
       record {
-        put = put-is (put-then (p .put) q′) (sym (joined-append (inSection k es) (inSection k ts)) ∙ ap joined (sym (in-append k es ts)));
+        put = put-is (put-then (p .put) q′) (sym (joined-append (inSection k es) (inSection k ts)) ∙ ap joined (sym (section-append k es ts)));
         area = p .area;
       }
 
@@ -103,7 +104,7 @@ module _ (k declared : ℕ) (s w w′ old : List ℕ) (at : ℕ) where
       let es = kept (entriesOf (scopeIn s w) (fieldsIn s)) in
       let ts = typeEntries (drop declared (typesIn s w)) in
       let n : length (joined (inSection k (es ++ ts))) ≡ length (joined (inSection k es)) + length (joined (inSection k ts)) =
-      ap (λ z. length (joined z)) (in-append k es ts) ∙ ap length (joined-append (inSection k es) (inSection k ts)) ∙ length-append (joined (inSection k es)) (joined (inSection k ts)) in
+      ap (λ z. length (joined z)) (section-append k es ts) ∙ ap length (joined-append (inSection k es) (inSection k ts)) ∙ length-append (joined (inSection k es)) (joined (inSection k ts)) in
       rw (d, e, n) (past-more at (length (joined (inSection k es))) (length (joined (inSection k ts))))
 
   pub content-start : (r : ℕ) (new : Bytes) → k ≡ 8 → Writes (joined (inSection k (allEntries declared s w))) old at r new w w′

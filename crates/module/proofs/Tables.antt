@@ -20,7 +20,7 @@ use Rattle.sections.specs.Tally.{reached, tallies, Twelve}
 use Rattle.sections.specs.Content.{typeEntries}
 use Rattle.sections.specs.declared.tally.Tally.{Tally}
 use Rattle.sections.proofs.Tallies.{tallies-append, tallies-twelve}
-use Rattle.sections.proofs.Keeping.{start-up, start-within, reached-is, keeps-none, keeps-then, keeps-lent}
+use Rattle.sections.proofs.Keeping.{reached-is, keeps-none, keeps-then, keeps-lent}
 use Rattle.module.specs.Added.{typeBytes, KeepsTypes}
 
 -- ## The rest of the table
@@ -99,24 +99,16 @@ module _ {s : Bytes} {w : List ℕ} {declared : ℕ} {old : Bytes} {at left plac
 
 -- ## Kept and tallied
 
--- the part of section 1
-module _ (kept : Bytes) (a b : ℕ) (from : a ≡ startOf (length kept) 1) (to : b ≡ startOf (length kept) 2) where
-  pub types-order : a ≤ b
-  types-order = rw (from, to) (start-up (length kept) 1 (omega arith))
-
-  pub types-within : b ≤ length kept
-  types-within = rw to (start-within (length kept) 2)
-
-  -- one type more in it
-  pub type-kept : (f : FuncType) (t : Tally) (new : Bytes) (o : ℕ) (r : Tally) → Twelve t → length kept * 1 < 2 ^ 63 → Put (take (b - a) (drop a kept)) (getD (t .sizes) 1 0) (funcType f) o new
-      → r ≡ reached t 1 o 1 → KeepsTypes (f ∷ []) t kept r (putMid a (b - a) kept new)
-  unfolding typeEntries
-  type-kept f t new o r w s p e =
-      let p′ : Put (take (b - a) (drop a kept)) (getD (t .sizes) 1 0) (joined (funcType f ∷ [])) o new = put-is p (unfold joined concatMap in sym (append-nil (funcType f))) in
-      record {
-        tally = e ∙ reached-is t 1 o 1 (funcType f ∷ []) (omega arith) w (p′ .place) refl;
-        keeps = keeps-lent kept new t 1 a b o (funcType f ∷ []) (omega arith) w s from to p′;
-      }
+-- one type more in the part of section 1
+pub type-kept : (f : FuncType) (t : Tally) (old new : Bytes) (a b o : ℕ) (r : Tally) → Twelve t → length old * 1 < 2 ^ 63 → a ≡ startOf (length old) 1 → b ≡ startOf (length old) 2
+    → Put (take (b - a) (drop a old)) (getD (t .sizes) 1 0) (funcType f) o new → r ≡ reached t 1 o 1 → KeepsTypes (f ∷ []) t old r (putMid a (b - a) old new)
+unfolding typeEntries joined concatMap
+type-kept f t old new a b o r w s from to p e =
+    let q : Put (take (b - a) (drop a old)) (getD (t .sizes) 1 0) (funcType f ++ []) o new = put-is p (sym (append-nil (funcType f))) in
+    record {
+      tally = e ∙ reached-is t 1 o 1 (funcType f ∷ []) (omega arith) w (q .place) refl;
+      keeps = keeps-lent old new t 1 a b o (funcType f ∷ []) (omega arith) w s from to q;
+    }
 
 entries-append : (ts us : List FuncType) → typeEntries (ts ++ us) ≡ typeEntries ts ++ typeEntries us
 unfolding typeEntries

@@ -1,5 +1,6 @@
-use Rattle.module.proofs.Tables.{types-order, types-within, type-kept}
 use borrow.Author.Needs.{needs}
+use Rattle.module.proofs.Kept.{part-order, part-within}
+use Rattle.module.proofs.Tables.{type-kept}
 use Rattle.module.proofs.added.keep_type.Statement.{statement}
 use Rattle.module.proofs.added.keep_type.Tie as tie
 
@@ -13,13 +14,13 @@ array-read-from : tie.Need-array-read-from
 array-read-from c = search needs
 
 sub-put-type : tie.Need-sub-put-type
-sub-put-type c = search types-order
+sub-put-type c = search (part-order, needs)
 
 part-put-type-start : tie.Need-part-put-type-start
-part-put-type-start c = search types-order
+part-put-type-start c = search (part-order, needs)
 
 part-put-type-end : tie.Need-part-put-type-end
-part-put-type-end c = search types-within
+part-put-type-end c = search (part-within, needs)
 
 put-type-requires : tie.Need-put-type-requires
 put-type-requires c κs = search needs

@@ -13,7 +13,7 @@ start-of-requires-2 : tie.Need-start-of-requires-2
 start-of-requires-2 c κs = search needs
 
 sub-if1 : tie.Need-sub-if1
-sub-if1 c = search part-order
+sub-if1 c = search (part-order, needs)
 
 add-copy : tie.Need-add-copy
 add-copy c = search needs
@@ -25,7 +25,7 @@ part-copy-start : tie.Need-part-copy-start
 part-copy-start c = search needs
 
 part-copy-end : tie.Need-part-copy-end
-part-copy-end c = search part-end
+part-copy-end c = search (part-end, needs)
 
 copy-requires : tie.Need-copy-requires
 copy-requires c κs = search needs
