@@ -103,12 +103,7 @@ module _ (s w : List ℕ) (d count : ℕ) (r : Checked) (w₁ b₀ b₁ : List �
     all-held t b₂ i =
         let x = was-fine h (sym g ∙ e) in
         let y : entriesOf (scopeIn s w₁) (fieldsIn s) ≡ ok (x .entries) = ap (λ z. entriesOf z (fieldsIn s)) scope ∙ x .is in
-        let z = i .keeps in
-        let a = x .tally in
-        record {
-          old = b₀;
-          keeps = rw y (keeps-then noTally (x .entries) (typeEntries (drop d (typesIn s w₁))) b₀ b₁ b₂ no-twelve (x .keeps) (rw a at z));
-        }
+        record { old = b₀; keeps = rw y (keeps-then b₀ b₁ b₂ noTally (r .tally) (x .entries) (typeEntries (drop d (typesIn s w₁))) (x .tally) (x .keeps) (i .keeps)) }
 
     pub resolve-twelve : Twelve (r .tally)
     resolve-twelve = tallied-twelve (was-fine h (sym g ∙ e)) no-twelve
