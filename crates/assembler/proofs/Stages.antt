@@ -18,27 +18,32 @@ use Rattle.walk.proofs.Steps.{ahead-kept}
 use Rattle.scope.specs.Scope.{scopeIn, Recalled}
 use Rattle.scope.proofs.Frames.{scope-kept, recalled-scope}
 use Rattle.content.specs.Entry.{Entries, entriesOf}
-use Rattle.sections.specs.Tally.{tallies, noTally, ChecksIn}
+use Rattle.sections.specs.Tally.{tallies, noTally, Twelve, ChecksIn}
 use Rattle.sections.specs.Content.{Fine, kept, typeEntries}
 use Rattle.sections.specs.declared.tally.Tally.{Tally}
 use Rattle.sections.specs.declared.tally.Verdict.{Verdict}
 use Rattle.sections.specs.declared.tally.Verdict.the-variants as V′
 use Rattle.sections.specs.declared.tally.Checked.{Checked}
 use Rattle.sections.proofs.Tallies.{tallies-append}
-use Rattle.sections.proofs.Checking.{was-fine, fine-kept, was-not, not-long}
-use Rattle.module.specs.Write.{Writable, allEntries, keptItems, moduleItems}
+use Rattle.sections.proofs.Checking.{was-fine, fine-kept, was-not, not-long, tallied-twelve}
+use Rattle.sections.proofs.Keeping.{keeps-then}
+use Rattle.module.specs.Added.{KeepsTypes}
+use Rattle.module.specs.Write.{Writable, Held, allEntries, keptItems, moduleItems}
 use Rattle.assembler.specs.Run.{Found, fromNames, Passes}
 use Rattle.assembler.specs.declared.Passed.{Passed}
 
 -- a stage that refuses
-pub refuses : (a : Answer Found) (count : ℕ) (s w : List ℕ) (p : Passed) (w′ : List ℕ) (n q : ℕ) → a ≡ refused n q → p .verdict ≡ V′.Refused n q → length w′ ≡ length w → Passes a count s w p w′
-refuses a count s w p w′ n q e v l = record { says = rw v e; long = l }
+pub refuses : (a : Answer Found) (count : ℕ) (s w : List ℕ) (p : Passed) (w′ b : List ℕ) (n q : ℕ) → a ≡ refused n q → p .verdict ≡ V′.Refused n q → length w′ ≡ length w → Passes a count s w p w′ b
+refuses a count s w p w′ b n q e v l = record { says = rw v e; long = l }
 
 -- a stage that leaves the rest to the next
-pub passes-on : (a b : Answer Found) (count : ℕ) (s w w₁ : List ℕ) (p : Passed) (w′ : List ℕ) → a ≡ b → length w₁ ≡ length w → Passes b count s w₁ p w′ → Passes a count s w p w′
-passes-on a b count s w w₁ p w′ e l h = record { says = rw e (h .says); long = h .long ∙ l }
+pub passes-on : (a b : Answer Found) (count : ℕ) (s w w₁ : List ℕ) (p : Passed) (w′ k : List ℕ) → a ≡ b → length w₁ ≡ length w → Passes b count s w₁ p w′ k → Passes a count s w p w′ k
+passes-on a b count s w w₁ p w′ k e l h = record { says = rw e (h .says); long = h .long ∙ l }
 
 -- ## The fields, resolved
+
+no-twelve : Twelve noTally
+no-twelve = record { sizes = refl; counts = refl }
 
 -- entries that are there come from items that are there
 items-of : (a : Answer (List Item)) (es : Entries) → (a >>= λ is. ok (concatMap entries is)) ≡ ok es → a ≡ ok (keptItems a)
@@ -58,7 +63,7 @@ unfolding _>>=_
 not-items (ok is) n q e = let z : _≡_ {A = ℕ} 0 1 = cc in absurd (omega arith)
 not-items (refused m p) n q e = cc
 
-module _ (s w : List ℕ) (d count : ℕ) (r : Checked) (w₁ : List ℕ) (h : ChecksIn (entriesOf (scopeIn s w) (fieldsIn s)) noTally w r w₁) (v : Verdict) (g : v ≡ r .verdict) where
+module _ (s w : List ℕ) (d count : ℕ) (r : Checked) (w₁ b₀ b₁ : List ℕ) (h : ChecksIn (entriesOf (scopeIn s w) (fieldsIn s)) noTally w b₀ r w₁ b₁) (v : Verdict) (g : v ≡ r .verdict) where
   module _ (e : v ≡ V′.Fine) where
     k : Kept 11536 w w₁
     k = fine-kept h (sym g ∙ e)
@@ -92,6 +97,17 @@ module _ (s w : List ℕ) (d count : ℕ) (r : Checked) (w₁ : List ℕ) (h : C
         ∙ sym (tallies-append noTally (x .entries) (typeEntries (drop d (typesIn s w₁))))
         ∙ ap (λ z. tallies noTally (kept z ++ typeEntries (drop d (typesIn s w₁)))) (sym y)
 
+    -- their kept bytes
+    all-held : (t : Tally) (b₂ : List ℕ) → KeepsTypes (drop d (typesIn s w₁)) (r .tally) b₁ t b₂ → Held b₂ (allEntries d s w₁)
+    unfolding allEntries
+    all-held t b₂ i =
+        let x = was-fine h (sym g ∙ e) in
+        let y : entriesOf (scopeIn s w₁) (fieldsIn s) ≡ ok (x .entries) = ap (λ z. entriesOf z (fieldsIn s)) scope ∙ x .is in
+        record { old = b₀; keeps = rw y (keeps-then b₀ b₁ b₂ noTally (r .tally) (x .entries) (typeEntries (drop d (typesIn s w₁))) (x .tally) (x .keeps) (i .keeps)) }
+
+    pub resolve-twelve : Twelve (r .tally)
+    resolve-twelve = tallied-twelve (was-fine h (sym g ∙ e)) no-twelve
+
     -- the items
     found : d ≡ length (declared (fieldsIn s)) → fromNames (fieldsIn s) (scopeIn s w) ≡ ok (scopeIn s w₁, moduleItems d s w₁)
     unfolding fromNames itemsIn moduleItems entriesOf scopeIn
@@ -103,16 +119,16 @@ module _ (s w : List ℕ) (d count : ℕ) (r : Checked) (w₁ : List ℕ) (h : C
         ∙ ap (λ n. ok (scopeIn s w₁, keptItems (resolveAll (scopeIn s w₁) (fieldsIn s)) ++ map typeI (drop n (typesIn s w₁)))) (sym y)
 
     pub resolve-done : (t : Tally) → length s ≤ 65536 → 16384 ≤ length w → Ahead s w begin → Recalled w (typesIn s w) (uses (fieldsIn s))
-        → d ≡ length (declared (fieldsIn s)) → t ≡ tallies (r .tally) (typeEntries (drop d (typesIn s w₁)))
-        → Passes (fromNames (fieldsIn s) (scopeIn s w)) count s w (record { count = count; declared = d; tally = t; verdict = V′.Fine }) w₁
-    resolve-done t a b c u y i = record {
-      says = record { found = found y; records = refl; ready = record { writable = writable a b c u; tally = all-tallied t i } };
+        → d ≡ length (declared (fieldsIn s)) → (b₂ : List ℕ) → KeepsTypes (drop d (typesIn s w₁)) (r .tally) b₁ t b₂
+        → Passes (fromNames (fieldsIn s) (scopeIn s w)) count s w (record { count = count; declared = d; tally = t; verdict = V′.Fine }) w₁ b₂
+    resolve-done t a b c u y b₂ i = record {
+      says = record { found = found y; records = refl; ready = record { writable = writable a b c u; tally = all-tallied t (i .tally); held = all-held t b₂ i } };
       long = k .long;
     }
 
   -- a field was refused
-  pub resolve-not : (p : Passed) (n q : ℕ) → v ≡ V′.Refused n q → p .verdict ≡ V′.Refused n q → Passes (fromNames (fieldsIn s) (scopeIn s w)) count s w p w₁
+  pub resolve-not : (p : Passed) (n q : ℕ) → v ≡ V′.Refused n q → p .verdict ≡ V′.Refused n q → Passes (fromNames (fieldsIn s) (scopeIn s w)) count s w p w₁ b₁
   unfolding fromNames itemsIn entriesOf _>>=_
   resolve-not p n q e y =
       let i = not-items (resolveAll (scopeIn s w) (fieldsIn s)) n q (was-not h n q (sym g ∙ e)) in
-      refuses _ count s w p w₁ n q (rw i refl) y (not-long h n q (sym g ∙ e))
+      refuses _ count s w p w₁ b₁ n q (rw i refl) y (not-long h n q (sym g ∙ e))

@@ -40,7 +40,7 @@ use Rattle.sections.specs.Tally.{tallies, noTally}
 use Rattle.sections.specs.declared.tally.Tally.{Tally}
 use Rattle.sections.specs.declared.tally.Verdict.{Verdict}
 use Rattle.sections.specs.declared.tally.Verdict.the-variants as V′
-use Rattle.module.specs.Write.{Writable, allEntries, moduleItems}
+use Rattle.module.specs.Write.{Writable, Held, allEntries, moduleItems}
 use Rattle.name_section.specs.Section.{namesIn}
 use Rattle.assembler.specs.Run.{Found, fromNames, fromTypes, fromFields, Ready, PassesBy, Passes}
 use Rattle.assembler.specs.Run.{heard, Does, makes, writes, saidBy, ReadyBy, Prepares, Runs, outcomeOf}
@@ -72,14 +72,14 @@ module _ (s w : List ℕ) (q : Registered) (w₁ : List ℕ) (h : Registers s w 
     unfolding scopeIn
     scope-is = λ i. record { eq = sameBytes; names = λ k. stands e .tables .each k i; allTypes = sym types i }
 
-    pub register-done : (count : ℕ) (p : Passed) (w₂ : List ℕ) → Passes (fromNames (fieldsIn s) (scopeIn s w₁)) count s w₁ p w₂
-        → Passes (fromTypes (fieldsIn s) (typesIn s w)) count s w p w₂
+    pub register-done : (count : ℕ) (p : Passed) (w₂ b : List ℕ) → Passes (fromNames (fieldsIn s) (scopeIn s w₁)) count s w₁ p w₂ b
+        → Passes (fromTypes (fieldsIn s) (typesIn s w)) count s w p w₂ b
     unfolding fromTypes _>>=_
-    register-done count p w₂ y = let a = stands e .says in passes-on _ _ count s w w₁ p w₂ (rw (a, scope-is) refl) (stands e .kept .long) y
+    register-done count p w₂ b y = let a = stands e .says in passes-on _ _ count s w w₁ p w₂ b (rw (a, scope-is) refl) (stands e .kept .long) y
 
-  pub register-not : (count : ℕ) (p : Passed) (n r : ℕ) → q ≡ R.Refused n r → p .verdict ≡ V′.Refused n r → Passes (fromTypes (fieldsIn s) (typesIn s w)) count s w p w₁
+  pub register-not : (count : ℕ) (p : Passed) (b : List ℕ) (n r : ℕ) → q ≡ R.Refused n r → p .verdict ≡ V′.Refused n r → Passes (fromTypes (fieldsIn s) (typesIn s w)) count s w p w₁ b
   unfolding fromTypes _>>=_ Registers
-  register-not count p n r e v = (let g = rw e at h in let a = g .0 in refuses _ count s w p w₁ n r (rw a refl) v (g .1))
+  register-not count p b n r e v = (let g = rw e at h in let a = g .0 in refuses _ count s w p w₁ b n r (rw a refl) v (g .1))
 
 -- ## The order of imports, and the types
 
@@ -107,14 +107,14 @@ module _ (s w : List ℕ) (q : Typed) (w₁ : List ℕ) (h : TypesDone s w q w�
     pub types-declared : n ≡ length (declared (fieldsIn s))
     types-declared = has .declares
 
-    pub types-done : (count : ℕ) (p : Passed) (w₂ : List ℕ) → Passes (fromTypes (fieldsIn s) (typesIn s w₁)) count s w₁ p w₂
-        → Passes (fromFields (fieldsIn s)) count s w p w₂
+    pub types-done : (count : ℕ) (p : Passed) (w₂ b : List ℕ) → Passes (fromTypes (fieldsIn s) (typesIn s w₁)) count s w₁ p w₂ b
+        → Passes (fromFields (fieldsIn s)) count s w p w₂ b
     unfolding fromFields _>>=_
-    types-done count p w₂ y = let a = has .all in passes-on _ _ count s w w₁ p w₂ (rw a refl) (has .kept .long) y
+    types-done count p w₂ b y = let a = has .all in passes-on _ _ count s w w₁ p w₂ b (rw a refl) (has .kept .long) y
 
-  pub types-not : (count : ℕ) (p : Passed) (n r : ℕ) → q ≡ T.Refused n r → p .verdict ≡ V′.Refused n r → Passes (fromFields (fieldsIn s)) count s w p w₁
+  pub types-not : (count : ℕ) (p : Passed) (b : List ℕ) (n r : ℕ) → q ≡ T.Refused n r → p .verdict ≡ V′.Refused n r → Passes (fromFields (fieldsIn s)) count s w p w₁ b
   unfolding fromFields _>>=_ TypesDone
-  types-not count p n r e v = (let g = rw e at h in let a = g .says in refuses _ count s w p w₁ n r (rw a refl) v (g .long))
+  types-not count p b n r e v = (let g = rw e at h in let a = g .says in refuses _ count s w p w₁ b n r (rw a refl) v (g .long))
 
 -- ## The records
 
@@ -192,12 +192,12 @@ count-of s work n rs d e = go (ltb 65536 (length s)) (ltb work 16384) e
     go false false e = let f : ok (0 + length rs) ≡ ok n = (let g = e in rw d at g) in let x : 0 + length rs ≡ n = cc in omega arith
 
 module _ (s w : List ℕ) (q : Count) (w₁ : List ℕ) (h : Reads s w q w₁) (l : length w₁ ≡ length w) (p : Passed) where
-  pub prepare-not : (n r : ℕ) → q ≡ C.Refused n r → p .verdict ≡ V′.Refused n r → Prepares s w p w₁
-  prepare-not n r e v = record { says = λ names room. rw v (read-not (makes names) s (length w) room n r (h .says ∙ ap counted e)); ready = rw v tt; long = l }
+  pub prepare-not : (n r : ℕ) → q ≡ C.Refused n r → p .verdict ≡ V′.Refused n r → (b : List ℕ) → Prepares s w p w₁ b
+  prepare-not n r e v b = record { says = λ names room. rw v (read-not (makes names) s (length w) room n r (h .says ∙ ap counted e)); ready = rw v tt; long = l }
 
-  pub prepare-done : (n : ℕ) (w₂ : List ℕ) → q ≡ C.Records n → Passes (fromFields (fieldsIn s)) n s w₁ p w₂ → Prepares s w p w₂
+  pub prepare-done : (n : ℕ) (w₂ b : List ℕ) → q ≡ C.Records n → Passes (fromFields (fieldsIn s)) n s w₁ p w₂ b → Prepares s w p w₂ b
   unfolding _>>=_ say
-  prepare-done n w₂ e y = record { says = λ names room. whole names room ∙ ends names room (p .verdict) (y .says); ready = ready (p .verdict) (y .says); long = y .long ∙ l }
+  prepare-done n w₂ b e y = record { says = λ names room. whole names room ∙ ends names room (p .verdict) (y .says); ready = ready (p .verdict) (y .says); long = y .long ∙ l }
     where
       a : Accepted s
       a = reads-accepted s w w₁ q h n e
@@ -215,27 +215,30 @@ module _ (s w : List ℕ) (q : Count) (w₁ : List ℕ) (h : Reads s w q w₁) (
           made names room (a .recs) ∙ rw (fields-in s (a .recs) (a .is), number) refl in
           read-ok (makes names) s (length w) room n (a .recs) (a .is) told-n ∙ ap (say n) m
 
-      ends : (names : Bool) (room : ℕ) (v : Verdict) → PassesBy v (fromFields (fieldsIn s)) n s p w₂
+      ends : (names : Bool) (room : ℕ) (v : Verdict) → PassesBy v (fromFields (fieldsIn s)) n s p w₂ b
           → say n (fromFields (fieldsIn s) >>= λ x. fitting room n (writes names (fieldsIn s) x))
           ≡ saidBy v (p .count) room (writes names (fieldsIn s) (scopeIn s w₂, moduleItems (p .declared) s w₂))
       ends names room V′.Fine z = let f = z .found in let c = z .records in rw (f, c) refl
       ends names room (V′.Refused m r) z = rw z refl
 
-      ready : (v : Verdict) → PassesBy v (fromFields (fieldsIn s)) n s p w₂ → ReadyBy v s p w₂
+      ready : (v : Verdict) → PassesBy v (fromFields (fieldsIn s)) n s p w₂ b → ReadyBy v s p w₂ b
       ready V′.Fine z = z .ready
       ready (V′.Refused m r) z = tt
 
 -- ## The calls
 
-module _ (s w : List ℕ) (p : Passed) (w₁ : List ℕ) (h : Prepares s w p w₁) (v : Verdict) (g : v ≡ p .verdict) where
-  is-ready : v ≡ V′.Fine → Ready s p w₁
+module _ (s w : List ℕ) (p : Passed) (w₁ b : List ℕ) (h : Prepares s w p w₁ b) (v : Verdict) (g : v ≡ p .verdict) where
+  is-ready : v ≡ V′.Fine → Ready s p w₁ b
   is-ready e = go (p .verdict) (sym g ∙ e) (h .ready)
     where
-      go : (u : Verdict) → u ≡ V′.Fine → ReadyBy u s p w₁ → Ready s p w₁
+      go : (u : Verdict) → u ≡ V′.Fine → ReadyBy u s p w₁ b → Ready s p w₁ b
       go u f z = rw f at z
 
   pub run-writable : v ≡ V′.Fine → Writable s w₁
   run-writable e = is-ready e .writable
+
+  pub run-held : v ≡ V′.Fine → Held b (allEntries (p .declared) s w₁)
+  run-held e = is-ready e .held
 
   pub run-tally : (t : Tally) → t ≡ p .tally → v ≡ V′.Fine → t ≡ tallies noTally (allEntries (p .declared) s w₁)
   run-tally t i e = i ∙ is-ready e .tally

@@ -18,7 +18,7 @@ use Rattle.scope.specs.Scope.{scopeIn}
 use Rattle.sections.specs.Tally.{tallies, noTally}
 use Rattle.sections.specs.declared.tally.Verdict.{Verdict}
 use Rattle.sections.specs.declared.tally.Verdict.the-variants as V′
-use Rattle.module.specs.Write.{Writable, allEntries, moduleItems}
+use Rattle.module.specs.Write.{Writable, Held, allEntries, moduleItems}
 use Rattle.assembler.specs.declared.Said.{Said}
 use Rattle.assembler.specs.declared.Passed.{Passed}
 
@@ -37,24 +37,25 @@ fromTypes fs ts = register sameBytes [] fs >>= λ xs. fromNames fs (record { eq 
 unfoldable pub fromFields : Numbered Identifier → Answer Found
 fromFields fs = typesAfterOrder fs >>= λ ts. fromTypes fs ts
 
--- what a writer asks for: the items as the work area has them, and their tally
-pub record Ready (s : List ℕ) (p : Passed) (w : List ℕ) : Type 0 where
+-- what a writer asks for: the items as the work area has them, their tally, and the bytes of their entries that were kept
+pub record Ready (s : List ℕ) (p : Passed) (w kept : List ℕ) : Type 0 where
   pub writable : Writable s w
   pub tally : p .tally ≡ tallies noTally (allEntries (p .declared) s w)
+  pub held : Held kept (allEntries (p .declared) s w)
 
 -- the work area has what was found
-pub record Holds (a : Answer Found) (count : ℕ) (s : List ℕ) (p : Passed) (w : List ℕ) : Type 0 where
+pub record Holds (a : Answer Found) (count : ℕ) (s : List ℕ) (p : Passed) (w kept : List ℕ) : Type 0 where
   pub found : a ≡ ok (scopeIn s w, moduleItems (p .declared) s w)
   pub records : p .count ≡ count
-  pub ready : Ready s p w
+  pub ready : Ready s p w kept
 
-abbrev pub PassesBy : Verdict → Answer Found → ℕ → List ℕ → Passed → List ℕ → Type 0
-PassesBy V′.Fine a count s p w = Holds a count s p w
-PassesBy (V′.Refused n q) a count s p w = a ≡ refused n q
+abbrev pub PassesBy : Verdict → Answer Found → ℕ → List ℕ → Passed → List ℕ → List ℕ → Type 0
+PassesBy V′.Fine a count s p w kept = Holds a count s p w kept
+PassesBy (V′.Refused n q) a count s p w kept = a ≡ refused n q
 
 -- a stage finds what is left to find, and keeps the work area's length
-pub record Passes (a : Answer Found) (count : ℕ) (s w : List ℕ) (p : Passed) (w′ : List ℕ) : Type 0 where
-  pub says : PassesBy (p .verdict) a count s p w′
+pub record Passes (a : Answer Found) (count : ℕ) (s w : List ℕ) (p : Passed) (w′ kept : List ℕ) : Type 0 where
+  pub says : PassesBy (p .verdict) a count s p w′ kept
   pub long : length w′ ≡ length w
 
 -- ## What is said
@@ -97,15 +98,15 @@ abbrev pub saidBy : Verdict → ℕ → ℕ → Bytes → Assemble.Said
 saidBy V′.Fine count room bs = say count (fitting room count bs)
 saidBy (V′.Refused n q) count room bs = refusal n q
 
-abbrev pub ReadyBy : Verdict → List ℕ → Passed → List ℕ → Type 0
-ReadyBy V′.Fine s p w = Ready s p w
-ReadyBy (V′.Refused n q) s p w = Unit {0}
+abbrev pub ReadyBy : Verdict → List ℕ → Passed → List ℕ → List ℕ → Type 0
+ReadyBy V′.Fine s p w kept = Ready s p w kept
+ReadyBy (V′.Refused n q) s p w kept = Unit {0}
 
 -- all passes: what is left of either call is its writer
-pub record Prepares (s w : List ℕ) (p : Passed) (w′ : List ℕ) : Type 0 where
+pub record Prepares (s w : List ℕ) (p : Passed) (w′ kept : List ℕ) : Type 0 where
   pub says : (names : Bool) (room : ℕ) → assembleBy (makes names) s (length w) room
       ≡ saidBy (p .verdict) (p .count) room (writes names (fieldsIn s) (scopeIn s w′, moduleItems (p .declared) s w′))
-  pub ready : ReadyBy (p .verdict) s p w′
+  pub ready : ReadyBy (p .verdict) s p w′ kept
   pub long : length w′ ≡ length w
 
 -- a call, before the work area is cleared

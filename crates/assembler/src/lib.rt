@@ -18,7 +18,7 @@ ghost use Rattle.signatures.specs.Table.{typesIn};
 ghost use Rattle.walk.specs.Walk.{Ahead, begin, fieldsIn};
 ghost use Rattle.scope.specs.Scope.{scopeIn, Recalled};
 ghost use Rattle.sections.specs.Tally.{tallies, noTally};
-ghost use Rattle.module.specs.Write.{Writable, allEntries, moduleItems};
+ghost use Rattle.module.specs.Write.{Writable, Held, allEntries, moduleItems};
 ghost use Rattle.name_section.specs.Section.{namesIn};
 ghost use Rattle.assembler.specs.Run.{Passes, Prepares, noRoom, Does, Runs, fromNames, fromTypes, fromFields, makes, outcomeOf};
 
@@ -29,7 +29,7 @@ pub struct Said {
     pub len: usize,
 }
 
-// What the passes leave for a writer: how many records and declared types there are and how large the sections are; or their refusal.
+// What the passes leave for a writer, beside the kept bytes: how many records and declared types there are and how large the sections are; or their refusal.
 pub struct Passed {
     pub count: u32,
     pub declared: u32,
@@ -55,16 +55,16 @@ fn refuse(n: u8, q: u32) -> Passed
 }
 
 // The fields, resolved in order.
-fn resolve(s: &[u8], work: &mut [u32], count: u32, declared: u32) -> Passed
+fn resolve(s: &[u8], work: &mut [u32], kept: &mut [u8], count: u32, declared: u32) -> Passed
     requires { ⌜ (length (now s) ≤ 65536) × (16384 ≤ length (now work)) × Ahead (now s) (now work) begin × Recalled (now work) (typesIn (now s) (now work)) (Types.uses (fieldsIn (now s))) × (declared ≡ length (Types.declared (fieldsIn (now s)))) ⌝ }
-    ensures { λ r. ⌜ Passes (fromNames (fieldsIn (now (s .entry))) (scopeIn (now (s .entry)) (now (work .entry)))) count (now (s .entry)) (now (work .entry)) r (now (work .exit)) ⌝ }
+    ensures { λ r. ⌜ Passes (fromNames (fieldsIn (now (s .entry))) (scopeIn (now (s .entry)) (now (work .entry)))) count (now (s .entry)) (now (work .entry)) r (now (work .exit)) (now (kept .exit)) ⌝ }
 {
-    let r = sections::check_fields(s, work);
+    let r = sections::check_fields(s, work, kept);
     let tally = r.tally;
     let v = r.verdict;
     match v {
         Verdict::Fine => {
-            let tally = module::tally_types(s, work, declared, tally);
+            let tally = module::keep_types(s, work, kept, declared, tally);
             Passed {
                 count,
                 declared,
@@ -77,33 +77,33 @@ fn resolve(s: &[u8], work: &mut [u32], count: u32, declared: u32) -> Passed
 }
 
 // Every item in its table; then the fields.
-fn register(s: &[u8], work: &mut [u32], count: u32, declared: u32) -> Passed
+fn register(s: &[u8], work: &mut [u32], kept: &mut [u8], count: u32, declared: u32) -> Passed
     requires { ⌜ (length (now s) ≤ 65536) × (16384 ≤ length (now work)) × Ahead (now s) (now work) begin × Recalled (now work) (typesIn (now s) (now work)) (Types.uses (fieldsIn (now s))) × (declared ≡ length (Types.declared (fieldsIn (now s)))) ⌝ }
-    ensures { λ r. ⌜ Passes (fromTypes (fieldsIn (now (s .entry))) (typesIn (now (s .entry)) (now (work .entry)))) count (now (s .entry)) (now (work .entry)) r (now (work .exit)) ⌝ }
+    ensures { λ r. ⌜ Passes (fromTypes (fieldsIn (now (s .entry))) (typesIn (now (s .entry)) (now (work .entry)))) count (now (s .entry)) (now (work .entry)) r (now (work .exit)) (now (kept .exit)) ⌝ }
 {
     match names::register_all(s, work) {
-        Registered::Done => resolve(s, work, count, declared),
+        Registered::Done => resolve(s, work, kept, count, declared),
         Registered::Refused(n, q) => refuse(n, q),
     }
 }
 
 // The order of imports and the types; then the names.
-fn intern(s: &[u8], work: &mut [u32], count: u32) -> Passed
+fn intern(s: &[u8], work: &mut [u32], kept: &mut [u8], count: u32) -> Passed
     requires { ⌜ (length (now s) ≤ 65536) × (16384 ≤ length (now work)) × Ahead (now s) (now work) begin ⌝ }
-    ensures { λ r. ⌜ Passes (fromFields (fieldsIn (now (s .entry)))) count (now (s .entry)) (now (work .entry)) r (now (work .exit)) ⌝ }
+    ensures { λ r. ⌜ Passes (fromFields (fieldsIn (now (s .entry)))) count (now (s .entry)) (now (work .entry)) r (now (work .exit)) (now (kept .exit)) ⌝ }
 {
     match types::all_types(s, work) {
-        Typed::Types(declared) => register(s, work, count, declared),
+        Typed::Types(declared) => register(s, work, kept, count, declared),
         Typed::Refused(n, q) => refuse(n, q),
     }
 }
 
 // The records; then the passes over their fields.
-fn prepare(s: &[u8], work: &mut [u32]) -> Passed
-    ensures { λ r. ⌜ Prepares (now (s .entry)) (now (work .entry)) r (now (work .exit)) ⌝ }
+fn prepare(s: &[u8], work: &mut [u32], kept: &mut [u8]) -> Passed
+    ensures { λ r. ⌜ Prepares (now (s .entry)) (now (work .entry)) r (now (work .exit)) (now (kept .exit)) ⌝ }
 {
     match stream::read_all(s, work) {
-        Count::Records(count) => intern(s, work, count),
+        Count::Records(count) => intern(s, work, kept, count),
         Count::Refused(n, q) => refuse(n, q),
     }
 }
@@ -125,17 +125,18 @@ fn write_module(
     s: &[u8],
     work: &mut [u32],
     out: &mut [u8],
+    kept: &[u8],
     count: u32,
     declared: u32,
     t: Tally,
 ) -> Said
-    requires { ⌜ Writable (now s) (now work) × (t ≡ tallies noTally (allEntries declared (now s) (now work))) ⌝ }
+    requires { ⌜ Writable (now s) (now work) × Held (now kept) (allEntries declared (now s) (now work)) × (t ≡ tallies noTally (allEntries declared (now s) (now work))) ⌝ }
     ensures { λ r. ⌜ Does count (Binary.module′ (moduleItems declared (now (s .entry)) (now (work .entry)))) (now (work .entry)) (now (out .entry)) r (now (work .exit)) (now (out .exit)) ⌝ }
 {
     if out.len() < module_len(t) {
         return no_room(count);
     }
-    let len = module::put_module(t, declared, s, work, out);
+    let len = module::put_module(t, declared, kept, s, work, out);
     Said {
         number: 0,
         rec: count,
@@ -148,18 +149,19 @@ fn write_names(
     s: &[u8],
     work: &mut [u32],
     out: &mut [u8],
+    kept: &[u8],
     count: u32,
     declared: u32,
     t: Tally,
 ) -> Said
-    requires { ⌜ Writable (now s) (now work) × (t ≡ tallies noTally (allEntries declared (now s) (now work))) ⌝ }
+    requires { ⌜ Writable (now s) (now work) × Held (now kept) (allEntries declared (now s) (now work)) × (t ≡ tallies noTally (allEntries declared (now s) (now work))) ⌝ }
     ensures { λ r. ⌜ Does count (Binary.module′ (moduleItems declared (now (s .entry)) (now (work .entry))) ++ namesIn (now (s .entry)) (now (work .entry))) (now (work .entry)) (now (out .entry)) r (now (work .exit)) (now (out .exit)) ⌝ }
 {
     let n = name_section::measure(s, work);
     if out.len() < emit::tally(module_len(t), name_section::section_len(n)) {
         return no_room(count);
     }
-    let at = module::put_module(t, declared, s, work, out);
+    let at = module::put_module(t, declared, kept, s, work, out);
     let len = name_section::put_name_section(n, s, work, out, at);
     Said {
         number: 0,
@@ -170,19 +172,19 @@ fn write_names(
 
 // ## The calls
 
-// The passes, and then the writer that is asked for.
-fn run(s: &[u8], work: &mut [u32], out: &mut [u8], names: bool) -> Said
+// The passes, and then the writer that is asked for. Whatever has room in the kept bytes is resolved once.
+fn run_keeping(s: &[u8], work: &mut [u32], out: &mut [u8], kept: &mut [u8], names: bool) -> Said
     ensures { λ r. ⌜ Runs (makes names) (now (s .entry)) (now (work .entry)) (now (out .entry)) r (now (work .exit)) (now (out .exit)) ⌝ }
 {
-    let p = prepare(s, work);
+    let p = prepare(s, work, kept);
     let t = p.tally;
     let v = p.verdict;
     match v {
         Verdict::Fine => {
             if names {
-                return write_names(s, work, out, p.count, p.declared, t);
+                return write_names(s, work, out, kept, p.count, p.declared, t);
             }
-            write_module(s, work, out, p.count, p.declared, t)
+            write_module(s, work, out, kept, p.count, p.declared, t)
         }
         Verdict::Refused(n, q) => Said {
             number: n,
@@ -190,6 +192,30 @@ fn run(s: &[u8], work: &mut [u32], out: &mut [u8], names: bool) -> Said
             len: 0,
         },
     }
+}
+
+// A short stream keeps little, and pays for little room.
+fn run_short(s: &[u8], work: &mut [u32], out: &mut [u8], names: bool) -> Said
+    ensures { λ r. ⌜ Runs (makes names) (now (s .entry)) (now (work .entry)) (now (out .entry)) r (now (work .exit)) (now (out .exit)) ⌝ }
+{
+    let mut kept = [0u8; 8192];
+    run_keeping(s, work, out, &mut kept, names)
+}
+
+fn run_long(s: &[u8], work: &mut [u32], out: &mut [u8], names: bool) -> Said
+    ensures { λ r. ⌜ Runs (makes names) (now (s .entry)) (now (work .entry)) (now (out .entry)) r (now (work .exit)) (now (out .exit)) ⌝ }
+{
+    let mut kept = [0u8; 65536];
+    run_keeping(s, work, out, &mut kept, names)
+}
+
+fn run(s: &[u8], work: &mut [u32], out: &mut [u8], names: bool) -> Said
+    ensures { λ r. ⌜ Runs (makes names) (now (s .entry)) (now (work .entry)) (now (out .entry)) r (now (work .exit)) (now (out .exit)) ⌝ }
+{
+    if s.len() <= 6144 {
+        return run_short(s, work, out, names);
+    }
+    run_long(s, work, out, names)
 }
 
 // The same with the work area cleared.

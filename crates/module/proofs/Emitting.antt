@@ -1,12 +1,9 @@
 -- The entries of one section: of an entry, of a field, of all fields.
 use Prim.Native.Nat.{ℕ, zero, suc, _+_, _*_, _^_, _≤_, _<_}
 use mathlib.Core.Path.{_≡_, refl, sym, _∙_, ap}
-use mathlib.Core.Bool.{Bool, true, false}
 use mathlib.Core.List.{List, [], _∷_, _++_, map, append-assoc, append-nil}
-use lib.Dec.{eqb}
 use lib.ListN.{length}
 use native.Mathlib.Omega.{arith}
-use borrow.Author.Tests.{eq-eqb, ne-eqb}
 use Rattle.definition.specs.Basic.{if_then_else_, Answer, ok, refused, concatMap}
 use Rattle.definition.specs.Syntax.{Bytes, Identifier, FuncType}
 use Rattle.definition.specs.Deinline.{Numbered}
@@ -27,38 +24,27 @@ use Rattle.sections.specs.Content.{Fine, kept, bytesIn}
 use Rattle.module.specs.Write.{Writes, Ready, ReadyThree, lastTwo}
 use Rattle.content.specs.Listed.{Listed, Answers}
 use Rattle.sections.specs.Emit.{AreaOf, EmitsEntry}
-use Rattle.sections.specs.Tally as Tally
+use Rattle.sections.proofs.Keeping.{section-own, section-other, section-append, joined-append}
 use Rattle.content.specs.declared.emitters.EndsAt.{EndsAt}
 use Rattle.content.specs.declared.emitters.EndsAt.the-variants as A
-use Rattle.module.proofs.Full.{in-append, joined-append}
 
 -- ## Entries of one section
 
-tagged-same : (k : ℕ) (bs : List Bytes) → inSection k (map (λ b. (k, b)) bs) ≡ bs
-unfolding inSection
-tagged-same k [] = refl
-tagged-same k (b ∷ bs) = let e : eqb k k ≡ true = eq-eqb k k refl in rw (e, tagged-same k bs) refl
-
-tagged-other : (k j : ℕ) (bs : List Bytes) → eqb k j ≡ false → inSection k (map (λ b. (j, b)) bs) ≡ []
-unfolding inSection
-tagged-other k j [] e = refl
-tagged-other k j (b ∷ bs) e = rw (e, tagged-other k j bs e) refl
-
-bytes-other : (k j : ℕ) (a : Answer (List Bytes)) → eqb k j ≡ false → [] ≡ bytesIn k (tagged j a)
+bytes-other : (k j : ℕ) (a : Answer (List Bytes)) → (k ≡ j → ⊥) → [] ≡ bytesIn k (tagged j a)
 unfolding bytesIn tagged joined concatMap
-bytes-other k j (ok bs) e = rw (tagged-other k j bs e) refl
+bytes-other k j (ok bs) e = rw (section-other k j bs e) refl
 bytes-other k j (refused n r) e = unfold inSection in refl
 
 bytes-same : (k j : ℕ) (a : Answer (List Bytes)) (bs : List Bytes) → j ≡ k → a ≡ ok bs → joined bs ≡ bytesIn k (tagged j a)
 unfolding bytesIn tagged
-bytes-same k j a bs d e = rw (d, e, tagged-same k bs) refl
+bytes-same k j a bs d e = rw (d, e, section-own k bs) refl
 
 module _ (s w : List ℕ) (k r j : ℕ) (e : Entry) (sec : j ≡ sectionNo e) (old : Bytes) (at : ℕ) where
   -- an entry of another section
   pub entry-other : (j ≡ k → ⊥) → length old * 1 < 2 ^ 63 → Writes (bytesIn k (entryIn (scopeIn s w) s r e)) old at at old w w
   unfolding entryIn
   entry-other h g = record {
-    put = put-skip g (bytes-other k (sectionNo e) (answerOf (scopeIn s w) s r e) (ne-eqb k (sectionNo e) (λ d. h (sec ∙ sym d))));
+    put = put-skip g (bytes-other k (sectionNo e) (answerOf (scopeIn s w) s r e) (λ d. h (sec ∙ sym d)));
     area = kept-same 11536 w;
   }
 
@@ -101,7 +87,7 @@ fine-second (refused n r) b f = let g : refused n r ≡ ok (f .entries) = f .is 
 
 pub bytes-both : (k : ℕ) (a b : Answer Entries) → Fine (both a b) → bytesIn k a ++ bytesIn k b ≡ bytesIn k (both a b)
 unfolding both bytesIn
-bytes-both k (ok xs) (ok ys) f = rw (in-append k xs ys, joined-append (inSection k xs) (inSection k ys)) refl
+bytes-both k (ok xs) (ok ys) f = rw (section-append k xs ys, joined-append (inSection k xs) (inSection k ys)) refl
 bytes-both k (ok xs) (refused n r) f = let g : refused n r ≡ ok (f .entries) = f .is in let z : _≡_ {A = ℕ} 0 1 = cc in absurd (omega arith)
 bytes-both k (refused n r) b f = let g : refused n r ≡ ok (f .entries) = f .is in let z : _≡_ {A = ℕ} 0 1 = cc in absurd (omega arith)
 

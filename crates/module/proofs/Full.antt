@@ -13,6 +13,7 @@ use Rattle.definition.specs.Syntax.{Item, typeI, importI, funcI, tableI, memI, 
 use Rattle.definition.specs.Binary.{unsigned, u, sized, funcType, limits, limitsOf, tableType, globalType, externType, expr, func-code, elem, data′, entries, inSection, joined}
 use Rattle.content.specs.Entry.{Entries}
 use Rattle.sections.specs.Content.{typeEntries}
+use Rattle.sections.proofs.Keeping.{section-append, joined-append}
 use Rattle.module.specs.Length.{Good}
 
 -- ## Bytes that are not empty
@@ -123,23 +124,9 @@ good-items is = record { each = λ k. full-in k (concatMap entries is) (items-fu
 pub good-types : (ts : List FuncType) → Good (typeEntries ts)
 good-types ts = record { each = λ k. full-in k (typeEntries ts) (types-full ts) }
 
-pub in-append : (k : ℕ) (xs ys : Entries) → inSection k (xs ++ ys) ≡ inSection k xs ++ inSection k ys
-unfolding inSection
-in-append k [] ys = refl
-in-append k ((j, b) ∷ xs) ys = go (eqb k j) (in-append k xs ys)
-  where
-    go : (t : Bool) → inSection k (xs ++ ys) ≡ inSection k xs ++ inSection k ys → (if t then b ∷ [] else []) ++ inSection k (xs ++ ys) ≡ ((if t then b ∷ [] else []) ++ inSection k xs) ++ inSection k ys
-    go true e = ap (λ (l : List Bytes). b ∷ l) e
-    go false e = e
-
-pub joined-append : (xs ys : List Bytes) → joined (xs ++ ys) ≡ joined xs ++ joined ys
-unfolding joined concatMap
-joined-append [] ys = refl
-joined-append (b ∷ xs) ys = ap (λ (l : Bytes). b ++ l) (joined-append xs ys) ∙ sym (append-assoc b (joined xs) (joined ys))
-
 pub good-append : (xs ys : Entries) → Good xs → Good ys → Good (xs ++ ys)
 good-append xs ys g h = record {
-  each = λ k. rw (in-append k xs ys, joined-append (inSection k xs) (inSection k ys)) (omega (
+  each = λ k. rw (section-append k xs ys, joined-append (inSection k xs) (inSection k ys)) (omega (
     arith,
     g .each k,
     h .each k,

@@ -4,4 +4,5 @@ pub mod Counting
 pub mod Tables
 pub mod Emitting
 pub mod Fields
+pub mod Kept
 pub mod Sections

@@ -24,10 +24,11 @@ use Rattle.content.specs.Entry.{Entries, entriesOf}
 use Rattle.sections.specs.Tally.{tallies, noTally}
 use Rattle.sections.specs.Content.{Fine, kept, bytesIn, typeEntries}
 use Rattle.sections.specs.declared.tally.Tally.{Tally}
+use Rattle.sections.proofs.Keeping.{section-append, joined-append}
 use Rattle.module.specs.Length.{Counted, contentLen, moduleLen, sectionsFrom}
 use Rattle.module.specs.Added.{typeBytes}
-use Rattle.module.specs.Write.{Writes, Writable, Counts, allEntries, addedIn, keptItems, moduleItems}
-use Rattle.module.proofs.Full.{in-append, joined-append, good-items}
+use Rattle.module.specs.Write.{Writes, Writable, Held, Counts, allEntries, addedIn, keptItems, moduleItems}
+use Rattle.module.proofs.Full.{good-items}
 use Rattle.module.proofs.Lengths.{size-of, count-of, content-long, module-is, module-long}
 use Rattle.module.proofs.Emitting.{scope-same, types-same, recalled-same}
 
@@ -91,7 +92,7 @@ module _ (k declared : ℕ) (s w w′ old : List ℕ) (at : ℕ) where
       let ts = typeEntries (drop declared (typesIn s w)) in
       let q′ : Put mid a (joined (inSection k ts)) b new = put-is q (rw d refl) in
       record {
-        put = put-is (put-then (p .put) q′) (sym (joined-append (inSection k es) (inSection k ts)) ∙ ap joined (sym (in-append k es ts)));
+        put = put-is (put-then (p .put) q′) (sym (joined-append (inSection k es) (inSection k ts)) ∙ ap joined (sym (section-append k es ts)));
         area = p .area;
       }
 
@@ -103,7 +104,7 @@ module _ (k declared : ℕ) (s w w′ old : List ℕ) (at : ℕ) where
       let es = kept (entriesOf (scopeIn s w) (fieldsIn s)) in
       let ts = typeEntries (drop declared (typesIn s w)) in
       let n : length (joined (inSection k (es ++ ts))) ≡ length (joined (inSection k es)) + length (joined (inSection k ts)) =
-      ap (λ z. length (joined z)) (in-append k es ts) ∙ ap length (joined-append (inSection k es) (inSection k ts)) ∙ length-append (joined (inSection k es)) (joined (inSection k ts)) in
+      ap (λ z. length (joined z)) (section-append k es ts) ∙ ap length (joined-append (inSection k es) (inSection k ts)) ∙ length-append (joined (inSection k es)) (joined (inSection k ts)) in
       rw (d, e, n) (past-more at (length (joined (inSection k es))) (length (joined (inSection k ts))))
 
   pub content-start : (r : ℕ) (new : Bytes) → k ≡ 8 → Writes (joined (inSection k (allEntries declared s w))) old at r new w w′
@@ -194,20 +195,22 @@ module _ (t : Tally) (es : Entries) (c : Counted t es) (k : ℕ) (h : k < 12) wh
 -- ## All sections
 
 -- those before section k are put
-pub record Sectioning (t : Tally) (declared : ℕ) (s w₀ old : List ℕ) (at left k o : ℕ) (out w : List ℕ) : Type 0 where
+pub record Sectioning (t : Tally) (declared : ℕ) (kept s w₀ old : List ℕ) (at left k o : ℕ) (out w : List ℕ) : Type 0 where
   pub sum : left + k ≡ 12
   pub writable : Writable s w
+  pub held : Held kept (allEntries declared s w)
   pub counted : Counted t (allEntries declared s w)
   pub area : Kept 11536 w₀ w
   pub done : Bytes
   pub so-far : Put old at done o out
   pub same : done ++ sectionsFrom left k (allEntries declared s w) ≡ sectionsFrom 11 1 (allEntries declared s w₀)
 
-pub sections-begin : (t : Tally) (declared : ℕ) (s w old : List ℕ) (at : ℕ) → Writable s w → Counted t (allEntries declared s w) → length old * 1 < 2 ^ 63
-    → Sectioning t declared s w old at 11 1 at old w
-sections-begin t declared s w old at v c h = record {
+pub sections-begin : (t : Tally) (declared : ℕ) (kept s w old : List ℕ) (at : ℕ) → Writable s w → Held kept (allEntries declared s w) → Counted t (allEntries declared s w) → length old * 1 < 2 ^ 63
+    → Sectioning t declared kept s w old at 11 1 at old w
+sections-begin t declared kept s w old at v k c h = record {
   sum = omega arith;
   writable = v;
+  held = k;
   counted = c;
   area = kept-same 11536 w;
   done = [];
@@ -215,14 +218,14 @@ sections-begin t declared s w old at v c h = record {
   same = refl;
 }
 
-module _ (t : Tally) (declared : ℕ) (s w₀ old : List ℕ) (at left k o : ℕ) (out w : List ℕ) (v : Sectioning t declared s w₀ old at left k o out w) where
+module _ (t : Tally) (declared : ℕ) (kept s w₀ old : List ℕ) (at left k o : ℕ) (out w : List ℕ) (v : Sectioning t declared kept s w₀ old at left k o out w) where
   pub sections-again : (r : ℕ) (new w′ : List ℕ) → 0 < left → Writes (section (allEntries declared s w) k) out o r new w w′
-      → Sectioning t declared s w₀ old at (left - 1) (k + 1) r new w′
+      → Sectioning t declared kept s w₀ old at (left - 1) (k + 1) r new w′
   unfolding sectionsFrom
   sections-again r new w′ h p = go left h (v .sum) (v .same)
     where
       go : (n : ℕ) → 0 < n → n + k ≡ 12 → v .done ++ sectionsFrom n k (allEntries declared s w) ≡ sectionsFrom 11 1 (allEntries declared s w₀)
-          → Sectioning t declared s w₀ old at (n - 1) (k + 1) r new w′
+          → Sectioning t declared kept s w₀ old at (n - 1) (k + 1) r new w′
       go zero h d e = absurd (omega arith)
       go (suc n) h d e =
           let m : suc n - 1 ≡ n = omega arith in
@@ -230,6 +233,7 @@ module _ (t : Tally) (declared : ℕ) (s w₀ old : List ℕ) (at left k o : ℕ
           rw m (record {
             sum = omega arith;
             writable = writable-same s w w′ (p .area) (v .writable);
+            held = rw z (v .held);
             counted = rw z (v .counted);
             area = kept-then (v .area) (p .area);
             done = v .done ++ section (allEntries declared s w) k;

@@ -2,22 +2,26 @@
 use Prim.Native.Nat.{ℕ, zero, suc, _+_, _-_, _*_, _^_, _≤_, _<_, min}
 use mathlib.Core.Path.{_≡_, refl, sym, _∙_, ap}
 use mathlib.Core.List.{List, [], _∷_, _++_, map, append-assoc, append-nil}
-use lib.ListN.{length, drop, getD}
+use lib.ListN.{length, take, drop, getD}
 use native.Mathlib.Omega.{arith}
 use mir.Syntax.{w64}
 use mir.Val.{Fits}
+use borrow.Rule.Slice.PartMut.{putMid}
 use Rattle.definition.specs.Basic.{concatMap}
 use Rattle.definition.specs.Syntax.{Bytes, FuncType}
 use Rattle.definition.specs.Binary.{funcType, joined}
 use Rattle.emit.specs.Put.{Put, past}
 use Rattle.emit.proofs.Laws.{put-none, put-then, put-is}
+use Rattle.content.specs.Entry.{Entries}
 use Rattle.signatures.specs.Table.{signatureOf, entryIn, typeTable, typesIn}
 use Rattle.signatures.specs.declared.entry.Signature.{Signature}
-use Rattle.sections.specs.Tally.{added, tallies}
+use Rattle.sections.specs.Parts.{startOf}
+use Rattle.sections.specs.Tally.{reached, tallies, Twelve}
 use Rattle.sections.specs.Content.{typeEntries}
 use Rattle.sections.specs.declared.tally.Tally.{Tally}
-use Rattle.sections.proofs.Tallies.{added-measured}
-use Rattle.module.specs.Added.{typeBytes}
+use Rattle.sections.proofs.Tallies.{tallies-append, tallies-twelve}
+use Rattle.sections.proofs.Keeping.{reached-is, keeps-none, keeps-then, keeps-lent}
+use Rattle.module.specs.Added.{typeBytes, KeepsTypes}
 
 -- ## The rest of the table
 
@@ -93,41 +97,81 @@ module _ {s : Bytes} {w : List ℕ} {declared : ℕ} {old : Bytes} {at left plac
   pub typing-next : 0 < left → Fits w64 (place + 5)
   typing-next h = omega (arith, v .low h)
 
--- ## Tallied
+-- ## Kept and tallied
 
-pub record Tallying (s : Bytes) (w : List ℕ) (declared : ℕ) (t : Tally) (left place : ℕ) (r : Tally) : Type 0 where
-  pub low : 0 < left → place + 5 * left ≤ 1800
-  pub same : tallies r (typeEntries (typeTable left s w place)) ≡ tallies t (typeEntries (drop declared (typesIn s w)))
+-- one type more in the part of section 1
+pub type-kept : (f : FuncType) (t : Tally) (old new : Bytes) (a b o : ℕ) (r : Tally) → Twelve t → length old * 1 < 2 ^ 63 → a ≡ startOf (length old) 1 → b ≡ startOf (length old) 2
+    → Put (take (b - a) (drop a old)) (getD (t .sizes) 1 0) (funcType f) o new → r ≡ reached t 1 o 1 → KeepsTypes (f ∷ []) t old r (putMid a (b - a) old new)
+unfolding typeEntries joined concatMap
+type-kept f t old new a b o r w s from to p e =
+    let q : Put (take (b - a) (drop a old)) (getD (t .sizes) 1 0) (funcType f ++ []) o new = put-is p (sym (append-nil (funcType f))) in
+    record {
+      tally = e ∙ reached-is t 1 o 1 (funcType f ∷ []) (omega arith) w (q .place) refl;
+      keeps = keeps-lent old new t 1 a b o (funcType f ∷ []) (omega arith) w s from to q;
+    }
 
-pub tallying-begin : {s : Bytes} {w : List ℕ} {d : ℕ} {t : Tally} {n : ℕ} → n ≡ min (getD w 5896 0) 256 - d → Tallying s w d t n (520 + 5 * d) t
-tallying-begin {s} {w} {d} {t} {n} e = record {
-  low = λ g. low-begin (getD w 5896 0) d n e g;
-  same = ap (λ ts. tallies t (typeEntries ts)) (rw e (sym (types-rest s w d)));
+entries-append : (ts us : List FuncType) → typeEntries (ts ++ us) ≡ typeEntries ts ++ typeEntries us
+unfolding typeEntries
+entries-append [] us = refl
+entries-append (t ∷ ts) us = ap (λ (z : Entries). (1, funcType t) ∷ z) (entries-append ts us)
+
+-- types after others
+types-then : (ts us : List FuncType) {t q r : Tally} {a b c : Bytes} → KeepsTypes ts t a q b → KeepsTypes us q b r c → KeepsTypes (ts ++ us) t a r c
+types-then ts us {t} {q} {r} {a} {b} {c} x y = record {
+  tally = y .tally ∙ ap (λ (z : Tally). tallies z (typeEntries us)) (x .tally) ∙ rw (entries-append ts us) (sym (tallies-append t (typeEntries ts) (typeEntries us)));
+  keeps = rw (entries-append ts us) (keeps-then a b c t q (typeEntries ts) (typeEntries us) (x .tally) (x .keeps) (y .keeps));
 }
 
-module _ {s : Bytes} {w : List ℕ} {declared : ℕ} {t : Tally} {left place : ℕ} {r : Tally} (v : Tallying s w declared t left place r) where
-  pub tallying-again : (n : ℕ) {q : Tally} → 0 < left → n ≡ past 0 (length (funcType (signatureOf s (entryIn w place)))) → q ≡ added r 1 n 1
-      → Tallying s w declared t (left - 1) (place + 5) q
-  unfolding typeTable typeEntries tallies
-  tallying-again n {q} h m d = go left h (v .low) (v .same)
+pub record Keeping (s : Bytes) (w : List ℕ) (declared : ℕ) (t : Tally) (old : Bytes) (left place : ℕ) (r : Tally) (kept : Bytes) : Type 0 where
+  pub done : List FuncType
+  pub low : 0 < left → place + 5 * left ≤ 1800
+  pub twelve : Twelve t
+  pub so-far : KeepsTypes done t old r kept
+  pub same : done ++ typeTable left s w place ≡ drop declared (typesIn s w)
+
+pub keeping-begin : {s : Bytes} {w : List ℕ} {d : ℕ} {t : Tally} {old : Bytes} {n : ℕ} → n ≡ min (getD w 5896 0) 256 - d → Twelve t → length old * 1 < 2 ^ 63
+    → Keeping s w d t old n (520 + 5 * d) t old
+keeping-begin {s} {w} {d} {t} {old} {n} e h g = record {
+  done = [];
+  low = λ l. low-begin (getD w 5896 0) d n e l;
+  twelve = h;
+  so-far = unfold typeEntries tallies in (record { tally = refl; keeps = keeps-none old t g });
+  same = rw e (sym (types-rest s w d));
+}
+
+module _ {s : Bytes} {w : List ℕ} {declared : ℕ} {t : Tally} {old : Bytes} {left place : ℕ} {r : Tally} {kept : Bytes} (v : Keeping s w declared t old left place r kept) where
+  pub keeping-again : {q : Tally} {new : Bytes} → 0 < left → KeepsTypes (signatureOf s (entryIn w place) ∷ []) r kept q new → Keeping s w declared t old (left - 1) (place + 5) q new
+  unfolding typeTable
+  keeping-again {q} {new} h x = go left h (v .low) (v .same)
     where
-      go : (k : ℕ) → 0 < k → (0 < k → place + 5 * k ≤ 1800) → tallies r (typeEntries (typeTable k s w place)) ≡ tallies t (typeEntries (drop declared (typesIn s w)))
-          → Tallying s w declared t (k - 1) (place + 5) q
+      go : (n : ℕ) → 0 < n → (0 < n → place + 5 * n ≤ 1800) → v .done ++ typeTable n s w place ≡ drop declared (typesIn s w) → Keeping s w declared t old (n - 1) (place + 5) q new
       go zero h l p = absurd (omega arith)
-      go (suc k) h l p =
-          let z : suc k - 1 ≡ k = omega arith in
-          rw (z, d, m, added-measured r 1 (length (funcType (signatureOf s (entryIn w place)))) 1) (record { low = λ _. omega (arith, l (omega arith)); same = p })
+      go (suc n) h l p =
+          let z : suc n - 1 ≡ n = omega arith in
+          rw z (record {
+            done = v .done ++ (signatureOf s (entryIn w place) ∷ []);
+            low = λ _. omega (arith, l (omega arith));
+            twelve = v .twelve;
+            so-far = types-then (v .done) (signatureOf s (entryIn w place) ∷ []) (v .so-far) x;
+            same = append-assoc (v .done) (signatureOf s (entryIn w place) ∷ []) (typeTable n s w (place + 5)) ∙ p;
+          })
 
-  pub tallying-done : left ≤ 0 → r ≡ tallies t (typeEntries (drop declared (typesIn s w)))
-  unfolding typeTable typeEntries tallies
-  tallying-done h = go left h (v .same)
+  pub keeping-done : left ≤ 0 → KeepsTypes (drop declared (typesIn s w)) t old r kept
+  unfolding typeTable
+  keeping-done h = go left h (v .same)
     where
-      go : (k : ℕ) → k ≤ 0 → tallies r (typeEntries (typeTable k s w place)) ≡ tallies t (typeEntries (drop declared (typesIn s w))) → r ≡ tallies t (typeEntries (drop declared (typesIn s w)))
-      go zero h p = p
-      go (suc k) h p = absurd (omega arith)
+      go : (n : ℕ) → n ≤ 0 → v .done ++ typeTable n s w place ≡ drop declared (typesIn s w) → KeepsTypes (drop declared (typesIn s w)) t old r kept
+      go zero h p = (let x = v .so-far in let d : v .done ≡ drop declared (typesIn s w) = sym (append-nil (v .done)) ∙ p in rw d at x)
+      go (suc n) h p = absurd (omega arith)
 
-  pub tallying-room : 0 < left → 16384 ≤ length w → place + 4 < length w
-  tallying-room h g = omega (arith, v .low h)
+  pub keeping-twelve : Twelve r
+  keeping-twelve = rw (v .so-far .tally) (tallies-twelve t (typeEntries (v .done)) (v .twelve))
 
-  pub tallying-next : 0 < left → Fits w64 (place + 5)
-  tallying-next h = omega (arith, v .low h)
+  pub keeping-long : length kept ≡ length old
+  keeping-long = v .so-far .keeps .long
+
+  pub keeping-room : 0 < left → 16384 ≤ length w → place + 4 < length w
+  keeping-room h g = omega (arith, v .low h)
+
+  pub keeping-next : 0 < left → Fits w64 (place + 5)
+  keeping-next h = omega (arith, v .low h)

@@ -16,6 +16,7 @@ use Rattle.scope.specs.Scope.{scopeIn, Recalled}
 use Rattle.content.specs.Entry.{Entries, usesOf, FewIn, both, entryIn, entriesOf, threeIn}
 use Rattle.content.specs.declared.entry.Entry.{Entry}
 use Rattle.content.specs.declared.entry.Three.{Three}
+use Rattle.sections.specs.Tally.{noTally, Keeps}
 use Rattle.sections.specs.Content.{Fine, kept, typeEntries}
 
 -- bytes were put, and what the passes before have left in the work area stayed
@@ -60,6 +61,11 @@ pub record Writable (s w : List ℕ) : Type 0 where
 -- all entries: those of the fields, and the added types after them
 unfoldable pub allEntries : ℕ → List ℕ → List ℕ → Entries
 allEntries declared s w = kept (entriesOf (scopeIn s w) (fieldsIn s)) ++ typeEntries (drop declared (typesIn s w))
+
+-- the kept bytes are those of the entries, whatever there was before
+pub record Held (new : Bytes) (es : Entries) : Type 0 where
+  pub old : Bytes
+  pub keeps : Keeps old noTally es new
 
 -- the bytes of section k among the added types
 unfoldable pub addedIn : ℕ → ℕ → List ℕ → List ℕ → Bytes

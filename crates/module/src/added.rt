@@ -1,14 +1,14 @@
 // The types that were added: those of the table that no field declares.
 use sections::Tally;
 ghost use mathlib.Core.Path.{_≡_};
+ghost use mathlib.Core.List.{[], _∷_};
 ghost use Prim.Native.Nat.{_+_, _-_, _≤_, _<_, min};
 ghost use lib.ListN.{length, drop, getD};
 ghost use Rattle.definition.specs.Binary as Binary;
-ghost use Rattle.emit.specs.Put.{Put, past};
+ghost use Rattle.emit.specs.Put.{Put};
 ghost use Rattle.signatures.specs.Table.{signatureOf, entryIn, typesIn};
-ghost use Rattle.sections.specs.Tally.{tallies};
-ghost use Rattle.sections.specs.Content.{typeEntries};
-ghost use Rattle.module.specs.Added.{typeBytes};
+ghost use Rattle.sections.specs.Tally.{Twelve};
+ghost use Rattle.module.specs.Added.{typeBytes, KeepsTypes};
 
 // How many there are: the table has 256 types at most, whatever its word says.
 fn added(work: &[u32], declared: u32) -> u32
@@ -53,25 +53,29 @@ pub fn put_types(s: &[u8], work: &[u32], out: &mut [u8], at: usize, declared: u3
     o
 }
 
-// The length of one, on an empty part.
-fn type_len(s: &[u8], work: &[u32], place: usize) -> usize
-    requires { ⌜ place + 4 < length (now work) ⌝ }
-    ensures { λ r. ⌜ r ≡ past 0 (length (Binary.funcType (signatureOf (now (s .entry)) (entryIn (now (work .entry)) place)))) ⌝ }
+// One of them is kept and tallied.
+fn keep_type(s: &[u8], work: &[u32], kept: &mut [u8], t: Tally, place: usize) -> Tally
+    requires { ⌜ (place + 4 < length (now work)) × Twelve t ⌝ }
+    ensures { λ r. ⌜ KeepsTypes (signatureOf (now (s .entry)) (entryIn (now (work .entry)) place) ∷ []) t (now (kept .entry)) r (now (kept .exit)) ⌝ }
 {
-    let mut none = [0u8; 1];
-    put_type(s, work, &mut none[0..0], 0, place)
+    let a = sections::parts::start_of(kept.len(), 1);
+    let b = sections::parts::start_of(kept.len(), 2);
+    let sizes = t.sizes;
+    let from = sizes[1] as usize;
+    let to = put_type(s, work, &mut kept[a..b], from, place);
+    sections::tally::reach(t, 1, to, 1)
 }
 
-// They are added to a tally.
-pub fn tally_types(s: &[u8], work: &[u32], declared: u32, t: Tally) -> Tally
-    requires { ⌜ 16384 ≤ length (now work) ⌝ }
-    ensures { λ r. ⌜ r ≡ tallies t (typeEntries (drop declared (typesIn (now (s .entry)) (now (work .entry))))) ⌝ }
+// They are kept and tallied after the entries of the fields.
+pub fn keep_types(s: &[u8], work: &[u32], kept: &mut [u8], declared: u32, t: Tally) -> Tally
+    requires { ⌜ (16384 ≤ length (now work)) × Twelve t ⌝ }
+    ensures { λ r. ⌜ KeepsTypes (drop declared (typesIn (now (s .entry)) (now (work .entry)))) t (now (kept .entry)) r (now (kept .exit)) ⌝ }
 {
     let mut left = added(work, declared);
     let mut place = 520 + 5 * (declared as usize);
     let mut r = t;
     while 0 < left {
-        r = sections::tally::add(r, 1, type_len(s, work, place), 1);
+        r = keep_type(s, work, kept, r, place);
         place += 5;
         left -= 1;
     }

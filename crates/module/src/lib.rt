@@ -4,6 +4,6 @@ pub mod contents;
 pub mod length;
 pub mod write;
 
-pub use added::tally_types;
+pub use added::keep_types;
 pub use length::module_len;
 pub use write::put_module;

@@ -11,7 +11,7 @@ ghost use Rattle.definition.specs.Binary as Binary;
 ghost use Rattle.emit.specs.Put.{Put, past};
 ghost use Rattle.sections.specs.Tally.{tallies, noTally};
 ghost use Rattle.module.specs.Length.{Counted, sectionsFrom};
-ghost use Rattle.module.specs.Write.{Writes, Writable, Counts, allEntries, addedIn, moduleItems};
+ghost use Rattle.module.specs.Write.{Writes, Writable, Held, Counts, allEntries, addedIn, moduleItems};
 
 // The magic and the version.
 fn put_preamble(out: &mut [u8], at: usize) -> usize
@@ -31,8 +31,8 @@ fn put_added(k: u8, declared: u32, s: &[u8], work: &[u32], out: &mut [u8], at: u
     at
 }
 
-// All entries of a section, `size` bytes.
-fn put_entries(
+// All entries of a section, `size` bytes, resolved once more.
+fn put_again(
     k: u8,
     size: usize,
     declared: u32,
@@ -48,25 +48,48 @@ fn put_entries(
     put_added(k, declared, s, work, out, a)
 }
 
+// All entries of a section, `size` bytes: those that were kept, if all of them had room in their part.
+fn put_entries(
+    k: u8,
+    size: usize,
+    declared: u32,
+    kept: &[u8],
+    s: &[u8],
+    work: &mut [u32],
+    out: &mut [u8],
+    at: usize,
+) -> usize
+    requires { ⌜ (k < 12) × Writable (now s) (now work) × Held (now kept) (allEntries declared (now s) (now work)) × (size ≡ past 0 (length (Binary.joined (Binary.inSection k (allEntries declared (now s) (now work)))))) ⌝ }
+    ensures { λ r. ⌜ Writes (Binary.joined (Binary.inSection k (allEntries declared (now (s .entry)) (now (work .entry))))) (now (out .entry)) at r (now (out .exit)) (now (work .entry)) (now (work .exit)) ⌝ }
+{
+    let a = sections::parts::start_of(kept.len(), k);
+    let b = sections::parts::start_of(kept.len(), k + 1);
+    if size <= b - a {
+        return emit::copy(out, at, &kept[a..a + size]);
+    }
+    put_again(k, size, declared, s, work, out, at)
+}
+
 // The start section holds no count.
 fn put_content(
     k: u8,
     size: usize,
     count: u64,
     declared: u32,
+    kept: &[u8],
     s: &[u8],
     work: &mut [u32],
     out: &mut [u8],
     at: usize,
 ) -> usize
-    requires { ⌜ Writable (now s) (now work) × (size ≡ past 0 (length (Binary.joined (Binary.inSection k (allEntries declared (now s) (now work)))))) × Counts count k (allEntries declared (now s) (now work)) ⌝ }
+    requires { ⌜ (k < 12) × Writable (now s) (now work) × Held (now kept) (allEntries declared (now s) (now work)) × (size ≡ past 0 (length (Binary.joined (Binary.inSection k (allEntries declared (now s) (now work)))))) × Counts count k (allEntries declared (now s) (now work)) ⌝ }
     ensures { λ r. ⌜ Writes (Binary.content k (Binary.inSection k (allEntries declared (now (s .entry)) (now (work .entry))))) (now (out .entry)) at r (now (out .exit)) (now (work .entry)) (now (work .exit)) ⌝ }
 {
     if k == 8 {
-        return put_entries(k, size, declared, s, work, out, at);
+        return put_entries(k, size, declared, kept, s, work, out, at);
     }
     let a = leb::put_u(out, at, count);
-    put_entries(k, size, declared, s, work, out, a)
+    put_entries(k, size, declared, kept, s, work, out, a)
 }
 
 // A section's number and the length of its content.
@@ -82,12 +105,13 @@ fn put_section(
     k: u8,
     t: Tally,
     declared: u32,
+    kept: &[u8],
     s: &[u8],
     work: &mut [u32],
     out: &mut [u8],
     at: usize,
 ) -> usize
-    requires { ⌜ (k < 12) × Writable (now s) (now work) × Counted t (allEntries declared (now s) (now work)) ⌝ }
+    requires { ⌜ (k < 12) × Writable (now s) (now work) × Held (now kept) (allEntries declared (now s) (now work)) × Counted t (allEntries declared (now s) (now work)) ⌝ }
     ensures { λ r. ⌜ Writes (Binary.section (allEntries declared (now (s .entry)) (now (work .entry))) k) (now (out .entry)) at r (now (out .exit)) (now (work .entry)) (now (work .exit)) ⌝ }
 {
     let i = k as usize;
@@ -100,26 +124,27 @@ fn put_section(
     let size = sizes[i] as usize;
     let n = content_len(k, size, count);
     let a = put_head(k, n, out, at);
-    put_content(k, size, count, declared, s, work, out, a)
+    put_content(k, size, count, declared, kept, s, work, out, a)
 }
 
 // Sections 1 to 11 in order.
 fn put_sections(
     t: Tally,
     declared: u32,
+    kept: &[u8],
     s: &[u8],
     work: &mut [u32],
     out: &mut [u8],
     at: usize,
 ) -> usize
-    requires { ⌜ Writable (now s) (now work) × Counted t (allEntries declared (now s) (now work)) ⌝ }
+    requires { ⌜ Writable (now s) (now work) × Held (now kept) (allEntries declared (now s) (now work)) × Counted t (allEntries declared (now s) (now work)) ⌝ }
     ensures { λ r. ⌜ Writes (sectionsFrom 11 1 (allEntries declared (now (s .entry)) (now (work .entry)))) (now (out .entry)) at r (now (out .exit)) (now (work .entry)) (now (work .exit)) ⌝ }
 {
     let mut o = at;
     let mut k: u8 = 1;
     let mut left: u32 = 11;
     while 0 < left {
-        o = put_section(k, t, declared, s, work, out, o);
+        o = put_section(k, t, declared, kept, s, work, out, o);
         k += 1;
         left -= 1;
     }
@@ -127,10 +152,17 @@ fn put_sections(
 }
 
 // The module, from the first byte on.
-pub fn put_module(t: Tally, declared: u32, s: &[u8], work: &mut [u32], out: &mut [u8]) -> usize
-    requires { ⌜ Writable (now s) (now work) × (t ≡ tallies noTally (allEntries declared (now s) (now work))) ⌝ }
+pub fn put_module(
+    t: Tally,
+    declared: u32,
+    kept: &[u8],
+    s: &[u8],
+    work: &mut [u32],
+    out: &mut [u8],
+) -> usize
+    requires { ⌜ Writable (now s) (now work) × Held (now kept) (allEntries declared (now s) (now work)) × (t ≡ tallies noTally (allEntries declared (now s) (now work))) ⌝ }
     ensures { λ r. ⌜ Writes (Binary.module′ (moduleItems declared (now (s .entry)) (now (work .entry)))) (now (out .entry)) 0 r (now (out .exit)) (now (work .entry)) (now (work .exit)) ⌝ }
 {
     let a = put_preamble(out, 0);
-    put_sections(t, declared, s, work, out, a)
+    put_sections(t, declared, kept, s, work, out, a)
 }

@@ -16,7 +16,7 @@ use Rattle.space.specs.Kept.{Kept}
 use Rattle.names.specs.Register.{tableOf}
 use Rattle.walk.specs.Walk.{fieldsIn}
 use Rattle.scope.specs.Scope.{scopeIn}
-use Rattle.sections.specs.Tally.{added, noTally}
+use Rattle.sections.specs.Tally.{reached, noTally}
 use Rattle.sections.specs.declared.tally.Tally.{Tally}
 use Rattle.module.specs.Length.{contentLen, sizedLen, sectionLen}
 use Rattle.module.proofs.Full.{u-only, first-some}
@@ -78,12 +78,12 @@ pub locals-size : (s w old : List ℕ) (r : Reached) (new : List ℕ) → LocalN
 unfolding localEntries
 locals-size s w old r new v = sized-of indirectNameAssoc (localNamesFrom 0 (functions (scopeIn s w) (fieldsIn s))) _ old r new v
 
-pub both-measured : (s w : List ℕ) (f l : Reached) (t r : Tally) → SizeOf (functionEntries s w) f → SizeOf (localEntries s w) l → t ≡ added noTally 1 (f .at) (f .count) → r ≡ added t 2 (l .at) (l .count)
+pub both-measured : (s w : List ℕ) (f l : Reached) (t r : Tally) → SizeOf (functionEntries s w) f → SizeOf (localEntries s w) l → t ≡ reached noTally 1 (f .at) (f .count) → r ≡ reached t 2 (l .at) (l .count)
     → NameTally s w r
-unfolding added
+unfolding reached
 both-measured s w f l t r v x d e = rw (e, d) (record {
-  functions = record { size = ap (past 0) (v .size) ∙ past-measured 0 _; count = ap (past 0) (v .count) };
-  locals = record { size = ap (past 0) (x .size) ∙ past-measured 0 _; count = ap (past 0) (x .count) };
+  functions = record { size = v .size; count = ap (past 0) (v .count) };
+  locals = record { size = x .size; count = ap (past 0) (x .count) };
 })
 
 -- ## Lengths

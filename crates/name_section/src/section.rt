@@ -43,8 +43,8 @@ pub fn measure(s: &[u8], work: &[u32]) -> Tally
         sizes: [0; 12],
         counts: [0; 12],
     };
-    let t = sections::tally::add(none, 1, f.at, f.count);
-    sections::tally::add(t, 2, l.at, l.count)
+    let t = sections::tally::reach(none, 1, f.at, f.count);
+    sections::tally::reach(t, 2, l.at, l.count)
 }
 
 // How long both subsections are.

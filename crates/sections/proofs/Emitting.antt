@@ -1,13 +1,15 @@
 -- An entry of any kind is emitted.
-use Prim.Native.Nat.{ℕ, _+_, _-_, _≤_}
-use mathlib.Core.Path.{_≡_, refl, sym, _∙_, ap}
+use Prim.Native.Nat.{ℕ, _+_, _-_, _≤_, _<_}
+use mathlib.Core.Path.{_≡_, refl, sym, _∙_}
 use mathlib.Core.List.{List, [], _∷_, _++_, append-nil}
-use lib.ListN.{length}
+use lib.ListN.{length, take, drop}
+use mir.Syntax.{w8}
+use mir.Val.{Fits}
+use borrow.Rule.Slice.PartMut.{putMid}
 use native.Mathlib.Omega.{arith}
-use Rattle.definition.specs.Basic.{Answer, ok, refused, concatMap}
+use Rattle.definition.specs.Basic.{concatMap}
 use Rattle.definition.specs.Token as Token
 use Rattle.definition.specs.Types as Types
-use Rattle.definition.specs.Names.{resolve}
 use Rattle.definition.specs.Binary.{joined}
 use Rattle.typeuse.specs.Views.{listOf, useOf}
 use Rattle.typeuse.specs.declared.List as Code
@@ -20,17 +22,19 @@ use Rattle.binary.specs.Emits.{Emits}
 use Rattle.binary.specs.declared.Emitted.{Emitted}
 use Rattle.binary.specs.declared.Emitted.the-variants as T
 use Rattle.scope.specs.Scope.{scopeIn, Recalled}
-use Rattle.function.specs.Function.{codeOf, funcField, AreaBy, EmitsFunc}
-use Rattle.content.specs.Entry.{oneOf, answerOf, usesOf, FewIn}
-use Rattle.content.specs.Listed.{Listed, Answers, oneEnd, otherAnswer}
+use Rattle.function.specs.Function.{codeOf, EmitsFunc}
+use Rattle.content.specs.Entry.{oneOf, sectionNo, answerOf, usesOf, FewIn}
+use Rattle.content.specs.Listed.{Answers, oneEnd, otherAnswer}
 use Rattle.content.specs.declared.entry.Entry.{Entry}
 use Rattle.content.specs.declared.entry.Entry.the-variants as E
 use Rattle.content.specs.declared.emitters.EndsAt.{EndsAt}
 use Rattle.content.specs.declared.emitters.EndsAt.the-variants as A
+use Rattle.sections.specs.Parts.{startOf, partIn}
 use Rattle.sections.specs.Tally.{Ready}
-use Rattle.sections.specs.Emit.{codeIn, AreaOf, EmitsEntry}
+use Rattle.sections.specs.Emit.{codeIn, AreaOf, EmitsEntry, EmitsKept}
 use Rattle.sections.specs.declared.entry.CodeIn.{CodeIn}
 use Rattle.sections.specs.declared.entry.CodeIn.the-variants as C
+use Rattle.sections.proofs.Keeping.{start-up, start-within, lent-here, lent-there, lent-long}
 
 -- the entry that is code
 code-is : (e : Entry) (t : TypeUse) (ls : Code.List) (here : ℕ) → codeIn e ≡ C.Code t ls here → e ≡ E.Code t ls here
@@ -117,3 +121,49 @@ ready-uses s w r e h = h .recalled
 -- a case at a time, as a match gives it
 pub is-code : (e x : Entry) (r : CodeIn) → e ≡ x → r ≡ codeIn x → r ≡ codeIn e
 is-code e x r d h = rw d h
+
+-- ## An entry's part of the kept bytes
+
+section-small : (e : Entry) → sectionNo e < 12
+section-small E.Nothing = omega arith
+section-small (E.Type ps rs) = omega arith
+section-small (E.Import n x) = omega arith
+section-small (E.Func t) = omega arith
+section-small (E.Table t) = omega arith
+section-small (E.InlineTable w xs) = omega arith
+section-small (E.Mem l) = omega arith
+section-small (E.InlineMem w d) = omega arith
+section-small (E.Global t c) = omega arith
+section-small (E.Export n k x) = omega arith
+section-small (E.Exports es k n) = omega arith
+section-small (E.Start x) = omega arith
+section-small (E.Elem m xs) = omega arith
+section-small (E.InlineElem w n xs) = omega arith
+section-small (E.Code t ls here) = omega arith
+section-small (E.Data m d) = omega arith
+section-small (E.InlineData w n d) = omega arith
+
+pub section-below : (e : Entry) (k : ℕ) → k ≡ sectionNo e → k < 12
+section-below e k d = rw d (section-small e)
+
+pub section-next : (e : Entry) (k : ℕ) → k ≡ sectionNo e → Fits w8 (k + 1)
+section-next e k d = let z = section-below e k d in record { fits = omega arith }
+
+module _ (e : Entry) (k a b : ℕ) (old : List ℕ) (d : k ≡ sectionNo e) (from : a ≡ startOf (length old) k) (to : b ≡ startOf (length old) (k + 1)) where
+  pub part-begins : a ≤ b
+  part-begins = rw (from, to) (start-up (length old) k (section-below e k d))
+
+  pub part-ends : b ≤ length old
+  part-ends = rw to (start-within (length old) (k + 1))
+
+  -- it was emitted into the part that was lent
+  pub part-emits : (s w : List ℕ) (r at : ℕ) (q : EndsAt) (w′ new : List ℕ) → EmitsEntry s w r e (take (b - a) (drop a old)) at q w′ new → length new ≡ length (take (b - a) (drop a old))
+      → EmitsKept s w r e old at q w′ (putMid a (b - a) old new)
+  unfolding partIn
+  part-emits s w r at q w′ new x l =
+      let h = section-below e k d in
+      record {
+        here = rw (sym d, lent-here old new k a b h from to l, sym from, sym to) x;
+        there = rw (sym d) (lent-there old new k a b h from to l);
+        long = lent-long old new k a b h from to l;
+      }

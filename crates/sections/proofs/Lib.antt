@@ -1,4 +1,5 @@
 pub mod Tallies
+pub mod Keeping
+pub mod Emitting
 pub mod Checking
 pub mod Sweep
-pub mod Emitting

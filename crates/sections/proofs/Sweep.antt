@@ -1,7 +1,7 @@
 -- The pass over all fields: each field's entries are checked and tallied, in stream order.
-use Prim.Native.Nat.{ℕ, _≤_, _<_}
+use Prim.Native.Nat.{ℕ, _*_, _^_, _≤_, _<_}
 use mathlib.Core.Path.{_≡_, refl, sym, _∙_, ap}
-use mathlib.Core.List.{List, [], _∷_, _++_, append-assoc, append-nil}
+use mathlib.Core.List.{List, [], _++_, append-assoc, append-nil}
 use lib.ListN.{length}
 use native.Mathlib.Omega.{arith}
 use Rattle.definition.specs.Basic.{Answer, ok, refused, _>>=_, each, concatMap}
@@ -17,7 +17,7 @@ use Rattle.walk.specs.Walk.{begin, visitIn, visitOf, fieldsHere, fieldsAhead, f
 use Rattle.walk.specs.declared.Cursor.{Cursor}
 use Rattle.walk.specs.declared.Met.{Met}
 use Rattle.walk.specs.declared.What.the-variants as W
-use Rattle.walk.proofs.Steps.{visit-done, visit-fields, visit-ahead, ahead-kept, visit-func-few, visit-few}
+use Rattle.walk.proofs.Steps.{visit-done, visit-fields, visit-ahead, ahead-kept, visit-func-few}
 use Rattle.types.proofs.Fields.{uses-append}
 use Rattle.scope.specs.Scope.{scopeIn, Recalled}
 use Rattle.scope.proofs.Frames.{scope-kept, recalled-left, recalled-right, recalled-scope}
@@ -25,12 +25,13 @@ use Rattle.content.specs.Entry.{Entries, entriesOf, both, threeIn, three}
 use Rattle.content.specs.declared.entry.Three.{Three}
 use Rattle.content.proofs.Fields.{entries-append, entries-here}
 use Rattle.content.proofs.Uses.{recalled-here, few-here}
-use Rattle.sections.specs.Tally.{tallies, noTally, Twelve, Tallied, ReadyThree, ChecksIn}
+use Rattle.sections.specs.Tally.{tallies, noTally, Twelve, Keeps, Tallied, ReadyThree, ChecksIn}
 use Rattle.sections.specs.declared.tally.Tally.{Tally}
 use Rattle.sections.specs.declared.tally.Verdict.the-variants as V′
 use Rattle.sections.specs.declared.tally.Checked.{Checked}
 use Rattle.sections.proofs.Tallies.{tallies-append, tallies-twelve}
-use Rattle.sections.proofs.Checking.{was-fine, fine-kept, was-not, area-long, checks-fine, checks-not}
+use Rattle.sections.proofs.Keeping.{keeps-none, keeps-then}
+use Rattle.sections.proofs.Checking.{was-fine, fine-kept, was-not, area-long, kept-long, checks-fine, checks-not}
 
 -- some entries before an answer's
 onto : (xs ys : Entries) (a b : Answer Entries) → a ≡ ok ys → both (ok xs) (both a b) ≡ both (ok (xs ++ ys)) b
@@ -55,24 +56,34 @@ entries-none : (Γ : Scope Identifier) → entriesOf Γ [] ≡ ok []
 unfolding entriesOf resolveAll each _>>=_ concatMap
 entries-none Γ = refl
 
-pub record Sweeping (s w₀ w : List ℕ) (c : Cursor) (t : Tally) : Type 0 where
+pub record Sweeping (s w₀ w : List ℕ) (old new : Bytes) (c : Cursor) (t : Tally) : Type 0 where
   pub done : Entries
   pub same : entriesOf (scopeIn s w₀) (fieldsIn s) ≡ both (ok done) (entriesOf (scopeIn s w₀) (fieldsAhead c s))
   pub tally : t ≡ tallies noTally done
+  pub keeps : Keeps old noTally done new
   pub kept : Kept 11536 w₀ w
   pub ahead : Ahead s w c
   pub recalled : Recalled w₀ (typesIn s w₀) (uses (fieldsAhead c s))
 
 -- before the first field
-pub sweep-begin : (s w : List ℕ) (c : Cursor) (t : Tally) → c ≡ begin → t ≡ noTally → Ahead s w begin → Recalled w (typesIn s w) (uses (fieldsIn s)) → Sweeping s w w c t
+pub sweep-begin : (s w : List ℕ) (old : Bytes) (c : Cursor) (t : Tally) → c ≡ begin → t ≡ noTally → length old * 1 < 2 ^ 63 → Ahead s w begin → Recalled w (typesIn s w) (uses (fieldsIn s))
+    → Sweeping s w w old old c t
 unfolding fieldsIn tallies
-sweep-begin s w c t e d a h =
-    record { done = []; same = sym (nothing-onto (entriesOf (scopeIn s w) (fieldsIn s))) ∙ rw e refl; tally = d; kept = kept-same 11536 w; ahead = rw e a; recalled = rw e h }
+sweep-begin s w old c t e d f a h =
+    record {
+      done = [];
+      same = sym (nothing-onto (entriesOf (scopeIn s w) (fieldsIn s))) ∙ rw e refl;
+      tally = d;
+      keeps = keeps-none old noTally f;
+      kept = kept-same 11536 w;
+      ahead = rw e a;
+      recalled = rw e h;
+    }
 
 no-twelve : Twelve noTally
 no-twelve = record { sizes = refl; counts = refl }
 
-module _ (s w₀ w : List ℕ) (c : Cursor) (t : Tally) (v : Sweeping s w₀ w c t) where
+module _ (s w₀ w : List ℕ) (old mid : Bytes) (c : Cursor) (t : Tally) (v : Sweeping s w₀ w old mid c t) where
   pub sweep-long : 16384 ≤ length w₀ → 16384 ≤ length w
   sweep-long h = rw (v .kept .long) h
 
@@ -84,9 +95,9 @@ module _ (s w₀ w : List ℕ) (c : Cursor) (t : Tally) (v : Sweeping s w₀ w c
 
   module _ (m : Met) (told : visitIn (c .left) c s ≡ visitOf s m) where
     -- no field is left
-    pub sweep-done : m .what ≡ W.Done → Tallied (entriesOf (scopeIn s w₀) (fieldsIn s)) noTally t
+    pub sweep-done : m .what ≡ W.Done → Tallied (entriesOf (scopeIn s w₀) (fieldsIn s)) noTally old t mid
     sweep-done is =
-        record { entries = v .done; is = v .same ∙ rw (visit-done s c m told is, entries-none (scopeIn s w₀)) (onto-nothing (v .done)); tally = v .tally }
+        record { entries = v .done; is = v .same ∙ rw (visit-done s c m told is, entries-none (scopeIn s w₀)) (onto-nothing (v .done)); tally = v .tally; keeps = v .keeps }
 
     pub sweep-kept : Kept 11536 w₀ w
     sweep-kept = v .kept
@@ -116,9 +127,9 @@ module _ (s w₀ w : List ℕ) (c : Cursor) (t : Tally) (v : Sweeping s w₀ w c
             third = record { recalled = recalled-scope s w₀ w _ k (a .third); few = b .third };
           })
 
-      module _ (r : Checked) (w′ : List ℕ) (h : ChecksIn (threeIn (scopeIn s w) s (c .rec) x) t w r w′) where
+      module _ (r : Checked) (w′ : List ℕ) (new : Bytes) (h : ChecksIn (threeIn (scopeIn s w) s (c .rec) x) t w mid r w′ new) where
         -- a field that is fine
-        pub sweep-again : r .verdict ≡ V′.Fine → Sweeping s w₀ w′ (m .next) (r .tally)
+        pub sweep-again : r .verdict ≡ V′.Fine → Sweeping s w₀ w′ old new (m .next) (r .tally)
         sweep-again e =
             let y = was-fine h e in
             let k = fine-kept h e in
@@ -126,6 +137,7 @@ module _ (s w₀ w : List ℕ) (c : Cursor) (t : Tally) (v : Sweeping s w₀ w c
               done = v .done ++ y .entries;
               same = v .same ∙ rw fields (onto (v .done) (y .entries) (threeIn (scopeIn s w) s (c .rec) x) (entriesOf (scopeIn s w₀) (fieldsAhead (m .next) s)) (y .is));
               tally = y .tally ∙ ap (λ (z : Tally). tallies z (y .entries)) (v .tally) ∙ sym (tallies-append noTally (v .done) (y .entries));
+              keeps = keeps-then old mid new noTally t (v .done) (y .entries) (v .tally) (v .keeps) (y .keeps);
               kept = kept-then (v .kept) k;
               ahead = visit-ahead s c m told f here is w′ (ahead-kept s w w′ c (kept-less 520 11536 (omega arith) k) (v .ahead));
               recalled = recalled-right w₀ (typesIn s w₀) (uses (fieldsHere c s (record { field = fieldOf s f; head-end = here; next = m .next }))) (uses (fieldsAhead (m .next) s)) (rw uses-are at (v .recalled));
@@ -139,13 +151,18 @@ module _ (s w₀ w : List ℕ) (c : Cursor) (t : Tally) (v : Sweeping s w₀ w c
         pub sweep-length : length w′ ≡ length w₀
         sweep-length = area-long h ∙ v .kept .long
 
+        pub sweep-bytes : length new ≡ length old
+        sweep-bytes = kept-long h ∙ v .keeps .long
+
 -- ## What the code answers
 
-module _ (s w₀ w : List ℕ) (c : Cursor) (t : Tally) (v : Sweeping s w₀ w c t) (m : Met) (told : visitIn (c .left) c s ≡ visitOf s m) where
-  pub swept : m .what ≡ W.Done → ChecksIn (entriesOf (scopeIn s w₀) (fieldsIn s)) noTally w₀ (record { tally = t; verdict = V′.Fine }) w
-  swept is = checks-fine _ noTally t w₀ w (sweep-done s w₀ w c t v m told is) (v .kept)
+module _ (s w₀ w : List ℕ) (old mid : Bytes) (c : Cursor) (t : Tally) (v : Sweeping s w₀ w old mid c t) (m : Met) (told : visitIn (c .left) c s ≡ visitOf s m) where
+  pub swept : m .what ≡ W.Done → ChecksIn (entriesOf (scopeIn s w₀) (fieldsIn s)) noTally w₀ old (record { tally = t; verdict = V′.Fine }) w mid
+  swept is = checks-fine _ noTally t w₀ w old mid (sweep-done s w₀ w old mid c t v m told is) (v .kept)
 
-  pub stopped : (f : Code.Field) (here : ℕ) (is : m .what ≡ W.Field f here) (x : Three) (d : x ≡ three f (c .seen) here) (r : Checked) (w′ : List ℕ)
-      (h : ChecksIn (threeIn (scopeIn s w) s (c .rec) x) t w r w′) (n q : ℕ) → r .verdict ≡ V′.Refused n q
-      → ChecksIn (entriesOf (scopeIn s w₀) (fieldsIn s)) noTally w₀ (record { tally = r .tally; verdict = V′.Refused n q }) w′
-  stopped f here is x d r w′ h n q e = checks-not _ noTally (r .tally) w₀ w′ n q (sweep-stops s w₀ w c t v m told f here is x d r w′ h n q e) (sweep-length s w₀ w c t v m told f here is x d r w′ h)
+  pub stopped : (f : Code.Field) (here : ℕ) (is : m .what ≡ W.Field f here) (x : Three) (d : x ≡ three f (c .seen) here) (r : Checked) (w′ : List ℕ) (new : Bytes)
+      (h : ChecksIn (threeIn (scopeIn s w) s (c .rec) x) t w mid r w′ new) (n q : ℕ) → r .verdict ≡ V′.Refused n q
+      → ChecksIn (entriesOf (scopeIn s w₀) (fieldsIn s)) noTally w₀ old (record { tally = r .tally; verdict = V′.Refused n q }) w′ new
+  stopped f here is x d r w′ new h n q e =
+      checks-not _ noTally (r .tally) w₀ w′ old new n q (sweep-stops s w₀ w old mid c t v m told f here is x d r w′ new h n q e) (sweep-length s w₀ w old mid c t v m told f here is x d r w′ new h)
+      (sweep-bytes s w₀ w old mid c t v m told f here is x d r w′ new h)

@@ -1,34 +1,30 @@
 -- Tallies: several entries of one section at once, one list after the other, and what they say of a section in the end.
-use Prim.Native.Nat.{ℕ, zero, suc, _+_, _≤_, _<_, _^_, min, max}
+use Prim.Native.Nat.{ℕ, zero, suc, _+_, _<_}
 use mathlib.Core.Path.{_≡_, refl, sym, _∙_, ap}
 use mathlib.Core.Bool.{Bool, true, false}
-use mathlib.Core.List.{List, [], _∷_, _++_, map, append-nil}
-use lib.ListN.{length, getD, set, replicate, length-set, length-append}
+use mathlib.Core.List.{List, [], _∷_, _++_, map}
+use lib.ListN.{length, getD, set, length-set, length-append}
 use lib.Seq.{getD-set-same, getD-set-other}
 use lib.Dec.{eqb}
 use borrow.Author.Tests.{eqb-true, eqb-false}
 use native.Mathlib.Omega.{arith}
-use Rattle.definition.specs.Basic.{if_then_else_, Answer, ok, refused, concatMap}
+use Rattle.definition.specs.Basic.{concatMap}
 use Rattle.definition.specs.Syntax.{Bytes}
 use Rattle.definition.specs.Binary.{inSection, joined}
 use Rattle.emit.specs.Put.{past}
 use Rattle.content.specs.Entry.{Entries}
-use Rattle.sections.specs.Tally.{added, tallies, noTally, Twelve}
+use Rattle.sections.specs.Tally.{added, reached, tallies, Twelve}
 use Rattle.sections.specs.declared.tally.Tally.{Tally}
 
 -- ## Places that saturate
 
-past-none : (a : ℕ) → past a 0 ≡ a
+pub past-none : (a : ℕ) → past a 0 ≡ a
 unfolding past
 past-none a = omega arith
 
 past-past : (a m n : ℕ) → past (past a m) n ≡ past a (m + n)
 unfolding past
 past-past a m n = omega arith
-
-past-measured : (a n : ℕ) → past a (past 0 n) ≡ past a n
-unfolding past
-past-measured a n = omega arith
 
 one-plus : (n : ℕ) → 1 + n ≡ suc n
 one-plus n = omega arith
@@ -96,11 +92,6 @@ tallies-one t k (b ∷ bs) h w =
     ∙ ap (λ n. added t k n (1 + length bs)) (sym (joined-cons b bs))
     ∙ ap (λ n. added t k (length (joined (b ∷ bs))) n) (one-plus (length bs))
 
--- as they were measured
-pub added-measured : (t : Tally) (k m n : ℕ) → added t k (past 0 m) n ≡ added t k m n
-unfolding added
-added-measured t k m n = rw (past-measured (getD (t .sizes) k 0) m) refl
-
 -- ## What a tally says of a section
 
 in-other : (k j : ℕ) (b : Bytes) (es : Entries) → eqb k j ≡ false → inSection k ((j, b) ∷ es) ≡ inSection k es
@@ -156,7 +147,6 @@ module _ (k : ℕ) (h : k < 12) where
 
 -- ## The code
 
-pub add-is : (t : Tally) (k a b m n : ℕ) → a ≡ past (getD (t .sizes) k 0) m → b ≡ past (getD (t .counts) k 0) n
-    → record { sizes = set (t .sizes) k a; counts = set (t .counts) k b } ≡ added t k m n
-unfolding added
-add-is t k a b m n d e = rw (d, e) refl
+pub reach-is : (t : Tally) (k to b n : ℕ) → b ≡ past (getD (t .counts) k 0) n → record { sizes = set (t .sizes) k to; counts = set (t .counts) k b } ≡ reached t k to n
+unfolding reached
+reach-is t k to b n e = rw e refl

@@ -1,16 +1,17 @@
 -- What emitting an entry says and leaves.
-use Prim.Native.Nat.{ℕ}
+use Prim.Native.Nat.{ℕ, _<_}
 use mathlib.Core.Path.{_≡_}
 use mathlib.Core.List.{List}
 use lib.ListN.{length}
 use Rattle.space.specs.Kept.{Kept}
 use Rattle.scope.specs.Scope.{scopeIn}
-use Rattle.content.specs.Entry.{answerOf}
+use Rattle.content.specs.Entry.{sectionNo, answerOf}
 use Rattle.content.specs.Listed.{Answers}
 use Rattle.content.specs.declared.entry.Entry.{Entry}
 use Rattle.content.specs.declared.entry.Entry.the-variants as E
 use Rattle.content.specs.declared.emitters.EndsAt.{EndsAt}
 use Rattle.content.specs.declared.emitters.EndsAt.the-variants as A
+use Rattle.sections.specs.Parts.{partIn}
 use Rattle.sections.specs.declared.entry.CodeIn.{CodeIn}
 use Rattle.sections.specs.declared.entry.CodeIn.the-variants as C
 
@@ -41,3 +42,9 @@ AreaOf (A.Refused n r) w w′ = length w′ ≡ length w
 pub record EmitsEntry (s w : List ℕ) (r : ℕ) (e : Entry) (old : List ℕ) (at : ℕ) (q : EndsAt) (w′ new : List ℕ) : Type 0 where
   pub answers : Answers (answerOf (scopeIn s w) s r e) old at q new
   pub area : AreaOf q w w′
+
+-- the same in the part of the entry's section: the other parts stay
+pub record EmitsKept (s w : List ℕ) (r : ℕ) (e : Entry) (old : List ℕ) (from : ℕ) (q : EndsAt) (w′ new : List ℕ) : Type 0 where
+  pub here : EmitsEntry s w r e (partIn old (sectionNo e)) from q w′ (partIn new (sectionNo e))
+  pub there : (k : ℕ) → k < 12 → (k ≡ sectionNo e → ⊥) → partIn new k ≡ partIn old k
+  pub long : length new ≡ length old

@@ -1,17 +1,19 @@
 -- How large each section is: the lengths of its entries, and how many there are.
-use Prim.Native.Nat.{ℕ, _+_}
+use Prim.Native.Nat.{ℕ, _+_, _<_}
 use mathlib.Core.Path.{_≡_}
 use mathlib.Core.List.{List, [], _∷_, _++_}
 use lib.ListN.{length, getD, set, replicate}
 use Rattle.definition.specs.Basic.{Answer, ok, refused}
 use Rattle.definition.specs.Syntax.{Bytes}
-use Rattle.emit.specs.Put.{past}
+use Rattle.definition.specs.Binary.{inSection, joined}
+use Rattle.emit.specs.Put.{past, Put}
 use Rattle.space.specs.Kept.{Kept}
 use Rattle.signatures.specs.Table.{typesIn}
 use Rattle.scope.specs.Scope.{Recalled}
 use Rattle.content.specs.Entry.{Entries, usesOf, FewIn}
 use Rattle.content.specs.declared.entry.Entry.{Entry}
 use Rattle.content.specs.declared.entry.Three.{Three}
+use Rattle.sections.specs.Parts.{partIn}
 use Rattle.sections.specs.declared.tally.Tally.{Tally}
 use Rattle.sections.specs.declared.tally.Verdict.{Verdict}
 use Rattle.sections.specs.declared.tally.Verdict.the-variants as V′
@@ -20,6 +22,10 @@ use Rattle.sections.specs.declared.tally.Checked.{Checked}
 -- `size` bytes more in section k, in `n` entries; both saturate, as places do
 unfoldable pub added : Tally → ℕ → ℕ → ℕ → Tally
 added t k size n = record { sizes = set (t .sizes) k (past (getD (t .sizes) k 0) size); counts = set (t .counts) k (past (getD (t .counts) k 0) n) }
+
+-- section k's bytes end at `to`, with `n` entries more
+unfoldable pub reached : Tally → ℕ → ℕ → ℕ → Tally
+reached t k to n = record { sizes = set (t .sizes) k to; counts = set (t .counts) k (past (getD (t .counts) k 0) n) }
 
 -- entries, one after the other
 unfoldable pub tallies : Tally → Entries → Tally
@@ -34,18 +40,28 @@ pub record Twelve (t : Tally) : Type 0 where
   pub sizes : length (t .sizes) ≡ 12
   pub counts : length (t .counts) ≡ 12
 
--- an answer's entries were tallied, or it was refused
-pub record Tallied (a : Answer Entries) (t t′ : Tally) : Type 0 where
+-- entries come after those of a tally: each section's bytes stand in its part, as far as there is room
+pub record Keeps (old : Bytes) (t : Tally) (es : Entries) (new : Bytes) : Type 0 where
+  pub each : (k : ℕ) → k < 12 → Put (partIn old k) (getD (t .sizes) k 0) (joined (inSection k es)) (getD (tallies t es .sizes) k 0) (partIn new k)
+  pub long : length new ≡ length old
+
+-- an answer's entries were tallied and kept, or it was refused
+pub record Tallied (a : Answer Entries) (t : Tally) (old : Bytes) (t′ : Tally) (new : Bytes) : Type 0 where
   pub entries : Entries
   pub is : a ≡ ok entries
   pub tally : t′ ≡ tallies t entries
+  pub keeps : Keeps old t entries new
 
-abbrev pub ChecksBy : Answer Entries → Tally → Verdict → Tally → Type 0
-ChecksBy a t V′.Fine t′ = Tallied a t t′
-ChecksBy a t (V′.Refused n r) t′ = a ≡ refused n r
+pub record NotTallied (a : Answer Entries) (n r : ℕ) (old new : Bytes) : Type 0 where
+  pub is : a ≡ refused n r
+  pub long : length new ≡ length old
 
-unfoldable pub Checks : Answer Entries → Tally → Checked → Type 0
-Checks a t r = ChecksBy a t (r .verdict) (r .tally)
+abbrev pub ChecksBy : Answer Entries → Tally → Bytes → Verdict → Tally → Bytes → Type 0
+ChecksBy a t old V′.Fine t′ new = Tallied a t old t′ new
+ChecksBy a t old (V′.Refused n r) t′ new = NotTallied a n r old new
+
+unfoldable pub Checks : Answer Entries → Tally → Bytes → Checked → Bytes → Type 0
+Checks a t old r new = ChecksBy a t old (r .verdict) (r .tally) new
 
 -- ## What checking needs, and leaves
 
@@ -63,7 +79,7 @@ abbrev pub AreaBy : Verdict → List ℕ → List ℕ → Type 0
 AreaBy V′.Fine w w′ = Kept 11536 w w′
 AreaBy (V′.Refused n r) w w′ = length w′ ≡ length w
 
--- an answer was checked: its entries tallied, or its refusal told
-pub record ChecksIn (a : Answer Entries) (t : Tally) (w : List ℕ) (r : Checked) (w′ : List ℕ) : Type 0 where
-  pub says : Checks a t r
+-- an answer was checked: its entries tallied and kept, or its refusal told
+pub record ChecksIn (a : Answer Entries) (t : Tally) (w old : List ℕ) (r : Checked) (w′ new : List ℕ) : Type 0 where
+  pub says : Checks a t old r new
   pub area : AreaBy (r .verdict) w w′

@@ -16,15 +16,24 @@ ghost use Rattle.scope.specs.Scope.{scopeIn, Recalled};
 ghost use Rattle.content.specs.Entry.{both, entryIn, threeIn, entriesOf};
 ghost use Rattle.sections.specs.Tally.{Twelve, Ready, ReadyThree, ChecksIn, noTally};
 
-// One entry: on an empty part it is measured.
-fn check_entry(s: &[u8], work: &mut [u32], t: Tally, e: Entry, rec: u32) -> Checked
+// One entry: it is kept, and tallied.
+fn check_entry(
+    s: &[u8],
+    work: &mut [u32],
+    kept: &mut [u8],
+    t: Tally,
+    e: Entry,
+    rec: u32,
+) -> Checked
     requires { ⌜ (length (now s) ≤ 65536) × (16384 ≤ length (now work)) × (rec < 4096) × Ready (now s) (now work) rec e × Twelve t ⌝ }
-    ensures { λ r. ⌜ ChecksIn (entryIn (scopeIn (now (s .entry)) (now (work .entry))) (now (s .entry)) rec e) t (now (work .entry)) r (now (work .exit)) ⌝ }
+    ensures { λ r. ⌜ ChecksIn (entryIn (scopeIn (now (s .entry)) (now (work .entry))) (now (s .entry)) rec e) t (now (work .entry)) (now (kept .entry)) r (now (work .exit)) (now (kept .exit)) ⌝ }
 {
-    let mut none = [0u8; 1];
-    match crate::entry::emit_entry(s, work, &mut none[0..0], 0, e, rec) {
+    let k = content::section_of(e);
+    let sizes = t.sizes;
+    let from = sizes[k as usize] as usize;
+    match crate::parts::emit_kept(s, work, kept, from, e, rec) {
         EndsAt::Ends(to, n) => {
-            let tally = crate::tally::add(t, content::section_of(e), to, n);
+            let tally = crate::tally::reach(t, k, to, n);
             Checked {
                 tally,
                 verdict: Verdict::Fine,
@@ -37,18 +46,40 @@ fn check_entry(s: &[u8], work: &mut [u32], t: Tally, e: Entry, rec: u32) -> Chec
     }
 }
 
+// The third entry of a field.
+fn check_third(
+    s: &[u8],
+    work: &mut [u32],
+    kept: &mut [u8],
+    t: Tally,
+    x: Three,
+    rec: u32,
+) -> Checked
+    requires { ⌜ (length (now s) ≤ 65536) × (16384 ≤ length (now work)) × (rec < 4096) × ReadyThree (now s) (now work) rec x × Twelve t ⌝ }
+    ensures { λ r. ⌜ ChecksIn (entryIn (scopeIn (now (s .entry)) (now (work .entry))) (now (s .entry)) rec (x .third)) t (now (work .entry)) (now (kept .entry)) r (now (work .exit)) (now (kept .exit)) ⌝ }
+{
+    let third = x.third;
+    check_entry(s, work, kept, t, third, rec)
+}
+
 // The second and the third.
-fn check_two(s: &[u8], work: &mut [u32], t: Tally, x: Three, rec: u32) -> Checked
-    requires { ⌜ (length (now s) ≤ 65536) × (16384 ≤ length (now work)) × (rec < 4096) × Ready (now s) (now work) rec (x .second) × Ready (now s) (now work) rec (x .third) × Twelve t ⌝ }
-    ensures { λ r. ⌜ ChecksIn (both (entryIn (scopeIn (now (s .entry)) (now (work .entry))) (now (s .entry)) rec (x .second)) (entryIn (scopeIn (now (s .entry)) (now (work .entry))) (now (s .entry)) rec (x .third))) t (now (work .entry)) r (now (work .exit)) ⌝ }
+fn check_two(
+    s: &[u8],
+    work: &mut [u32],
+    kept: &mut [u8],
+    t: Tally,
+    x: Three,
+    rec: u32,
+) -> Checked
+    requires { ⌜ (length (now s) ≤ 65536) × (16384 ≤ length (now work)) × (rec < 4096) × ReadyThree (now s) (now work) rec x × Twelve t ⌝ }
+    ensures { λ r. ⌜ ChecksIn (both (entryIn (scopeIn (now (s .entry)) (now (work .entry))) (now (s .entry)) rec (x .second)) (entryIn (scopeIn (now (s .entry)) (now (work .entry))) (now (s .entry)) rec (x .third))) t (now (work .entry)) (now (kept .entry)) r (now (work .exit)) (now (kept .exit)) ⌝ }
 {
     let second = x.second;
-    let third = x.third;
-    let a = check_entry(s, work, t, second, rec);
+    let a = check_entry(s, work, kept, t, second, rec);
     let tally = a.tally;
     let v = a.verdict;
     match v {
-        Verdict::Fine => check_entry(s, work, tally, third, rec),
+        Verdict::Fine => check_third(s, work, kept, tally, x, rec),
         Verdict::Refused(n, r) => Checked {
             tally,
             verdict: Verdict::Refused(n, r),
@@ -57,16 +88,23 @@ fn check_two(s: &[u8], work: &mut [u32], t: Tally, x: Three, rec: u32) -> Checke
 }
 
 // All three entries of a field.
-fn check_three(s: &[u8], work: &mut [u32], t: Tally, x: Three, rec: u32) -> Checked
+fn check_three(
+    s: &[u8],
+    work: &mut [u32],
+    kept: &mut [u8],
+    t: Tally,
+    x: Three,
+    rec: u32,
+) -> Checked
     requires { ⌜ (length (now s) ≤ 65536) × (16384 ≤ length (now work)) × (rec < 4096) × ReadyThree (now s) (now work) rec x × Twelve t ⌝ }
-    ensures { λ r. ⌜ ChecksIn (threeIn (scopeIn (now (s .entry)) (now (work .entry))) (now (s .entry)) rec x) t (now (work .entry)) r (now (work .exit)) ⌝ }
+    ensures { λ r. ⌜ ChecksIn (threeIn (scopeIn (now (s .entry)) (now (work .entry))) (now (s .entry)) rec x) t (now (work .entry)) (now (kept .entry)) r (now (work .exit)) (now (kept .exit)) ⌝ }
 {
     let first = x.first;
-    let a = check_entry(s, work, t, first, rec);
+    let a = check_entry(s, work, kept, t, first, rec);
     let tally = a.tally;
     let v = a.verdict;
     match v {
-        Verdict::Fine => check_two(s, work, tally, x, rec),
+        Verdict::Fine => check_two(s, work, kept, tally, x, rec),
         Verdict::Refused(n, r) => Checked {
             tally,
             verdict: Verdict::Refused(n, r),
@@ -83,10 +121,10 @@ fn no_tally() -> Tally
     }
 }
 
-// Every field, in stream order: the first refusal, or how large the sections are.
-pub fn check_fields(s: &[u8], work: &mut [u32]) -> Checked
+// Every field, in stream order: the first refusal, or how large the sections are; their entries are kept, as far as there is room.
+pub fn check_fields(s: &[u8], work: &mut [u32], kept: &mut [u8]) -> Checked
     requires { ⌜ (length (now s) ≤ 65536) × (16384 ≤ length (now work)) × Ahead (now s) (now work) begin × Recalled (now work) (typesIn (now s) (now work)) (Types.uses (fieldsIn (now s))) ⌝ }
-    ensures { λ r. ⌜ ChecksIn (entriesOf (scopeIn (now (s .entry)) (now (work .entry))) (fieldsIn (now (s .entry)))) noTally (now (work .entry)) r (now (work .exit)) ⌝ }
+    ensures { λ r. ⌜ ChecksIn (entriesOf (scopeIn (now (s .entry)) (now (work .entry))) (fieldsIn (now (s .entry)))) noTally (now (work .entry)) (now (kept .entry)) r (now (work .exit)) (now (kept .exit)) ⌝ }
 {
     let mut c = walk::start();
     let mut t = no_tally();
@@ -97,7 +135,7 @@ pub fn check_fields(s: &[u8], work: &mut [u32]) -> Checked
             What::Field(f, here) => {
                 let seen = c.seen;
                 let x = content::entries_of(f, seen, here);
-                let r = check_three(s, work, t, x, c.rec);
+                let r = check_three(s, work, kept, t, x, c.rec);
                 let tally = r.tally;
                 let v = r.verdict;
                 match v {

@@ -1,6 +1,7 @@
 // Sections: how large they are, and their bytes.
 pub mod check;
 pub mod entry;
+pub mod parts;
 pub mod tally;
 
 pub use check::check_fields;

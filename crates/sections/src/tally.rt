@@ -1,7 +1,7 @@
 // How large each section is.
 ghost use mathlib.Core.Path.{_≡_};
 ghost use Prim.Native.Nat.{_<_};
-ghost use Rattle.sections.specs.Tally.{added};
+ghost use Rattle.sections.specs.Tally.{reached};
 
 // The bytes of each section's entries, and how many entries there are, by the section's number.
 pub struct Tally {
@@ -19,15 +19,15 @@ pub struct Checked {
     pub verdict: Verdict,
 }
 
-// More entries of a section.
-pub fn add(t: Tally, k: u8, size: usize, n: u64) -> Tally
+// A section's bytes end at `to`, and it has n entries more.
+pub fn reach(t: Tally, k: u8, to: usize, n: u64) -> Tally
     requires { ⌜ k < 12 ⌝ }
-    ensures { λ r. ⌜ r ≡ added t k size n ⌝ }
+    ensures { λ r. ⌜ r ≡ reached t k to n ⌝ }
 {
     let i = k as usize;
     let mut sizes = t.sizes;
     let mut counts = t.counts;
-    sizes[i] = emit::tally(sizes[i] as usize, size) as u64;
+    sizes[i] = to as u64;
     counts[i] = emit::tally(counts[i] as usize, n as usize) as u64;
     Tally { sizes, counts }
 }

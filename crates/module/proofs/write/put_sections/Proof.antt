@@ -4,10 +4,10 @@ use Rattle.module.proofs.write.put_sections.Statement.{statement}
 use Rattle.module.proofs.write.put_sections.Tie as tie
 
 abbrev Inv-loop : tie.InvT-loop
-Inv-loop t declared s work₀ out₀ at o₀ k₀ left₀ work out o k left = Sectioning t declared s work₀ out₀ at left k o out work
+Inv-loop t declared kept s work₀ out₀ at o₀ k₀ left₀ work out o k left = Sectioning t declared kept s work₀ out₀ at left k o out work
 
 abbrev μ-loop : tie.MeasureT-loop
-μ-loop t declared s work₀ out₀ at o₀ k₀ left₀ work out o k left = left
+μ-loop t declared kept s work₀ out₀ at o₀ k₀ left₀ work out o k left = left
 
 loop-holds : tie.Need-loop-holds Inv-loop μ-loop
 loop-holds c = search sections-begin

@@ -9,11 +9,11 @@ measure-functions-requires c κs = search needs
 measure-locals-requires : tie.Need-measure-locals-requires
 measure-locals-requires c κs = search needs
 
-add-requires : tie.Need-add-requires
-add-requires c κs = search needs
+reach-requires : tie.Need-reach-requires
+reach-requires c κs = search needs
 
-add-requires-2 : tie.Need-add-requires-2
-add-requires-2 c κs = search needs
+reach-requires-2 : tie.Need-reach-requires-2
+reach-requires-2 c κs = search needs
 
 returns : tie.Need-returns
 returns c = search both-measured
@@ -24,6 +24,6 @@ measure-spec =
     (tie.spec
     measure-functions-requires
     measure-locals-requires
-    add-requires
-    add-requires-2
+    reach-requires
+    reach-requires-2
     returns)

@@ -1,28 +1,29 @@
-use Rattle.sections.proofs.Checking.{section-below, entry-fine, entry-not}
+use Rattle.sections.proofs.Emitting.{section-below}
+use Rattle.sections.proofs.Checking.{entry-fine, entry-not}
 use borrow.Author.Needs.{needs}
 use Rattle.sections.proofs.check.check_entry.Statement.{statement}
 use Rattle.sections.proofs.check.check_entry.Tie as tie
 
-sub-emit-entry : tie.Need-sub-emit-entry
-sub-emit-entry c = search needs
+section-of-requires : tie.Need-section-of-requires
+section-of-requires c κs = search needs
 
-part-none-start : tie.Need-part-none-start
-part-none-start c = search needs
+cast-from : tie.Need-cast-from
+cast-from c = search needs
 
-part-none-end : tie.Need-part-none-end
-part-none-end c = search needs
+mul-from : tie.Need-mul-from
+mul-from c = search needs
 
-emit-entry-requires : tie.Need-emit-entry-requires
-emit-entry-requires c κs = search needs
+array-read-from : tie.Need-array-read-from
+array-read-from c = search section-below
+
+emit-kept-requires : tie.Need-emit-kept-requires
+emit-kept-requires c κs = search needs
 
 enum-known-to : tie.Need-enum-known-to
 enum-known-to c = search needs
 
-section-of-requires : tie.Need-section-of-requires
-section-of-requires c κs = search needs
-
-add-requires : tie.Need-add-requires
-add-requires c κs = search section-below
+reach-requires : tie.Need-reach-requires
+reach-requires c κs = search section-below
 
 enum-known-n : tie.Need-enum-known-n
 enum-known-n c = search needs
@@ -30,11 +31,17 @@ enum-known-n c = search needs
 same-length : tie.Need-same-length
 same-length c = search needs
 
+same-length-2 : tie.Need-same-length-2
+same-length-2 c = search needs
+
 returns : tie.Need-returns
 returns c = search entry-fine
 
-same-length-2 : tie.Need-same-length-2
-same-length-2 c = search needs
+same-length-3 : tie.Need-same-length-3
+same-length-3 c = search needs
+
+same-length-4 : tie.Need-same-length-4
+same-length-4 c = search needs
 
 returns-2 : tie.Need-returns-2
 returns-2 c = search entry-not
@@ -43,15 +50,17 @@ pub check-entry-spec : {M : Type 1} → statement M
 check-entry-spec =
     tie.close
     (tie.spec
-    sub-emit-entry
-    part-none-start
-    part-none-end
-    emit-entry-requires
-    enum-known-to
     section-of-requires
-    add-requires
+    cast-from
+    mul-from
+    array-read-from
+    emit-kept-requires
+    enum-known-to
+    reach-requires
     enum-known-n
     same-length
-    returns
     same-length-2
+    returns
+    same-length-3
+    same-length-4
     returns-2)

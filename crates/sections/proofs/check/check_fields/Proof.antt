@@ -1,14 +1,14 @@
-use Rattle.sections.proofs.Sweep.{Sweeping, sweep-begin, sweep-long, sweep-ahead, sweep-twelve, sweep-ready, sweep-again, sweep-length, swept, stopped}
+use Rattle.sections.proofs.Sweep.{Sweeping, sweep-begin, sweep-long, sweep-ahead, sweep-twelve, sweep-ready, sweep-again, sweep-length, sweep-bytes, swept, stopped}
 use Rattle.walk.proofs.Steps.{visit-less, visit-few}
 use borrow.Author.Needs.{needs}
 use Rattle.sections.proofs.check.check_fields.Statement.{statement}
 use Rattle.sections.proofs.check.check_fields.Tie as tie
 
 abbrev Inv-loop : tie.InvT-loop
-Inv-loop s work₀ c₀ t₀ work c t = Sweeping s work₀ work c t
+Inv-loop s work₀ kept₀ c₀ t₀ work kept c t = Sweeping s work₀ work kept₀ kept c t
 
 abbrev μ-loop : tie.MeasureT-loop
-μ-loop s work₀ c₀ t₀ work c t = c .left
+μ-loop s work₀ kept₀ c₀ t₀ work kept c t = c .left
 
 start-requires : tie.Need-start-requires Inv-loop μ-loop
 start-requires c κs = search needs
@@ -46,14 +46,20 @@ enum-known-v c = search needs
 same-length : tie.Need-same-length Inv-loop μ-loop
 same-length c = search sweep-length
 
+same-length-2 : tie.Need-same-length-2 Inv-loop μ-loop
+same-length-2 c = search sweep-bytes
+
 returns : tie.Need-returns Inv-loop μ-loop
 returns c = search stopped
 
 enum-told-2 : tie.Need-enum-told-2 Inv-loop μ-loop
 enum-told-2 c = search needs
 
-same-length-2 : tie.Need-same-length-2 Inv-loop μ-loop
-same-length-2 c = search needs
+same-length-3 : tie.Need-same-length-3 Inv-loop μ-loop
+same-length-3 c = search needs
+
+same-length-4 : tie.Need-same-length-4 Inv-loop μ-loop
+same-length-4 c = search needs
 
 returns-2 : tie.Need-returns-2 Inv-loop μ-loop
 returns-2 c = search swept
@@ -76,7 +82,9 @@ check-fields-spec =
     loop-again
     enum-known-v
     same-length
+    same-length-2
     returns
     enum-told-2
-    same-length-2
+    same-length-3
+    same-length-4
     returns-2)

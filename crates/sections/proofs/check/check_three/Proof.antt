@@ -10,7 +10,12 @@ enum-told : tie.Need-enum-told
 enum-told c = search needs
 
 check-two-requires : tie.Need-check-two-requires
-check-two-requires c κs = (search needs, search long-after, search needs, search (after-ready, three-second), search (after-ready, three-third), search after-twelve)
+check-two-requires c κs =
+    (search needs,
+    search long-after,
+    search needs,
+    record { first = search (after-ready, three-first); second = search (after-ready, three-second); third = search (after-ready, three-third) },
+    search after-twelve)
 
 enum-known-v : tie.Need-enum-known-v
 enum-known-v c = search needs
@@ -18,11 +23,17 @@ enum-known-v c = search needs
 same-length : tie.Need-same-length
 same-length c = search needs
 
+same-length-2 : tie.Need-same-length-2
+same-length-2 c = search needs
+
 returns : tie.Need-returns
 returns c = search three-then
 
-same-length-2 : tie.Need-same-length-2
-same-length-2 c = search needs
+same-length-3 : tie.Need-same-length-3
+same-length-3 c = search needs
+
+same-length-4 : tie.Need-same-length-4
+same-length-4 c = search needs
 
 returns-2 : tie.Need-returns-2
 returns-2 c = search three-not
@@ -36,6 +47,8 @@ check-three-spec =
     check-two-requires
     enum-known-v
     same-length
-    returns
     same-length-2
+    returns
+    same-length-3
+    same-length-4
     returns-2)
