@@ -25,3 +25,7 @@ pub id-else : (b : ℕ) → 0x20 < b → b ≤ 0x7E
 unfolding idchar
 id-else b l h a c d e f g i j k =
     rw (between-in 0x21 0x7E b (omega arith) h, ne-eqb b 0x22 a, ne-eqb b 0x28 c, ne-eqb b 0x29 d, ne-eqb b 0x2C e, ne-eqb b 0x3B f, ne-eqb b 0x5B g, ne-eqb b 0x5D i, ne-eqb b 0x7B j, ne-eqb b 0x7D k)
+
+-- small letters and what stands before them, down to the bracket
+pub id-letter : (b : ℕ) → 0x5E ≤ b → b ≤ 0x7A → true ≡ idchar b
+id-letter b l h = id-else b (omega arith) (omega arith) (λ e. omega arith) (λ e. omega arith) (λ e. omega arith) (λ e. omega arith) (λ e. omega arith) (λ e. omega arith) (λ e. omega arith) (λ e. omega arith) (λ e. omega arith)

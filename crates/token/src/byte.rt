@@ -30,6 +30,12 @@ pub fn read_byte(s: &[u8], at: usize) -> ByteAt
 pub fn is_idchar(b: u8) -> bool
     ensures { λ r. ⌜ r ≡ Token.idchar b ⌝ }
 {
+    // small letters and the underscore, as most are
+    if 0x5E <= b {
+        if b <= 0x7A {
+            return true;
+        }
+    }
     if b <= 0x20 {
         return false;
     }
