@@ -17,14 +17,7 @@ ghost use Rattle.content.specs.Entry.{both, entryIn, threeIn, entriesOf};
 ghost use Rattle.sections.specs.Tally.{Twelve, Ready, ReadyThree, ChecksIn, noTally};
 
 // One entry: it is kept, and tallied.
-fn check_entry(
-    s: &[u8],
-    work: &mut [u32],
-    kept: &mut [u8],
-    t: Tally,
-    e: Entry,
-    rec: u32,
-) -> Checked
+fn check_entry(s: &[u8], work: &mut [u32], kept: &mut [u8], t: Tally, e: Entry, rec: u32) -> Checked
     requires { ⌜ (length (now s) ≤ 65536) × (16384 ≤ length (now work)) × (rec < 4096) × Ready (now s) (now work) rec e × Twelve t ⌝ }
     ensures { λ r. ⌜ ChecksIn (entryIn (scopeIn (now (s .entry)) (now (work .entry))) (now (s .entry)) rec e) t (now (work .entry)) (now (kept .entry)) r (now (work .exit)) (now (kept .exit)) ⌝ }
 {
@@ -47,14 +40,7 @@ fn check_entry(
 }
 
 // The third entry of a field.
-fn check_third(
-    s: &[u8],
-    work: &mut [u32],
-    kept: &mut [u8],
-    t: Tally,
-    x: Three,
-    rec: u32,
-) -> Checked
+fn check_third(s: &[u8], work: &mut [u32], kept: &mut [u8], t: Tally, x: Three, rec: u32) -> Checked
     requires { ⌜ (length (now s) ≤ 65536) × (16384 ≤ length (now work)) × (rec < 4096) × ReadyThree (now s) (now work) rec x × Twelve t ⌝ }
     ensures { λ r. ⌜ ChecksIn (entryIn (scopeIn (now (s .entry)) (now (work .entry))) (now (s .entry)) rec (x .third)) t (now (work .entry)) (now (kept .entry)) r (now (work .exit)) (now (kept .exit)) ⌝ }
 {
@@ -63,14 +49,7 @@ fn check_third(
 }
 
 // The second and the third.
-fn check_two(
-    s: &[u8],
-    work: &mut [u32],
-    kept: &mut [u8],
-    t: Tally,
-    x: Three,
-    rec: u32,
-) -> Checked
+fn check_two(s: &[u8], work: &mut [u32], kept: &mut [u8], t: Tally, x: Three, rec: u32) -> Checked
     requires { ⌜ (length (now s) ≤ 65536) × (16384 ≤ length (now work)) × (rec < 4096) × ReadyThree (now s) (now work) rec x × Twelve t ⌝ }
     ensures { λ r. ⌜ ChecksIn (both (entryIn (scopeIn (now (s .entry)) (now (work .entry))) (now (s .entry)) rec (x .second)) (entryIn (scopeIn (now (s .entry)) (now (work .entry))) (now (s .entry)) rec (x .third))) t (now (work .entry)) (now (kept .entry)) r (now (work .exit)) (now (kept .exit)) ⌝ }
 {
@@ -88,14 +67,7 @@ fn check_two(
 }
 
 // All three entries of a field.
-fn check_three(
-    s: &[u8],
-    work: &mut [u32],
-    kept: &mut [u8],
-    t: Tally,
-    x: Three,
-    rec: u32,
-) -> Checked
+fn check_three(s: &[u8], work: &mut [u32], kept: &mut [u8], t: Tally, x: Three, rec: u32) -> Checked
     requires { ⌜ (length (now s) ≤ 65536) × (16384 ≤ length (now work)) × (rec < 4096) × ReadyThree (now s) (now work) rec x × Twelve t ⌝ }
     ensures { λ r. ⌜ ChecksIn (threeIn (scopeIn (now (s .entry)) (now (work .entry))) (now (s .entry)) rec x) t (now (work .entry)) (now (kept .entry)) r (now (work .exit)) (now (kept .exit)) ⌝ }
 {

@@ -10,12 +10,13 @@ enum-told : tie.Need-enum-told
 enum-told c = search needs
 
 check-third-requires : tie.Need-check-third-requires
-check-third-requires c κs =
-    (search needs,
-    search long-after,
-    search needs,
-    record { first = search (after-ready, three-first); second = search (after-ready, three-second); third = search (after-ready, three-third) },
-    search after-twelve)
+check-third-requires c κs = (
+  search needs,
+  search long-after,
+  search needs,
+  record { first = search (after-ready, three-first); second = search (after-ready, three-second); third = search (after-ready, three-third) },
+  search after-twelve,
+)
 
 enum-known-v : tie.Need-enum-known-v
 enum-known-v c = search needs
