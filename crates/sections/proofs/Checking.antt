@@ -1,13 +1,13 @@
 -- Checking one answer after the other.
-use Prim.Native.Nat.{ℕ, zero, suc, _+_, _*_, _^_, _≤_, _<_}
-use mathlib.Core.Path.{_≡_, refl, sym, _∙_, ap}
-use mathlib.Core.List.{List, [], _∷_, _++_, map, append-assoc, append-nil}
+use Prim.Native.Nat.{ℕ, _*_, _^_, _≤_, _<_}
+use mathlib.Core.Path.{_≡_, refl, sym, _∙_}
+use mathlib.Core.List.{List, _++_, map}
 use lib.ListN.{length, getD}
 use Rattle.definition.specs.Basic.{Answer, ok, refused}
 use Rattle.definition.specs.Syntax.{Bytes}
 use Rattle.definition.specs.Binary.{joined}
 use native.Mathlib.Omega.{arith}
-use Rattle.emit.specs.Put.{Put, past}
+use Rattle.emit.specs.Put.{Put}
 use Rattle.space.specs.Kept.{Kept}
 use Rattle.space.proofs.Kept.{kept-less, kept-then}
 use Rattle.scope.specs.Scope.{scopeIn}
@@ -15,13 +15,12 @@ use Rattle.scope.proofs.Frames.{recalled-scope, scope-kept}
 use Rattle.content.specs.declared.entry.Entry.{Entry}
 use Rattle.content.specs.Entry.{Entries, tagged, both, usesOf, sectionNo, answerOf, entryIn, threeIn}
 use Rattle.content.specs.Listed.{Listed, Answers}
-use Rattle.content.specs.declared.entry.Entry.the-variants as E
 use Rattle.content.specs.declared.entry.Three.{Three}
 use Rattle.content.specs.declared.emitters.EndsAt.{EndsAt}
 use Rattle.content.specs.declared.emitters.EndsAt.the-variants as A
 use Rattle.sections.specs.Emit.{EmitsKept}
 use Rattle.sections.specs.Parts.{partIn}
-use Rattle.sections.specs.Tally.{reached, tallies, noTally, Twelve, Keeps, Tallied, NotTallied, ChecksBy, Checks, Ready, ReadyThree, AreaBy, ChecksIn}
+use Rattle.sections.specs.Tally.{reached, Twelve, Tallied, NotTallied, Checks, Ready, ReadyThree, ChecksIn}
 use Rattle.sections.specs.declared.tally.Tally.{Tally}
 use Rattle.sections.specs.declared.tally.Verdict.{Verdict}
 use Rattle.sections.specs.declared.tally.Verdict.the-variants as V′
@@ -161,10 +160,6 @@ scope-same s w w′ k = scope-kept s w w′ (kept-less 11280 11536 (omega arith)
 module _ (s w : List ℕ) (r : ℕ) (t : Tally) (e : Entry) (old : Bytes) (a : Checked) (w₁ : List ℕ) (mid : Bytes) (x : ChecksIn (entryIn (scopeIn s w) s r e) t w old a w₁ mid) (v : Verdict) (g : v ≡ a .verdict) where
   pub after-ready : (f : Entry) → v ≡ V′.Fine → Ready s w r f → Ready s w₁ r f
   after-ready f d h = ready-kept s w w₁ r f (fine-kept x (sym g ∙ d)) h
-
-  -- the same, where the field is not a part of a field's three
-  pub third-ready : (f : Entry) → Ready s w r f → v ≡ V′.Fine → Ready s w₁ r f
-  third-ready f h d = after-ready f d h
 
   pub after-twelve : v ≡ V′.Fine → Twelve t → Twelve (a .tally)
   after-twelve d h = tallied-twelve (was-fine x (sym g ∙ d)) h

@@ -1,16 +1,15 @@
 -- An entry of any kind is emitted.
 use Prim.Native.Nat.{ℕ, _+_, _-_, _≤_, _<_}
-use mathlib.Core.Path.{_≡_, refl, sym, _∙_, ap}
+use mathlib.Core.Path.{_≡_, refl, sym, _∙_}
 use mathlib.Core.List.{List, [], _∷_, _++_, append-nil}
 use lib.ListN.{length, take, drop}
 use mir.Syntax.{w8}
 use mir.Val.{Fits}
 use borrow.Rule.Slice.PartMut.{putMid}
 use native.Mathlib.Omega.{arith}
-use Rattle.definition.specs.Basic.{Answer, ok, refused, concatMap}
+use Rattle.definition.specs.Basic.{concatMap}
 use Rattle.definition.specs.Token as Token
 use Rattle.definition.specs.Types as Types
-use Rattle.definition.specs.Names.{resolve}
 use Rattle.definition.specs.Binary.{joined}
 use Rattle.typeuse.specs.Views.{listOf, useOf}
 use Rattle.typeuse.specs.declared.List as Code
@@ -23,9 +22,9 @@ use Rattle.binary.specs.Emits.{Emits}
 use Rattle.binary.specs.declared.Emitted.{Emitted}
 use Rattle.binary.specs.declared.Emitted.the-variants as T
 use Rattle.scope.specs.Scope.{scopeIn, Recalled}
-use Rattle.function.specs.Function.{codeOf, funcField, AreaBy, EmitsFunc}
+use Rattle.function.specs.Function.{codeOf, EmitsFunc}
 use Rattle.content.specs.Entry.{oneOf, sectionNo, answerOf, usesOf, FewIn}
-use Rattle.content.specs.Listed.{Listed, Answers, oneEnd, otherAnswer}
+use Rattle.content.specs.Listed.{Answers, oneEnd, otherAnswer}
 use Rattle.content.specs.declared.entry.Entry.{Entry}
 use Rattle.content.specs.declared.entry.Entry.the-variants as E
 use Rattle.content.specs.declared.emitters.EndsAt.{EndsAt}

@@ -3,8 +3,8 @@ use Prim.Native.Nat.{ℕ, zero, suc, _+_, _-_, _*_, _/_, _^_, _≤_, _<_}
 use mathlib.Core.Path.{_≡_, refl, sym, _∙_, ap}
 use mathlib.Core.Bool.{Bool, true, false}
 use mathlib.Core.List.{List, [], _∷_, _++_, map, append-assoc}
-use lib.ListN.{length, getD, take, drop, set, length-drop, length-take}
-use lib.Seq.{take-at, drop-at, take-take, take-nil, drop-drop, length-take-le}
+use lib.ListN.{length, getD, take, drop, length-drop, length-take}
+use lib.Seq.{take-at, drop-at, take-take, drop-drop, length-take-le}
 use lib.Dec.{leb, eqb}
 use mir.Syntax.{w64}
 use mir.Val.{Fits}
@@ -19,7 +19,7 @@ use Rattle.definition.specs.Binary.{inSection, joined}
 use Rattle.laws.proofs.Exits.{if-either}
 use Rattle.laws.proofs.Table.{everywhere}
 use Rattle.emit.specs.Put.{past, Put}
-use Rattle.emit.proofs.Laws.{put-none, put-then, put-is}
+use Rattle.emit.proofs.Laws.{put-none, put-then}
 use Rattle.content.specs.Entry.{Entries}
 use Rattle.sections.specs.Parts.{unitsOf, startOf, partIn}
 use Rattle.sections.specs.Tally.{added, reached, tallies, Twelve, Keeps}

@@ -1,19 +1,19 @@
 -- Tallies: several entries of one section at once, one list after the other, and what they say of a section in the end.
-use Prim.Native.Nat.{ℕ, zero, suc, _+_, _≤_, _<_, _^_, min, max}
+use Prim.Native.Nat.{ℕ, zero, suc, _+_, _<_}
 use mathlib.Core.Path.{_≡_, refl, sym, _∙_, ap}
 use mathlib.Core.Bool.{Bool, true, false}
-use mathlib.Core.List.{List, [], _∷_, _++_, map, append-nil}
-use lib.ListN.{length, getD, set, replicate, length-set, length-append}
+use mathlib.Core.List.{List, [], _∷_, _++_, map}
+use lib.ListN.{length, getD, set, length-set, length-append}
 use lib.Seq.{getD-set-same, getD-set-other}
 use lib.Dec.{eqb}
 use borrow.Author.Tests.{eqb-true, eqb-false}
 use native.Mathlib.Omega.{arith}
-use Rattle.definition.specs.Basic.{if_then_else_, Answer, ok, refused, concatMap}
+use Rattle.definition.specs.Basic.{concatMap}
 use Rattle.definition.specs.Syntax.{Bytes}
 use Rattle.definition.specs.Binary.{inSection, joined}
 use Rattle.emit.specs.Put.{past}
 use Rattle.content.specs.Entry.{Entries}
-use Rattle.sections.specs.Tally.{added, reached, tallies, noTally, Twelve}
+use Rattle.sections.specs.Tally.{added, reached, tallies, Twelve}
 use Rattle.sections.specs.declared.tally.Tally.{Tally}
 
 -- ## Places that saturate

@@ -46,6 +46,22 @@ fn check_entry(
     }
 }
 
+// The third entry of a field.
+fn check_third(
+    s: &[u8],
+    work: &mut [u32],
+    kept: &mut [u8],
+    t: Tally,
+    x: Three,
+    rec: u32,
+) -> Checked
+    requires { ⌜ (length (now s) ≤ 65536) × (16384 ≤ length (now work)) × (rec < 4096) × ReadyThree (now s) (now work) rec x × Twelve t ⌝ }
+    ensures { λ r. ⌜ ChecksIn (entryIn (scopeIn (now (s .entry)) (now (work .entry))) (now (s .entry)) rec (x .third)) t (now (work .entry)) (now (kept .entry)) r (now (work .exit)) (now (kept .exit)) ⌝ }
+{
+    let third = x.third;
+    check_entry(s, work, kept, t, third, rec)
+}
+
 // The second and the third.
 fn check_two(
     s: &[u8],
@@ -55,16 +71,15 @@ fn check_two(
     x: Three,
     rec: u32,
 ) -> Checked
-    requires { ⌜ (length (now s) ≤ 65536) × (16384 ≤ length (now work)) × (rec < 4096) × Ready (now s) (now work) rec (x .second) × Ready (now s) (now work) rec (x .third) × Twelve t ⌝ }
+    requires { ⌜ (length (now s) ≤ 65536) × (16384 ≤ length (now work)) × (rec < 4096) × ReadyThree (now s) (now work) rec x × Twelve t ⌝ }
     ensures { λ r. ⌜ ChecksIn (both (entryIn (scopeIn (now (s .entry)) (now (work .entry))) (now (s .entry)) rec (x .second)) (entryIn (scopeIn (now (s .entry)) (now (work .entry))) (now (s .entry)) rec (x .third))) t (now (work .entry)) (now (kept .entry)) r (now (work .exit)) (now (kept .exit)) ⌝ }
 {
     let second = x.second;
-    let third = x.third;
     let a = check_entry(s, work, kept, t, second, rec);
     let tally = a.tally;
     let v = a.verdict;
     match v {
-        Verdict::Fine => check_entry(s, work, kept, tally, third, rec),
+        Verdict::Fine => check_third(s, work, kept, tally, x, rec),
         Verdict::Refused(n, r) => Checked {
             tally,
             verdict: Verdict::Refused(n, r),

@@ -10,7 +10,12 @@ enum-told : tie.Need-enum-told
 enum-told c = search needs
 
 check-two-requires : tie.Need-check-two-requires
-check-two-requires c κs = (search needs, search long-after, search needs, search (after-ready, three-second), search (after-ready, three-third), search after-twelve)
+check-two-requires c κs =
+    (search needs,
+    search long-after,
+    search needs,
+    record { first = search (after-ready, three-first); second = search (after-ready, three-second); third = search (after-ready, three-third) },
+    search after-twelve)
 
 enum-known-v : tie.Need-enum-known-v
 enum-known-v c = search needs

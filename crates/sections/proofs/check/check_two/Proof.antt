@@ -1,4 +1,4 @@
-use Rattle.sections.proofs.Checking.{after-ready, after-twelve, long-after, two-then, two-not}
+use Rattle.sections.proofs.Checking.{after-ready, after-twelve, long-after, two-then, two-not, three-first, three-second, three-third}
 use borrow.Author.Needs.{needs}
 use Rattle.sections.proofs.check.check_two.Statement.{statement}
 use Rattle.sections.proofs.check.check_two.Tie as tie
@@ -9,8 +9,13 @@ check-entry-requires c κs = search needs
 enum-told : tie.Need-enum-told
 enum-told c = search needs
 
-check-entry-requires-2 : tie.Need-check-entry-requires-2
-check-entry-requires-2 c κs = (search needs, search long-after, search needs, ?, search after-twelve)
+check-third-requires : tie.Need-check-third-requires
+check-third-requires c κs =
+    (search needs,
+    search long-after,
+    search needs,
+    record { first = search (after-ready, three-first); second = search (after-ready, three-second); third = search (after-ready, three-third) },
+    search after-twelve)
 
 enum-known-v : tie.Need-enum-known-v
 enum-known-v c = search needs
@@ -39,7 +44,7 @@ check-two-spec =
     (tie.spec
     check-entry-requires
     enum-told
-    check-entry-requires-2
+    check-third-requires
     enum-known-v
     same-length
     same-length-2
