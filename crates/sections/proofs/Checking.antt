@@ -123,12 +123,12 @@ ready-kept s w w′ r e k h = record { recalled = recalled-scope s w w′ (usesO
 
 -- ## An entry
 
-module _ (s w : List ℕ) (r : ℕ) (e : Entry) (t : Tally) (k : ℕ) (old : Bytes) (q : EndsAt) (w′ : List ℕ) (new : Bytes) (h : EmitsKept s w r e old (getD (t .sizes) k 0) q w′ new) where
-  pub entry-fine : (to n : ℕ) (t′ : Tally) → Twelve t → length old * 1 < 2 ^ 63 → q ≡ A.Ends to n → k ≡ sectionNo e → t′ ≡ reached t k to n
+module _ (s w : List ℕ) (r : ℕ) (e : Entry) (t : Tally) (old : Bytes) (from : ℕ) (q : EndsAt) (w′ : List ℕ) (new : Bytes) (h : EmitsKept s w r e old from q w′ new) where
+  pub entry-fine : (k to n : ℕ) (t′ : Tally) → Twelve t → length old * 1 < 2 ^ 63 → q ≡ A.Ends to n → k ≡ sectionNo e → from ≡ getD (t .sizes) k 0 → t′ ≡ reached t k to n
       → ChecksIn (entryIn (scopeIn s w) s r e) t w old (record { tally = t′; verdict = V′.Fine }) w′ new
   unfolding Answers entryIn
-  entry-fine to n t′ y f d g z =
-      let a : Listed (answerOf (scopeIn s w) s r e) (partIn old (sectionNo e)) (getD (t .sizes) (sectionNo e) 0) to n (partIn new (sectionNo e)) = (let b = h .here .answers in rw (d, g) at b) in
+  entry-fine k to n t′ y f d g u z =
+      let a : Listed (answerOf (scopeIn s w) s r e) (partIn old (sectionNo e)) (getD (t .sizes) (sectionNo e) 0) to n (partIn new (sectionNo e)) = (let b = h .here .answers in rw (d, u, g) at b) in
       let b : Kept 11536 w w′ = (let c = h .here .area in rw d at c) in
       rw (z, g)
       (checks-fine _ t _ w w′ old new
