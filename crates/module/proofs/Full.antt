@@ -1,19 +1,16 @@
 -- No entry of an item is empty, so no section has more entries than bytes.
 use Prim.Native.Nat.{ℕ, zero, suc, _+_, _/_, _%_, _≤_}
-use mathlib.Core.Path.{_≡_, refl, sym, _∙_, ap}
 use mathlib.Core.Bool.{Bool, true, false}
-use mathlib.Core.List.{List, [], _∷_, _++_, append-assoc}
+use mathlib.Core.List.{List, [], _∷_, _++_}
 use mathlib.Core.Option.{Option, none, some}
 use lib.Dec.{eqb, ltb}
 use lib.ListN.{length, length-append}
 use native.Mathlib.Omega.{arith}
 use Rattle.definition.specs.Basic.{if_then_else_, concatMap}
-use Rattle.definition.specs.Syntax.{Bytes, ValType, FuncType, Limits, Op, passive, active}
+use Rattle.definition.specs.Syntax.{Bytes, ValType, Limits, Op, passive, active}
 use Rattle.definition.specs.Syntax.{Item, typeI, importI, funcI, tableI, memI, globalI, exportI, startI, elemI, dataI}
 use Rattle.definition.specs.Binary.{unsigned, u, sized, funcType, limits, limitsOf, tableType, globalType, externType, expr, func-code, elem, data′, entries, inSection, joined}
 use Rattle.content.specs.Entry.{Entries}
-use Rattle.sections.specs.Content.{typeEntries}
-use Rattle.sections.proofs.Keeping.{section-append, joined-append}
 use Rattle.module.specs.Length.{Good}
 
 -- ## Bytes that are not empty
@@ -102,11 +99,6 @@ unfolding concatMap
 items-full [] = tt
 items-full (i ∷ is) = full-append (entries i) (concatMap entries is) (item-full i) (items-full is)
 
-types-full : (ts : List FuncType) → Full (typeEntries ts)
-unfolding typeEntries funcType
-types-full [] = tt
-types-full (t ∷ ts) = (omega arith, types-full ts)
-
 full-in : (k : ℕ) (es : Entries) → Full es → length (inSection k es) ≤ length (joined (inSection k es))
 unfolding inSection joined concatMap
 full-in k [] f = omega arith
@@ -120,17 +112,3 @@ full-in k ((j, b) ∷ es) f = go (eqb k j) (full-in k es (f .1))
 
 pub good-items : (is : List Item) → Good (concatMap entries is)
 good-items is = record { each = λ k. full-in k (concatMap entries is) (items-full is) }
-
-pub good-types : (ts : List FuncType) → Good (typeEntries ts)
-good-types ts = record { each = λ k. full-in k (typeEntries ts) (types-full ts) }
-
-pub good-append : (xs ys : Entries) → Good xs → Good ys → Good (xs ++ ys)
-good-append xs ys g h = record {
-  each = λ k. rw (section-append k xs ys, joined-append (inSection k xs) (inSection k ys)) (omega (
-    arith,
-    g .each k,
-    h .each k,
-    length-append (inSection k xs) (inSection k ys),
-    length-append (joined (inSection k xs)) (joined (inSection k ys)),
-  ));
-}

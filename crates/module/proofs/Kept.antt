@@ -28,31 +28,32 @@ put-first old new bs at to size p z e h =
     let p′ : Put old 0 bs to new = rw z at p in
     ap (take size) (put-room p′ (omega arith) .1) ∙ take-at bs (drop (0 + length bs) old) size n
 
+-- a part stands within the kept bytes, and so does what begins with it and ends within them
+pub part-within : (kept : Bytes) (k a : ℕ) → a ≡ startOf (length kept) k → a ≤ length kept
+part-within kept k a e = rw e (start-within (length kept) k)
+
+pub part-end : (kept : Bytes) (k a b size : ℕ) → a ≡ startOf (length kept) k → b ≤ length kept → size ≤ b - a → a + size ≤ length kept
+part-end kept k a b size e g h = let w = part-within kept k a e in omega arith
+
 module _ (kept : Bytes) (k a b : ℕ) (h : k < 12) (from : a ≡ startOf (length kept) k) (to : b ≡ startOf (length kept) (k + 1)) where
   pub part-order : a ≤ b
   part-order = rw (from, to) (start-up (length kept) k h)
-
-  pub part-within : b ≤ length kept
-  part-within = rw to (start-within (length kept) (k + 1))
 
   part-is : partIn kept k ≡ take (b - a) (drop a kept)
   unfolding partIn
   part-is = rw (from, to) refl
 
   part-long : length (partIn kept k) ≡ b - a
-  part-long = ap length part-is ∙ mid-len a b kept part-within
+  part-long = ap length part-is ∙ mid-len a b kept (part-within kept (k + 1) b to)
 
   module _ (size : ℕ) (room : size ≤ b - a) where
-    pub part-end : a + size ≤ length kept
-    part-end = let o = part-order in let w = part-within in omega arith
-
     part-first : take ((a + size) - a) (drop a kept) ≡ take size (partIn kept k)
     part-first =
         let e : (a + size) - a ≡ size = omega arith in
         rw (e, part-is) (sym (take-take size (b - a) (drop a kept) room))
 
     -- what is copied are the section's bytes
-    pub part-held : (es : Entries) → Held kept es → size ≡ past 0 (length (joined (inSection k es))) → take ((a + size) - a) (drop a kept) ≡ joined (inSection k es)
+    part-held : (es : Entries) → Held kept es → size ≡ past 0 (length (joined (inSection k es))) → take ((a + size) - a) (drop a kept) ≡ joined (inSection k es)
     part-held es v e =
         let p = v .keeps .each k h in
         let l = p .long in

@@ -1,5 +1,5 @@
-use Rattle.module.proofs.Tables.{Keeping, keeping-begin, keeping-again, keeping-done, keeping-twelve, keeping-long, keeping-room, keeping-next}
 use borrow.Author.Needs.{needs}
+use Rattle.module.proofs.Tables.{Keeping, keeping-begin, keeping-again, keeping-done, keeping-twelve, keeping-long, keeping-room, keeping-next}
 use Rattle.module.proofs.added.keep_types.Statement.{statement}
 use Rattle.module.proofs.added.keep_types.Tie as tie
 

@@ -1,5 +1,5 @@
-use Rattle.module.proofs.Kept.{part-order, part-end, part-put}
 use borrow.Author.Needs.{needs}
+use Rattle.module.proofs.Kept.{part-within, part-order, part-end, part-put}
 use Rattle.module.proofs.write.put_entries.Statement.{statement}
 use Rattle.module.proofs.write.put_entries.Tie as tie
 
@@ -25,7 +25,7 @@ part-copy-start : tie.Need-part-copy-start
 part-copy-start c = search needs
 
 part-copy-end : tie.Need-part-copy-end
-part-copy-end c = search (part-end, needs)
+part-copy-end c = search (part-end, part-within, needs)
 
 copy-requires : tie.Need-copy-requires
 copy-requires c κs = search needs
