@@ -3,7 +3,7 @@ use Prim.Native.Nat.{ℕ, suc, _+_, _^_, _≤_, _<_, _*_}
 use mathlib.Core.Path.{_≡_, refl, sym, _∙_}
 use mathlib.Core.List.{List, [], _∷_, _++_}
 use lib.ListN.{length, set, take, drop, length-append, length-set}
-use lib.Seq.{sets, sets-eq, set-out}
+use lib.Seq.{sets, sets-eq, set-out, set-comm}
 use native.Mathlib.Omega.{arith}
 use Rattle.laws.proofs.Sets.{sets-append}
 use Rattle.emit.specs.Put.{Put, past}
@@ -12,6 +12,13 @@ use Rattle.emit.specs.Put.{Put, past}
 pub sets-out : (l : List ℕ) (i : ℕ) (vs : List ℕ) → length l ≤ i → sets l i vs ≡ l
 sets-out l i [] h = refl
 sets-out l i (v ∷ vs) h = let e : set l i v ≡ l = set-out l i v h in rw e (sets-out l (suc i) vs (omega arith))
+
+-- an element before a run may be stored after it
+pub set-before : (l : List ℕ) (i j v : ℕ) (xs : List ℕ) → i < j → set (sets l j xs) i v ≡ sets (set l i v) j xs
+set-before l i j v [] h = refl
+set-before l i j v (x ∷ xs) h =
+    let e : set (set l j x) i v ≡ set (set l i v) j x = set-comm l j i x v (λ z. absurd (omega (arith, z))) in
+    set-before (set l j x) i (suc j) v xs (omega arith) ∙ rw e
 
 -- no bytes: nothing changes
 pub put-none : {l : List ℕ} (at : ℕ) → length l < 2 ^ 63 → Put l at [] at l

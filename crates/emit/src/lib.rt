@@ -1,7 +1,9 @@
 // Writing bytes. One emitter both measures and writes: what has no room is not stored, and the place moves on all the same.
 ghost use mathlib.Core.Path.{_≡_};
 ghost use mathlib.Core.List.{[], _∷_};
-ghost use Prim.Native.Nat.{_-_, min};
+ghost use Prim.Native.Nat.{_+_, _-_, _≤_, min};
+ghost use lib.ListN.{length, take, drop};
+ghost use lib.Seq.{sets};
 ghost use Rattle.emit.specs.Put.{Put, past};
 
 // The place `b` bytes after `a`. It saturates at 2^63, where no slice reaches.
@@ -52,4 +54,17 @@ pub fn copy(out: &mut [u8], at: usize, from: &[u8]) -> usize
         i += 1;
     }
     tally(at, from.len())
+}
+
+// The `n` bytes from `at` on stand `by` places further. The new places may be among the old ones: the last byte goes first.
+pub fn move_up(out: &mut [u8], at: usize, n: usize, by: usize)
+    requires { ⌜ at + n + by ≤ length (now out) ⌝ }
+    ensures { λ _. ⌜ now (out .exit) ≡ sets (now (out .entry)) (at + by) (take n (drop at (now (out .entry)))) ⌝ }
+{
+    let mut left = n;
+    while 0 < left {
+        let k = left - 1;
+        out[at + by + k] = out[at + k];
+        left -= 1;
+    }
 }

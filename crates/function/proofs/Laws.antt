@@ -2,7 +2,7 @@
 use Prim.Native.Nat.{ℕ, _+_, _-_, _*_, _≤_, _<_, _^_}
 use mathlib.Core.Path.{_≡_, refl, sym, _∙_, ap}
 use mathlib.Core.List.{List, [], _∷_, _++_}
-use lib.ListN.{length}
+use lib.ListN.{length, take, drop}
 use native.Mathlib.Omega.{arith}
 use Rattle.definition.specs.Basic.{Answer, ok, refused, _>>=_, concatMap}
 use Rattle.definition.specs.Syntax as Syntax
@@ -38,7 +38,7 @@ use Rattle.frames.specs.declared.locals.LocalsAt.the-variants as L
 use Rattle.code.specs.Body.{EmitsBody}
 use Rattle.function.specs.Function.{codeOf, funcField, bodyAnswer, codeBytes, sizedBytes, EmitsCode, Measured, MeasuredBy, MeasuresCode, MeasuredAt, MeasuresSized, EmitsAgain, AreaBy, typedAnswer, EmitsTyped, EmitsFunc}
 use Rattle.binary.specs.declared.instructions.TypeNo as Number
-use Rattle.function.proofs.Sized.{sized-place, put-beyond, put-short, put-again}
+use Rattle.function.proofs.Sized.{sized-place, put-beyond, put-short, put-again, put-moved, moved-room}
 
 -- ## The locals and the body
 
@@ -115,6 +115,14 @@ module _ (s w : List ℕ) (ls : Code.List) (r here : ℕ) (l : Locals) (old : Li
       pub sized-short : (o : ℕ) (new : List ℕ) → n < 128 → Put mid at (n ∷ []) o new → EmitsCode (sizedBytes s ls) (bodyAnswer s w r here l) w old at (E.To b) w₁ new
       unfolding Emits sizedBytes
       sized-short o new k y = record { emits = record { value = x .value; is = x .is; put = put-short h (x .put) e k y }; kept = m .kept }
+
+      module _ (k : ℕ) (i : k ≡ past b (length (u n) - 1)) (g : k ≤ length mid) where
+        pub sized-room : at + length (u n) + n ≤ length mid
+        sized-room = moved-room h (x .put) e i g
+
+        pub sized-moved : (o : ℕ) (new : List ℕ) → Put mid at (u n ++ take n (drop (at + 1) mid)) o new → EmitsCode (sizedBytes s ls) (bodyAnswer s w r here l) w old at (E.To o) w₁ new
+        unfolding Emits sizedBytes
+        sized-moved o new y = record { emits = record { value = x .value; is = x .is; put = put-moved h (x .put) e i g y }; kept = m .kept }
 
       pub sized-again : FewLocals l → (z : Emitted) (w₂ new : List ℕ) → EmitsAgain (codeBytes s ls) (bodyAnswer s w₁ r here l) w₁ mid at n z w₂ new
           → EmitsCode (sizedBytes s ls) (bodyAnswer s w r here l) w old at z w₂ new

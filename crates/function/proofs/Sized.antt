@@ -1,11 +1,11 @@
 -- A length put before bytes that were written first.
-use Prim.Native.Nat.{ℕ, zero, suc, _+_, _-_, _/_, _%_, _≤_, _<_, _^_, min, max}
+use Prim.Native.Nat.{ℕ, zero, suc, _+_, _-_, _*_, _/_, _%_, _≤_, _<_, _^_, min, max}
 use mathlib.Core.Bool.{Bool, true, false}
 use mathlib.Core.Path.{_≡_, refl, sym, _∙_, ap}
-use mathlib.Core.List.{List, [], _∷_, _++_}
+use mathlib.Core.List.{List, [], _∷_, _++_, append-assoc}
 use lib.Dec.{ltb}
-use lib.ListN.{length, set, length-append, length-set}
-use lib.Seq.{sets, set-set, set-comm}
+use lib.ListN.{length, set, take, drop, length-append, length-set, length-drop}
+use lib.Seq.{sets, set-set, sets-eq, length-sets, length-take-le, drop-at, take-append-seam}
 use borrow.Author.Tests.{lt-ltb}
 use native.Mathlib.Omega.{arith}
 use native.Mathlib.Decide.{decLe}
@@ -15,16 +15,21 @@ use Rattle.definition.specs.Syntax.{Bytes}
 use Rattle.definition.specs.Binary.{unsigned, u, sized}
 use Rattle.laws.proofs.Sets.{sets-append}
 use Rattle.emit.specs.Put.{Put, past}
-use Rattle.emit.proofs.Laws.{sets-out}
+use Rattle.emit.proofs.Laws.{sets-out, set-before}
 
 -- ## Bytes stored over bytes
 
--- an element before a run may be stored after it
-pub set-before : (l : List ℕ) (i j v : ℕ) (xs : List ℕ) → i < j → set (sets l j xs) i v ≡ sets (set l i v) j xs
-set-before l i j v [] h = refl
-set-before l i j v (x ∷ xs) h =
-    let e : set (set l j x) i v ≡ set (set l i v) j x = set-comm l j i x v (λ z. absurd (omega (arith, z))) in
-    set-before (set l j x) i (suc j) v xs (omega arith) ∙ rw e
+-- a run before a run may be stored after it
+pub sets-before : (xs l : List ℕ) (i j : ℕ) (ys : List ℕ) → i + length xs ≤ j → sets (sets l j ys) i xs ≡ sets (sets l i xs) j ys
+sets-before [] l i j ys h = refl
+sets-before (x ∷ xs) l i j ys h = ap (λ z. sets z (suc i) xs) (set-before l i j x ys (omega arith)) ∙ sets-before xs (set l i x) (suc i) j ys (omega arith)
+
+-- a run that has room is read back
+pub sets-part : (l : List ℕ) (i : ℕ) (xs : List ℕ) → i + length xs ≤ length l → take (length xs) (drop i (sets l i xs)) ≡ xs
+sets-part l i xs h =
+    ap (λ z. take (length xs) (drop i z)) (sets-eq xs l i h ∙ append-assoc (take i l) xs (drop (i + length xs) l))
+    ∙ ap (take (length xs)) (drop-at (take i l) (xs ++ drop (i + length xs) l) i (length-take-le i l (omega arith)))
+    ∙ take-append-seam xs (drop (i + length xs) l)
 
 -- a run that lies within a later one is gone
 pub sets-over : (ys l : List ℕ) (i p : ℕ) (xs : List ℕ) → i ≤ p → p + length xs ≤ i + length ys → sets (sets l p xs) i ys ≡ sets l i ys
@@ -51,6 +56,9 @@ u-some n = go (ltb n 128)
     go : (t : Bool) → 1 ≤ length (if t then n ∷ [] else (n % 128 + 128) ∷ unsigned 8 (n / 128))
     go true = omega arith
     go false = omega arith
+
+pub some-groups : (n g : ℕ) → g ≡ length (u n) → 1 ≤ g
+some-groups n g e = omega (arith, u-some n)
 
 -- and below 128 it is one
 u-one : (n : ℕ) → n < 128 → u n ≡ n ∷ []
@@ -134,6 +142,48 @@ module _ {old mid bs : List ℕ} {at b n : ℕ} (h : at < length old) (x : Put o
             long = y .long ∙ x .long;
             short = x .short;
           }
+
+  -- more, and all has room: the bytes are moved up, not put once more
+  pub put-moved : {k q : ℕ} {new : List ℕ} → k ≡ past b (length (u n) - 1) → k ≤ length mid → Put mid at (u n ++ take n (drop (at + 1) mid)) q new → Put old at (sized bs) q new
+  unfolding past
+  put-moved {k} {q} {new} f g y =
+      let i : n ≡ length bs = omega (arith, x .place, x .short, x .long, f) in
+      let d : mid ≡ sets old (at + 1) bs = x .bytes (omega (arith, x .place, x .short, x .long, f)) in
+      let p : take n (drop (at + 1) mid) ≡ bs = rw (d, i) (sets-part old (at + 1) bs (omega (arith, x .place, x .short, x .long, f))) in
+      put-again (rw p at y)
+
+  -- the length and the bytes have that room
+  pub moved-room : {k : ℕ} → k ≡ past b (length (u n) - 1) → k ≤ length mid → at + length (u n) + n ≤ length mid
+  unfolding past
+  moved-room {k} f g = omega (arith, x .place, x .short, x .long, f, u-some n)
+
+-- the place after bytes that were written after one group, by all the groups of their length
+pub groups-end : (b n g r : ℕ) → g ≡ length (u n) → r ≡ past b (g - 1) → r ≡ past b (length (u n) - 1)
+groups-end b n g r i e = rw (← i) e
+
+-- bytes that stand after one group are moved up by the other groups of their length, which is then put before them
+module _ (old : List ℕ) (at n g : ℕ) (i : g ≡ length (u n)) (h : at + length (u n) + n ≤ length old) where
+  pub length-room : at + 1 + n + (g - 1) ≤ length old
+  length-room = omega (arith, u-some n)
+
+  module _ (s : length old * 1 < 2 ^ 63) (mid : List ℕ) (m : mid ≡ sets old (at + 1 + (g - 1)) (take n (drop (at + 1) old))) (c : ℕ) (new : List ℕ) (y : Put mid at (u n) c new) where
+    after : c ≡ at + length (u n)
+    unfolding past
+    after = omega (arith, y .place)
+
+    pub length-put : {r : ℕ} → r ≡ past c n → Put old at (u n ++ take n (drop (at + 1) old)) r new
+    unfolding past
+    length-put {r} f =
+        let bs = take n (drop (at + 1) old) in
+        let l : length bs ≡ n = length-take-le n (drop (at + 1) old) (rw length-drop (omega (arith, u-some n))) in
+        let e : at + 1 + (g - 1) ≡ at + length (u n) = omega (arith, u-some n) in
+        let d : mid ≡ sets old (at + length (u n)) bs = m ∙ rw e refl in
+        record {
+          place = omega (arith, after, f, l, length-append (u n) bs);
+          bytes = λ _. y .bytes (omega arith) ∙ ap (λ z. sets z at (u n)) d ∙ sets-before (u n) old at (at + length (u n)) bs (omega arith) ∙ sym (sets-append old at (u n) bs);
+          long = y .long ∙ ap length d ∙ length-sets old (at + length (u n)) bs;
+          short = omega arith;
+        }
 
 -- the place after bytes and their length, by their measure
 pub sized-place : (at n c r : ℕ) (bs : Bytes) → n ≡ past 0 (length bs) → c ≡ past at (length (u n)) → r ≡ past c n → r ≡ past at (length (sized bs))

@@ -7,10 +7,13 @@ use scope::TypeAt;
 use typeuse::List;
 use typeuse::TypeUse;
 ghost use Prim.Native.Nat.{_+_, _-_, _≤_, _<_};
+ghost use mathlib.Core.Path.{_≡_};
 ghost use mathlib.Core.List.{_++_};
-ghost use lib.ListN.{length};
+ghost use lib.ListN.{length, take, drop};
 ghost use Rattle.definition.specs.Token as Token;
 ghost use Rattle.definition.specs.Types as Types;
+ghost use Rattle.definition.specs.Binary.{u};
+ghost use Rattle.emit.specs.Put.{Put, past};
 ghost use Rattle.typeuse.specs.Views.{listOf, useOf};
 ghost use Rattle.binary.specs.Views.{typeNoOf};
 ghost use Rattle.signatures.specs.Table.{typesIn};
@@ -70,7 +73,24 @@ fn measure_sized(
     }
 }
 
-// The length goes before what was written after a place for one group. A length of more groups is put there, and the rest once more.
+// Where `n` bytes that end at `b`, after a place for one group, end after all the groups of their length.
+fn sized_end(b: usize, n: usize) -> usize
+    ensures { λ r. ⌜ r ≡ past b (length (u n) - 1) ⌝ }
+{
+    emit::tally(b, leb::group_count(n as u64) - 1)
+}
+
+// The length before the `n` bytes that stand after a place for one group: its other groups move them up.
+fn put_length(out: &mut [u8], at: usize, n: usize) -> usize
+    requires { ⌜ at + length (u n) + n ≤ length (now out) ⌝ }
+    ensures { λ r. ⌜ Put (now (out .entry)) at (u n ++ take n (drop (at + 1) (now (out .entry)))) r (now (out .exit)) ⌝ }
+{
+    let more = leb::group_count(n as u64) - 1;
+    emit::move_up(out, at + 1, n, more);
+    emit::tally(leb::put_u(out, at, n as u64), n)
+}
+
+// The length, and after it the code once more: of what was written, not all has room after the whole length.
 fn emit_again(
     s: &[u8],
     work: &mut [u32],
@@ -89,7 +109,8 @@ fn emit_again(
     emit_code(s, work, out, a, ls, here, rec, l)
 }
 
-// Both, after their length. Most functions are short: their code is written after a place for one group, which then takes the length.
+// Both, after their length. Most functions are short: their code is written after a place for one group, which then takes the length. A
+// length of more groups moves the code up.
 fn emit_sized(
     s: &[u8],
     work: &mut [u32],
@@ -113,6 +134,9 @@ fn emit_sized(
             if n < 128 {
                 emit::put(out, at, n as u8);
                 return Emitted::To(b);
+            }
+            if sized_end(b, n) <= out.len() {
+                return Emitted::To(put_length(out, at, n));
             }
             emit_again(s, work, out, at, n, ls, here, rec, l)
         }

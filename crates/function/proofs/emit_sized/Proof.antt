@@ -1,4 +1,4 @@
-use Rattle.function.proofs.Laws.{sized-beyond, sized-after, sized-long, sized-uses, sized-short, sized-again, sized-not}
+use Rattle.function.proofs.Laws.{sized-beyond, sized-after, sized-long, sized-uses, sized-short, sized-room, sized-moved, sized-again, sized-not}
 use borrow.Author.Needs.{needs}
 use Rattle.function.proofs.emit_sized.Statement.{statement}
 use Rattle.function.proofs.emit_sized.Tie as tie
@@ -39,11 +39,11 @@ same-length-3 c = search needs
 returns-2 : tie.Need-returns-2
 returns-2 c = search sized-short
 
-emit-again-requires : tie.Need-emit-again-requires
-emit-again-requires c κs = (search needs, search (sized-long, needs), search needs, search needs, search (sized-uses, needs))
+sized-end-requires : tie.Need-sized-end-requires
+sized-end-requires c κs = search needs
 
-enum-known-n : tie.Need-enum-known-n
-enum-known-n c = search needs
+put-length-requires : tie.Need-put-length-requires
+put-length-requires c κs = search sized-room
 
 same-length-4 : tie.Need-same-length-4
 same-length-4 c = search needs
@@ -52,7 +52,13 @@ same-length-5 : tie.Need-same-length-5
 same-length-5 c = search needs
 
 returns-3 : tie.Need-returns-3
-returns-3 c = search sized-again
+returns-3 c = search sized-moved
+
+emit-again-requires : tie.Need-emit-again-requires
+emit-again-requires c κs = (search needs, search (sized-long, needs), search needs, search needs, search (sized-uses, needs))
+
+enum-known-n : tie.Need-enum-known-n
+enum-known-n c = search needs
 
 same-length-6 : tie.Need-same-length-6
 same-length-6 c = search needs
@@ -61,7 +67,16 @@ same-length-7 : tie.Need-same-length-7
 same-length-7 c = search needs
 
 returns-4 : tie.Need-returns-4
-returns-4 c = search sized-not
+returns-4 c = search sized-again
+
+same-length-8 : tie.Need-same-length-8
+same-length-8 c = search needs
+
+same-length-9 : tie.Need-same-length-9
+same-length-9 c = search needs
+
+returns-5 : tie.Need-returns-5
+returns-5 c = search sized-not
 
 pub emit-sized-spec : {M : Type 1} → statement M
 emit-sized-spec =
@@ -79,11 +94,16 @@ emit-sized-spec =
     same-length-2
     same-length-3
     returns-2
-    emit-again-requires
-    enum-known-n
+    sized-end-requires
+    put-length-requires
     same-length-4
     same-length-5
     returns-3
+    emit-again-requires
+    enum-known-n
     same-length-6
     same-length-7
-    returns-4)
+    returns-4
+    same-length-8
+    same-length-9
+    returns-5)
