@@ -1,7 +1,7 @@
 // Instructions that open or close a block or have a type use.
+use crate::turn::Turn;
 use binary::Emitted;
 use binary::Imm;
-use crate::turn::Turn;
 use scope::BlockAt;
 use scope::Closed;
 use scope::TypeAt;

@@ -1,6 +1,6 @@
 // A body: its instructions up to its end.
-use binary::Emitted;
 use crate::turn::Turn;
+use binary::Emitted;
 use instr::Form;
 use scope::Locals;
 use token::ByteAt;
