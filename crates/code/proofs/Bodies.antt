@@ -1,41 +1,48 @@
 -- The loop over a body: what has been written and what is still to come are the whole.
 use Prim.Native.Nat.{ℕ, suc, _+_, _-_, _*_, _≤_, _<_, _^_}
 use mathlib.Core.Path.{_≡_, refl, sym, _∙_, ap}
+use mathlib.Core.Bool.{Bool, true, false}
+use mathlib.Core.Option.{none, some, Option·none-ne-some}
 use mathlib.Core.List.{List, [], _∷_, _++_, append-assoc, append-nil}
+use lib.Dec.{eqb}
 use lib.ListN.{length}
+use borrow.Author.Tests.{eqb-true}
 use native.Mathlib.Omega.{arith}
-use Rattle.definition.specs.Basic.{Answer, ok, refused, _>>=_, concatMap}
+use Rattle.definition.specs.Basic.{Answer, ok, refused, _>>=_, concatMap, if_then_else_, between}
 use Rattle.definition.specs.Syntax as Syntax
-use Rattle.definition.specs.Syntax.{Identifier, Op, instr}
-use Rattle.definition.specs.Reader.{got}
-use Rattle.definition.specs.Instructions.{bodyRec}
+use Rattle.definition.specs.Syntax.{Identifier, Op, Rec, instr, bodyEnd}
+use Rattle.definition.specs.Reader.{Step, got, fault, byte, give, refuse, require, _>>_}
+use Rattle.definition.specs.Instructions.{Form, opening, elsing, ending, calling, operands, opcodes, formIn, formOf, plainOf, instruction, bodyRec}
 use Rattle.definition.specs.Read.{openAfter}
 use Rattle.definition.specs.Types.{usedAt, instrUses, bodyUses}
 use Rattle.definition.specs.Names.{Scope, Namespace, blocksAfter, instrOp, body}
-use Rattle.definition.specs.Binary.{instruction}
+use Rattle.definition.specs.Binary as Binary
 use Rattle.emit.specs.Put.{Put}
 use Rattle.emit.proofs.Laws.{put-none, put-then, put-is, put-length}
-use Rattle.instr.specs.Views.{instrIs, bodyAt}
-use Rattle.instr.specs.declared.Instr.{Instr}
-use Rattle.instr.specs.declared.BodyAt.{BodyAt}
-use Rattle.instr.specs.declared.BodyAt.the-variants as B
+use Rattle.token.specs.Views.{byteAt}
+use Rattle.token.specs.declared.byte.ByteAt.{ByteAt}
+use Rattle.token.specs.declared.byte.ByteAt.the-variants as B
+use Rattle.expr.specs.Views.{operandsIs}
+use Rattle.expr.specs.declared.Operands.{Operands}
+use Rattle.instr.specs.Views.{formIs}
+use Rattle.instr.specs.declared.Form as Code
+use Rattle.instr.specs.declared.Form.the-variants as F
 use Rattle.space.specs.Area.{labels}
 use Rattle.space.specs.Kept.{Kept}
 use Rattle.space.proofs.Kept.{kept-same, kept-then, kept-less}
 use Rattle.signatures.specs.Table.{typesIn}
-use Rattle.walk.specs.Walk.{bodyFrom}
+use Rattle.walk.specs.Walk.{onBody, bodyFrom}
 use Rattle.scope.specs.Scope.{scopeIn, Recalled, localsIn, FewLocals, labelsIn}
 use Rattle.scope.specs.declared.Locals.{Locals}
 use Rattle.scope.proofs.Frames.{scope-kept, locals-kept, recalled-left, recalled-right, recalled-scope}
-use Rattle.frames.specs.Blocks.{Entered}
-use Rattle.binary.specs.Emits.{Wrote, Emits}
-use Rattle.binary.specs.declared.Emitted.{Emitted}
 use Rattle.binary.specs.declared.Emitted.the-variants as E
-use Rattle.binary.proofs.Emitting.{wrote, halts, was-wrote, has-halted}
+use Rattle.binary.proofs.Emitting.{wrote, halts}
 use Rattle.entries.proofs.Elements.{after, concat-snoc}
-use Rattle.code.specs.Body.{Stepped, Ended, Halted, Turned, EmitsBody}
-use Rattle.code.specs.declared.body.Turn.{Turn}
-use Rattle.code.specs.declared.body.Turn.the-variants as T
+use Rattle.code.specs.Turns.{recordOf, plainRecord, readUses, Stepped, Ended, Halted, Turned, AnyLocals}
+use Rattle.code.specs.Body.{EmitsBody}
+use Rattle.code.specs.declared.turn.Turn.{Turn}
+use Rattle.code.specs.declared.turn.Turn.the-variants as T
+use Rattle.code.proofs.Turns.{turned-fault}
 
 -- ## `one_record`
 
@@ -45,40 +52,79 @@ body-cons : (s : List ℕ) (k rec here : ℕ) (x : Syntax.Instr Identifier) (nex
 unfolding bodyFrom
 body-cons s k rec here x next h e = let m : 4096 - rec ≡ suc (4096 - (rec + 1)) = omega arith in rw (m, e)
 
-module _ (s w : List ℕ) (l : Locals) (k rec here : ℕ) (q : BodyAt) (told : bodyRec k s here ≡ bodyAt s q) where
-  pub turn-end : (next : ℕ) (old : List ℕ) (at : ℕ) → q ≡ B.End next → Turned s w l k rec here old at T.Done w old
-  unfolding Turned bodyFrom
-  turn-end next old at d = record { none = λ left. rw (told, d) refl; area = refl; bytes = refl }
+-- the end's byte is no opcode
+end-formless : formOf 0xFF ≡ none
+unfolding formOf formIn opcodes between
+end-formless = refl
 
-  pub turn-fault : (n : ℕ) (old : List ℕ) (at : ℕ) → q ≡ B.Fault n → Turned s w l k rec here old at T.Done w old
-  unfolding Turned bodyFrom
-  turn-fault n old at d = record { none = λ left. rw (told, d) refl; area = refl; bytes = refl }
+not-end : (b : ℕ) (f : Form) (t : Bool) → eqb b 0xFF ≡ t → formOf b ≡ some f → t ≡ false
+not-end b f false e d = refl
+not-end b f true e d = absurd (Option·none-ne-some f (sym end-formless ∙ sym (ap formOf (eqb-true b 0xFF e)) ∙ d))
 
-  module _ (i : Instr) (next : ℕ) (d : q ≡ B.Got i next) where
-    reads : bodyRec k s here ≡ got (instr (instrIs s i)) next
-    reads = told ∙ ap (bodyAt s) d
+module _ (s w : List ℕ) (l : Locals) (k rec here : ℕ) (q : ByteAt) (told : byte s here ≡ byteAt q) where
+  pub byte-fault : (n : ℕ) (old : List ℕ) (at : ℕ) → q ≡ B.Fault n → Turned s w (localsIn s w l) k rec (bodyRec k s here) old at T.Done w old
+  byte-fault n old at d = turned-fault s w (localsIn s w l) k rec (bodyRec k s here) old at n (unfold bodyRec in rw (told, d))
 
-    -- what the instruction needs of the work area
-    pub turn-uses : rec < 4096 → Recalled w (typesIn s w) (bodyUses rec (bodyFrom (4096 - rec) k s here)) → Recalled w (typesIn s w) (usedAt rec (instrUses (instrIs s i)))
-    unfolding bodyUses
-    turn-uses h r =
-        recalled-left w (typesIn s w) (usedAt rec (instrUses (instrIs s i))) (bodyUses (rec + 1) (bodyFrom (4096 - (rec + 1)) (openAfter (instrIs s i) k) s next))
-        (rw (body-cons s k rec here (instrIs s i) next h reads) at r)
+  module _ (b a : ℕ) (d : q ≡ B.Got b a) (f : Code.Form) (says : formOf b ≡ formIs f) where
+    -- no opcode: the end, or a byte that is none
+    pub form-none : (old : List ℕ) (at : ℕ) → f ≡ F.NoOpcode → Turned s w (localsIn s w l) k rec (bodyRec k s here) old at T.Done w old
+    unfolding Turned
+    form-none old at e = record { none = λ more. unfold bodyRec in rw (told, d, says, e) (go more (eqb b 0xFF) (eqb k 0)); area = refl; bytes = refl }
+      where
+        go : (more : Syntax.Instr Identifier → ℕ → List (Syntax.Instr Identifier)) (t u : Bool)
+            → onBody ((if t then (require 8 u >> give bodyEnd) else refuse 4) s a) more (λ next. []) [] ≡ []
+        go more true true = refl
+        go more true false = refl
+        go more false u = refl
 
-    module _ (old : List ℕ) (at : ℕ) (y : Emitted) (new : List ℕ) (e : Emits instruction (instrOp (scopeIn s w) (localsIn s w l) (labelsIn s w k) rec (instrIs s i)) old at y new) where
-      pub turn-on : (o j : ℕ) (w′ : List ℕ) → y ≡ E.To o → Entered s w k i j w′ → Turned s w l k rec here old at (T.On o next j) w′ new
-      unfolding Turned
-      turn-on o j w′ f g =
-          let v : Wrote instruction (instrOp (scopeIn s w) (localsIn s w l) (labelsIn s w k) rec (instrIs s i)) old at o new =
-          was-wrote instruction (instrOp (scopeIn s w) (localsIn s w l) (labelsIn s w k) rec (instrIs s i)) old at new y o e f in
-          record { read = instrIs s i; op = v .value; reads = reads; is = v .is; put = v .put; blocks = g .labels; depth = g .depth; few = g .few; kept = g .kept }
+    module _ (g : Form) (e : formIs f ≡ some g) where
+      formed-reads : bodyRec k s here ≡ recordOf (instruction k b g s a)
+      unfolding bodyRec
+      formed-reads = rw (told, d, not-end b g (eqb b 0xFF) refl (says ∙ e), says, e)
 
-      pub turn-refused : (n z : ℕ) → y ≡ E.Refused n z → Turned s w l k rec here old at (T.Refused n z) w new
-      unfolding Turned
-      turn-refused n z f =
-          record { read = instrIs s i; next = next; reads = reads; says = has-halted instruction (instrOp (scopeIn s w) (localsIn s w l) (labelsIn s w k) rec (instrIs s i)) old at new y n z e f; area = refl }
+      -- what the instruction needs of the work area
+      formed-uses : rec < 4096 → Recalled w (typesIn s w) (bodyUses rec (bodyFrom (4096 - rec) k s here)) → Recalled w (typesIn s w) (readUses rec (instruction k b g s a))
+      formed-uses h r = go (instruction k b g s a) formed-reads
+        where
+          go : (m : Step (Syntax.Instr Identifier)) → bodyRec k s here ≡ recordOf m → Recalled w (typesIn s w) (readUses rec m)
+          go (got x next) z =
+              recalled-left w (typesIn s w) (usedAt rec (instrUses x)) (bodyUses (rec + 1) (bodyFrom (4096 - (rec + 1)) (openAfter x k) s next))
+              (unfold bodyUses in rw (body-cons s k rec here x next h z) at r)
+          go (fault n) z = unfold Recalled in tt
 
-pub ruleset turns = (turn-end, turn-fault, turn-on, turn-refused)
+      formed-turn : (old : List ℕ) (at : ℕ) (r : Turn) (w′ new : List ℕ) → Turned s w (localsIn s w l) k rec (recordOf (instruction k b g s a)) old at r w′ new
+          → Turned s w (localsIn s w l) k rec (bodyRec k s here) old at r w′ new
+      formed-turn old at r w′ new t = rw formed-reads t
+
+    pub opening-uses : f ≡ F.Opening → rec < 4096 → Recalled w (typesIn s w) (bodyUses rec (bodyFrom (4096 - rec) k s here)) → Recalled w (typesIn s w) (readUses rec (instruction k b opening s a))
+    opening-uses e h r = formed-uses opening (ap formIs e) h r
+
+    pub calling-uses : f ≡ F.Calling → rec < 4096 → Recalled w (typesIn s w) (bodyUses rec (bodyFrom (4096 - rec) k s here)) → Recalled w (typesIn s w) (readUses rec (instruction k 0x11 calling s a))
+    unfolding instruction
+    calling-uses e h r = formed-uses calling (ap formIs e) h r
+
+    module _ (old : List ℕ) (at : ℕ) (r : Turn) (w′ new : List ℕ) where
+      pub form-opening : f ≡ F.Opening → AnyLocals s w k rec (recordOf (instruction k b opening s a)) old at r w′ new → Turned s w (localsIn s w l) k rec (bodyRec k s here) old at r w′ new
+      form-opening e t = formed-turn opening (ap formIs e) old at r w′ new (t .each (localsIn s w l))
+
+      pub form-elsing : f ≡ F.Elsing → AnyLocals s w k rec (recordOf (instruction k 0x05 elsing s a)) old at r w′ new → Turned s w (localsIn s w l) k rec (bodyRec k s here) old at r w′ new
+      unfolding instruction
+      form-elsing e t = formed-turn elsing (ap formIs e) old at r w′ new (t .each (localsIn s w l))
+
+      pub form-ending : f ≡ F.Ending → AnyLocals s w k rec (recordOf (instruction k 0x0B ending s a)) old at r w′ new → Turned s w (localsIn s w l) k rec (bodyRec k s here) old at r w′ new
+      unfolding instruction
+      form-ending e t = formed-turn ending (ap formIs e) old at r w′ new (t .each (localsIn s w l))
+
+      pub form-calling : f ≡ F.Calling → AnyLocals s w k rec (recordOf (instruction k 0x11 calling s a)) old at r w′ new → Turned s w (localsIn s w l) k rec (bodyRec k s here) old at r w′ new
+      unfolding instruction
+      form-calling e t = formed-turn calling (ap formIs e) old at r w′ new (t .each (localsIn s w l))
+
+      pub form-plain : (v : Operands) → f ≡ F.Operands v → Turned s w (localsIn s w l) k rec (plainRecord (plainOf b (operandsIs v) s a)) old at r w′ new
+          → Turned s w (localsIn s w l) k rec (bodyRec k s here) old at r w′ new
+      unfolding instruction
+      form-plain v e t = formed-turn (operands (operandsIs v)) (ap formIs e) old at r w′ new t
+
+pub ruleset forms = (byte-fault, form-none, form-opening, form-elsing, form-ending, form-calling, form-plain)
 
 -- ## The whole
 
@@ -109,7 +155,7 @@ all-after (refused n r) = refl
 -- so much is done, and the rest decides
 pub record Going (s w₀ : List ℕ) (l : Locals) (rec place : ℕ) (old : List ℕ) (at : ℕ) (w out : List ℕ) (o here r k : ℕ) : Type 0 where
   pub done : List Op
-  pub so-far : Put old at (concatMap instruction done) o out
+  pub so-far : Put old at (concatMap Binary.instruction done) o out
   pub same : body (scopeIn s w₀) (localsIn s w₀ l) [] rec (bodyFrom (4096 - rec) 0 s place) ≡ (body (scopeIn s w₀) (localsIn s w₀ l) (labelsIn s w k) r (bodyFrom (4096 - r) k s here) >>= after done)
   pub recalled : Recalled w (typesIn s w) (bodyUses r (bodyFrom (4096 - r) k s here))
   pub few : k ≤ 128
@@ -146,7 +192,7 @@ module _ {s w₀ : List ℕ} {l : Locals} {rec place : ℕ} {old : List ℕ} {at
   -- no instruction is left
   empty : bodyFrom (4096 - r) k s here ≡ [] → EmitsBody s w₀ l rec place old at (E.To o) w out
   empty e = record {
-    emits = wrote (concatMap instruction) (body (scopeIn s w₀) (localsIn s w₀ l) [] rec (bodyFrom (4096 - rec) 0 s place)) old at out (v .done) o
+    emits = wrote (concatMap Binary.instruction) (body (scopeIn s w₀) (localsIn s w₀ l) [] rec (bodyFrom (4096 - rec) 0 s place)) old at out (v .done) o
         (v .so-far) (v .same ∙ rw e (body-none (scopeIn s w₀) (localsIn s w₀ l) (labelsIn s w k) r (v .done)));
     kept = v .kept;
   }
@@ -159,11 +205,11 @@ module _ {s w₀ : List ℕ} {l : Locals} {rec place : ℕ} {old : List ℕ} {at
   first : l .count ≤ 128 → (x : Syntax.Instr Identifier) (a : Answer Op) → instrOp (scopeIn s w) (localsIn s w l) (labelsIn s w k) r x ≡ a → instrOp (scopeIn s w₀) (localsIn s w₀ l) (labelsIn s w k) r x ≡ a
   first h x a e = rw (scope-kept s w₀ w (kept-less 11280 11920 (omega arith) (v .kept)), locals-kept s w₀ w l (v .kept) h) at e
 
-  module _ (res : Turn) (w′ new : List ℕ) (t : Turned s w l k r here out o res w′ new) (h : r < 4096) (few : FewLocals l) where
+  module _ (res : Turn) (w′ new : List ℕ) (t : Turned s w (localsIn s w l) k r (bodyRec k s here) out o res w′ new) (h : r < 4096) (few : FewLocals l) where
     pub going-again : (p next j : ℕ) → res ≡ T.On p next j → Going s w₀ l rec place old at w′ new p next (r + 1) j
     unfolding Turned bodyUses
     going-again p next j d =
-        let x : Stepped s w l k r here out o p next j w′ new = rw d at t in
+        let x : Stepped s w (localsIn s w l) k r (bodyRec k s here) out o p next j w′ new = rw d at t in
         let c : bodyFrom (4096 - r) k s here ≡ x .read ∷ bodyFrom (4096 - (r + 1)) j s next = rw (x .depth) (body-cons s k r here (x .read) next h (x .reads)) in
         let n : Kept 11280 w w′ = kept-less 11280 11920 (omega arith) (x .kept) in
         let m : (body (scopeIn s w₀) (localsIn s w₀ l) (labelsIn s w k) r (bodyFrom (4096 - r) k s here) >>= after (v .done))
@@ -171,7 +217,7 @@ module _ {s w₀ : List ℕ} {l : Locals} {rec place : ℕ} {old : List ℕ} {at
         rw c (body-more (scopeIn s w₀) (localsIn s w₀ l) (labelsIn s w k) r (x .read) (bodyFrom (4096 - (r + 1)) j s next) (v .done) (x .op) (first (few .named) (x .read) (ok (x .op)) (x .is))) in
         record {
           done = v .done ++ (x .op ∷ []);
-          so-far = put-is (put-then (v .so-far) (x .put)) (sym (concat-snoc instruction (v .done) (x .op)));
+          so-far = put-is (put-then (v .so-far) (x .put)) (sym (concat-snoc Binary.instruction (v .done) (x .op)));
           same = rw (x .blocks) (v .same ∙ m);
           recalled = recalled-scope s w w′ (bodyUses (r + 1) (bodyFrom (4096 - (r + 1)) j s next)) n
               (recalled-right w (typesIn s w) (usedAt r (instrUses (x .read))) (bodyUses (r + 1) (bodyFrom (4096 - (r + 1)) j s next)) (rw c at (v .recalled)));
@@ -183,19 +229,19 @@ module _ {s w₀ : List ℕ} {l : Locals} {rec place : ℕ} {old : List ℕ} {at
         }
 
     pub going-done : res ≡ T.Done → EmitsBody s w₀ l rec place old at (E.To o) w′ new
-    unfolding Turned
+    unfolding Turned bodyFrom
     going-done d =
-        let x : Ended s w k here out w′ new = rw d at t in
+        let x : Ended (bodyRec k s here) w out w′ new = rw d at t in
         let m : 4096 - r ≡ suc (4096 - (r + 1)) = omega arith in
-        rw (x .area, x .bytes) (empty (rw m (x .none (4096 - (r + 1)))))
+        rw (x .area, x .bytes) (empty (rw m (x .none (λ i next. i ∷ bodyFrom (4096 - (r + 1)) (openAfter i k) s next))))
 
     pub going-refused : (n q : ℕ) → res ≡ T.Refused n q → EmitsBody s w₀ l rec place old at (E.Refused n q) w′ new
     unfolding Turned
     going-refused n q d =
-        let x : Halted s w l k r here n q w′ = rw d at t in
+        let x : Halted s w (localsIn s w l) k r (bodyRec k s here) n q w′ = rw d at t in
         let c : bodyFrom (4096 - r) k s here ≡ x .read ∷ bodyFrom (4096 - (r + 1)) (openAfter (x .read) k) s (x .next) = body-cons s k r here (x .read) (x .next) h (x .reads) in
         record {
-          emits = halts (concatMap instruction) (body (scopeIn s w₀) (localsIn s w₀ l) [] rec (bodyFrom (4096 - rec) 0 s place)) old at new n q
+          emits = halts (concatMap Binary.instruction) (body (scopeIn s w₀) (localsIn s w₀ l) [] rec (bodyFrom (4096 - rec) 0 s place)) old at new n q
               (v .same ∙ rw c (body-not (scopeIn s w₀) (localsIn s w₀ l) (labelsIn s w k) r (x .read) (bodyFrom (4096 - (r + 1)) (openAfter (x .read) k) s (x .next)) (v .done) n q (first (few .named) (x .read) (refused n q) (x .says))));
           kept = rw (x .area) (v .kept);
         }

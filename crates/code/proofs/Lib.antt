@@ -1,3 +1,5 @@
-pub mod Bodies
+pub mod Turns
 pub mod Operands
-pub mod Instructions
+pub mod Plains
+pub mod Blocks
+pub mod Bodies

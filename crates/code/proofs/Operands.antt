@@ -1,20 +1,23 @@
--- Operands, and the instructions that have one.
-use Prim.Native.Nat.{ℕ}
-use mathlib.Core.Path.{_≡_, refl, _∙_, ap}
+-- Operands: what is resolved is what was put.
+use Prim.Native.Nat.{ℕ, _*_, _<_, _^_}
+use mathlib.Core.Path.{_≡_, refl}
 use mathlib.Core.List.{List, [], _∷_}
+use lib.ListN.{length}
 use Rattle.definition.specs.Basic.{Answer, ok, refused, _>>=_}
 use Rattle.definition.specs.Syntax as Syntax
 use Rattle.definition.specs.Syntax.{Identifier}
-use Rattle.definition.specs.Names.{itemNo, localNo, depthOf, immediate, plainOp}
+use Rattle.definition.specs.Names.{Namespace, itemNo, localNo, depthOf, immediate, plainOp}
+use Rattle.definition.specs.Binary as Binary
 use Rattle.definition.specs.Binary.{imm, instruction}
 use Rattle.emit.specs.Put.{Put}
-use Rattle.token.specs.Views.{spaceOf, indexOf}
+use Rattle.emit.proofs.Laws.{put-skip}
+use Rattle.token.specs.Views.{partOf, spaceOf, indexOf}
+use Rattle.token.specs.declared.text.Part.{Part}
 use Rattle.token.specs.declared.index.Index.{Index}
 use Rattle.token.specs.declared.index.Space.{Space}
-use Rattle.expr.specs.Views.{operandOf, plainIs}
+use Rattle.expr.specs.Views.{operandOf}
 use Rattle.expr.specs.declared.Operand.{Operand}
 use Rattle.expr.specs.declared.Operand.the-variants as O
-use Rattle.expr.specs.declared.Plain.{Plain}
 use Rattle.space.specs.Area.{resolved}
 use Rattle.space.specs.declared.table.Resolved.{Resolved}
 use Rattle.space.specs.declared.table.Resolved.the-variants as R
@@ -26,125 +29,115 @@ use Rattle.scope.specs.declared.label.DepthAt.the-variants as D
 use Rattle.scope.specs.declared.local.LocalAt.{LocalAt}
 use Rattle.scope.specs.declared.local.LocalAt.the-variants as L
 use Rattle.binary.specs.Views as View
-use Rattle.binary.specs.Views.{immOf, opOf}
 use Rattle.binary.specs.declared.instructions.Depth.{Depth}
 use Rattle.binary.specs.declared.instructions.LocalNo.{LocalNo}
-use Rattle.binary.specs.declared.instructions.Imm.{Imm}
-use Rattle.binary.specs.declared.instructions.Imm.the-variants as M
 use Rattle.binary.specs.Emits.{Emits}
 use Rattle.binary.specs.declared.Emitted.{Emitted}
 use Rattle.binary.specs.declared.Emitted.the-variants as E
 use Rattle.binary.proofs.Emitting.{wrote, halts, put-emits}
-use Rattle.code.specs.Code.{immAnswer}
-use Rattle.code.specs.declared.operand.ImmAt.{ImmAt}
-use Rattle.code.specs.declared.operand.ImmAt.the-variants as I
 
--- ## `resolve_operand`
+-- ## One index
 
-module _ (s w : List ℕ) (l : Locals) (k rec : ℕ) (p : Operand) where
-  abbrev Means : Answer Syntax.Imm → Type 0
-  Means a = immediate (scopeIn s w) (localsIn s w l) (labelsIn s w k) rec (operandOf s p) ≡ a
+module _ (s w : List ℕ) (ls bs : Namespace Identifier) (rec : ℕ) (x : Syntax.Index Identifier) (old : List ℕ) (at : ℕ) (new : List ℕ) where
+  abbrev Says : Syntax.Operand Identifier → Emitted → Type 0
+  Says p r = Emits imm (immediate (scopeIn s w) ls bs rec p) old at r new
+
+  module _ (y : DepthAt) (told : depthOf (scopeIn s w) bs rec x ≡ depthAnswer y) where
+    pub label-to : (d : Depth) (r : ℕ) → y ≡ D.To d → Put old at (Binary.u (View.depthOf d .depth)) r new → Says (Syntax.label x) (E.To r)
+    unfolding immediate _>>=_ imm
+    label-to d r e p = wrote imm (immediate (scopeIn s w) ls bs rec (Syntax.label x)) old at new (Syntax.labelImm (View.depthOf d)) r p (rw (told, e))
+
+    pub label-not : (n q : ℕ) → y ≡ D.Refused n q → Says (Syntax.label x) (E.Refused n q)
+    unfolding immediate _>>=_
+    label-not n q e = halts imm (immediate (scopeIn s w) ls bs rec (Syntax.label x)) old at new n q (rw (told, e))
+
+  module _ (y : LocalAt) (told : localNo (scopeIn s w) ls rec x ≡ localAnswer y) where
+    pub local-to : (n : LocalNo) (r : ℕ) → y ≡ L.To n → Put old at (Binary.u (View.localNoOf n .local-no)) r new → Says (Syntax.local x) (E.To r)
+    unfolding immediate _>>=_ imm
+    local-to n r e p = wrote imm (immediate (scopeIn s w) ls bs rec (Syntax.local x)) old at new (Syntax.localImm (View.localNoOf n)) r p (rw (told, e))
+
+    pub local-not : (n q : ℕ) → y ≡ L.Refused n q → Says (Syntax.local x) (E.Refused n q)
+    unfolding immediate _>>=_
+    local-not n q e = halts imm (immediate (scopeIn s w) ls bs rec (Syntax.local x)) old at new n q (rw (told, e))
+
+  module _ (y : Resolved) (j : Syntax.Space) (told : itemNo (scopeIn s w) j rec x ≡ resolved y) where
+    pub item-to : (n r : ℕ) → y ≡ R.To n → Put old at (Binary.u n) r new → Says (Syntax.item j x) (E.To r)
+    unfolding immediate _>>=_ imm
+    item-to n r e p = wrote imm (immediate (scopeIn s w) ls bs rec (Syntax.item j x)) old at new (Syntax.itemImm n) r p (rw (told, e))
+
+    pub item-not : (n q : ℕ) → y ≡ R.Refused n q → Says (Syntax.item j x) (E.Refused n q)
+    unfolding immediate _>>=_
+    item-not n q e = halts imm (immediate (scopeIn s w) ls bs rec (Syntax.item j x)) old at new n q (rw (told, e))
+
+  module _ (y : Resolved) (a o : ℕ) (told : itemNo (scopeIn s w) Syntax.mems rec x ≡ resolved y) where
+    pub access-to : (m r : ℕ) → y ≡ R.To m → Put old at (Binary.memarg a o m) r new → Says (Syntax.access a o x) (E.To r)
+    unfolding immediate _>>=_ imm
+    access-to m r e p = wrote imm (immediate (scopeIn s w) ls bs rec (Syntax.access a o x)) old at new (Syntax.accessImm a o m) r p (rw (told, e))
+
+    pub access-not : (n q : ℕ) → y ≡ R.Refused n q → Says (Syntax.access a o x) (E.Refused n q)
+    unfolding immediate _>>=_
+    access-not n q e = halts imm (immediate (scopeIn s w) ls bs rec (Syntax.access a o x)) old at new n q (rw (told, e))
+
+-- ## `emit_operand`
+
+module _ (s w : List ℕ) (l : Locals) (k rec : ℕ) (p : Operand) (old : List ℕ) (at : ℕ) where
+  abbrev Operates : Emitted → List ℕ → Type 0
+  Operates r new = Emits imm (immediate (scopeIn s w) (localsIn s w l) (labelsIn s w k) rec (operandOf s p)) old at r new
 
   -- it has no index
-  pub imm-nothing : p ≡ O.Nothing → Means (ok Syntax.noImm)
-  unfolding immediate
-  imm-nothing d = rw d
+  module _ (i : Syntax.Imm) (means : immediate (scopeIn s w) (localsIn s w l) (labelsIn s w k) rec (operandOf s p) ≡ ok i) where
+    put-imm : (r : ℕ) (new : List ℕ) → Put old at (imm i) r new → Operates (E.To r) new
+    put-imm r new e = wrote imm (immediate (scopeIn s w) (localsIn s w l) (labelsIn s w k) rec (operandOf s p)) old at new i r e means
 
-  pub imm-int32 : (n : ℕ) → p ≡ O.Int32 n → Means (ok (Syntax.int32Imm n))
-  unfolding immediate
-  imm-int32 n d = rw d
+  pub operand-nothing : length old * 1 < 2 ^ 63 → p ≡ O.Nothing → Operates (E.To at) old
+  unfolding immediate imm
+  operand-nothing h d = put-imm Syntax.noImm (rw d) at old (put-skip h refl)
 
-  pub imm-int64 : (n : ℕ) → p ≡ O.Int64 n → Means (ok (Syntax.int64Imm n))
-  unfolding immediate
-  imm-int64 n d = rw d
+  pub operand-int32 : (n r : ℕ) (new : List ℕ) → p ≡ O.Int32 n → Put old at (Binary.s (Binary.integer 32 n)) r new → Operates (E.To r) new
+  unfolding immediate imm
+  operand-int32 n r new d e = put-imm (Syntax.int32Imm n) (rw d) r new e
 
-  pub imm-raw : (q : _) → p ≡ O.Raw q → Means (ok (immOf s (M.Raw q)))
-  unfolding immediate
-  imm-raw q d = rw d
+  pub operand-int64 : (n r : ℕ) (new : List ℕ) → p ≡ O.Int64 n → Put old at (Binary.s (Binary.integer 64 n)) r new → Operates (E.To r) new
+  unfolding immediate imm
+  operand-int64 n r new d e = put-imm (Syntax.int64Imm n) (rw d) r new e
 
-  pub imm-heap : (t : ℕ) → p ≡ O.Heap t → Means (ok (Syntax.rawImm (t ∷ [])))
-  unfolding immediate
-  imm-heap t d = rw d
+  pub operand-raw : (q : Part) (r : ℕ) (new : List ℕ) → p ≡ O.Raw q → Put old at (partOf s q) r new → Operates (E.To r) new
+  unfolding immediate imm
+  operand-raw q r new d e = put-imm (Syntax.rawImm (partOf s q)) (rw d) r new e
 
-  -- it has several
-  pub imm-labels : (xs : _) (x : Index) → p ≡ O.Labels xs x → Means (immAnswer s w k rec (I.Labels xs x))
-  unfolding immediate
-  imm-labels xs x d = rw d
+  pub operand-heap : (t r : ℕ) (new : List ℕ) → p ≡ O.Heap t → Put old at (t ∷ []) r new → Operates (E.To r) new
+  unfolding immediate imm
+  operand-heap t r new d e = put-imm (Syntax.rawImm (t ∷ [])) (rw d) r new e
 
-  -- it has one
-  module _ (x : Index) where
-    module _ (y : DepthAt) (d : p ≡ O.Label x) (told : depthOf (scopeIn s w) (labelsIn s w k) rec (indexOf s x) ≡ depthAnswer y) where
-      pub imm-label : (n : Depth) → y ≡ D.To n → Means (ok (Syntax.labelImm (View.depthOf n)))
-      unfolding immediate _>>=_
-      imm-label n e = rw (d, told, e)
+  -- it has some: the others say nothing of locals, or nothing of blocks
+  module _ (r : Emitted) (new : List ℕ) where
+    pub operand-label : (x : Index) → p ≡ O.Label x → Emits imm (immediate (scopeIn s w) [] (labelsIn s w k) rec (Syntax.label (indexOf s x))) old at r new → Operates r new
+    unfolding immediate
+    operand-label x d e = rw d e
 
-      pub imm-no-label : (n q : ℕ) → y ≡ D.Refused n q → Means (refused n q)
-      unfolding immediate _>>=_
-      imm-no-label n q e = rw (d, told, e)
+    pub operand-labels : (xs : _) (x : Index) → p ≡ O.Labels xs x → Emits imm (immediate (scopeIn s w) [] (labelsIn s w k) rec (operandOf s (O.Labels xs x))) old at r new → Operates r new
+    unfolding immediate
+    operand-labels xs x d e = rw d e
 
-    module _ (y : LocalAt) (d : p ≡ O.Local x) (told : localNo (scopeIn s w) (localsIn s w l) rec (indexOf s x) ≡ localAnswer y) where
-      pub imm-local : (n : LocalNo) → y ≡ L.To n → Means (ok (Syntax.localImm (View.localNoOf n)))
-      unfolding immediate _>>=_
-      imm-local n e = rw (d, told, e)
+    pub operand-local : (x : Index) → p ≡ O.Local x → Emits imm (immediate (scopeIn s w) (localsIn s w l) [] rec (Syntax.local (indexOf s x))) old at r new → Operates r new
+    unfolding immediate
+    operand-local x d e = rw d e
 
-      pub imm-no-local : (n q : ℕ) → y ≡ L.Refused n q → Means (refused n q)
-      unfolding immediate _>>=_
-      imm-no-local n q e = rw (d, told, e)
+    pub operand-item : (j : Space) (x : Index) → p ≡ O.Item j x → Emits imm (immediate (scopeIn s w) [] [] rec (Syntax.item (spaceOf j) (indexOf s x))) old at r new → Operates r new
+    unfolding immediate
+    operand-item j x d e = rw d e
 
-    module _ (y : Resolved) (j : Space) (d : p ≡ O.Item j x) (told : itemNo (scopeIn s w) (spaceOf j) rec (indexOf s x) ≡ resolved y) where
-      pub imm-item : (n : ℕ) → y ≡ R.To n → Means (ok (Syntax.itemImm n))
-      unfolding immediate _>>=_
-      imm-item n e = rw (d, told, e)
+    pub operand-access : (a o : ℕ) (x : Index) → p ≡ O.Access a o x → Emits imm (immediate (scopeIn s w) [] [] rec (Syntax.access a o (indexOf s x))) old at r new → Operates r new
+    unfolding immediate
+    operand-access a o x d e = rw d e
 
-      pub imm-no-item : (n q : ℕ) → y ≡ R.Refused n q → Means (refused n q)
-      unfolding immediate _>>=_
-      imm-no-item n q e = rw (d, told, e)
+pub ruleset operands = (operand-nothing, operand-int32, operand-int64, operand-raw, operand-heap, operand-label, operand-labels, operand-local, operand-item, operand-access)
 
-    module _ (y : Resolved) (a o : ℕ) (d : p ≡ O.Access a o x) (told : itemNo (scopeIn s w) Syntax.mems rec (indexOf s x) ≡ resolved y) where
-      pub imm-access : (m : ℕ) → y ≡ R.To m → Means (ok (Syntax.accessImm a o m))
-      unfolding immediate _>>=_
-      imm-access m e = rw (d, told, e)
+-- ## The opcode before it
 
-      pub imm-no-access : (n q : ℕ) → y ≡ R.Refused n q → Means (refused n q)
-      unfolding immediate _>>=_
-      imm-no-access n q e = rw (d, told, e)
-
-pub ruleset imms = (imm-nothing, imm-int32, imm-int64, imm-raw, imm-heap, imm-labels, imm-label, imm-no-label, imm-local, imm-no-local, imm-item, imm-no-item, imm-access, imm-no-access)
-
--- ## `emit_table`
-
--- the opcode, and then the labels
-pub table-is : (s w : List ℕ) (k rec opcode : ℕ) (xs : List (Syntax.Index Identifier)) (x : Syntax.Index Identifier) (old : List ℕ) (at o : ℕ) (mid : List ℕ) (q : Emitted) (new : List ℕ)
-    → Put old at (opcode ∷ []) o mid → Emits imm (immediate (scopeIn s w) [] (labelsIn s w k) rec (Syntax.labels xs x)) mid o q new
-    → Emits instruction (plainOp (scopeIn s w) [] (labelsIn s w k) rec (record { opcode = opcode; operand = Syntax.labels xs x })) old at q new
+pub opcode-then : (s w : List ℕ) (ls bs : Namespace Identifier) (rec opcode : ℕ) (p : Syntax.Operand Identifier) (old : List ℕ) (at o : ℕ) (mid : List ℕ) (q : Emitted) (new : List ℕ)
+    → Put old at (opcode ∷ []) o mid → Emits imm (immediate (scopeIn s w) ls bs rec p) mid o q new
+    → Emits instruction (plainOp (scopeIn s w) ls bs rec (record { opcode = opcode; operand = p })) old at q new
 unfolding plainOp instruction
-table-is s w k rec opcode xs x old at o mid q new p e =
-    put-emits imm instruction (λ i. record { opcode = opcode; imm = i }) (immediate (scopeIn s w) [] (labelsIn s w k) rec (Syntax.labels xs x)) old at (opcode ∷ []) o mid q new (λ i. refl) p e
-
--- ## `emit_plain`
-
-module _ (s w : List ℕ) (l : Locals) (k rec : ℕ) (p : Plain) (y : ImmAt)
-    (told : immediate (scopeIn s w) (localsIn s w l) (labelsIn s w k) rec (operandOf s (p .operand)) ≡ immAnswer s w k rec y) (old : List ℕ) (at : ℕ) where
-  abbrev Says : Emitted → List ℕ → Type 0
-  Says r new = Emits instruction (plainOp (scopeIn s w) (localsIn s w l) (labelsIn s w k) rec (plainIs s p)) old at r new
-
-  pub plain-to : (i : Imm) (r : ℕ) (new : List ℕ) → y ≡ I.To i → Put old at (instruction (opOf s (p .opcode) i)) r new → Says (E.To r) new
-  unfolding plainOp _>>=_
-  plain-to i r new d e = wrote instruction (plainOp (scopeIn s w) (localsIn s w l) (labelsIn s w k) rec (plainIs s p)) old at new (opOf s (p .opcode) i) r e (rw (told, d))
-
-  pub plain-not : (n q : ℕ) (new : List ℕ) → y ≡ I.Refused n q → Says (E.Refused n q) new
-  unfolding plainOp _>>=_
-  plain-not n q new d = halts instruction (plainOp (scopeIn s w) (localsIn s w l) (labelsIn s w k) rec (plainIs s p)) old at new n q (rw (told, d))
-
-  pub plain-labels : (xs : _) (x : Index) (q : Emitted) (new : List ℕ) → y ≡ I.Labels xs x
-      → Emits instruction (plainOp (scopeIn s w) [] (labelsIn s w k) rec (record { opcode = p .opcode; operand = operandOf s (O.Labels xs x) })) old at q new → Says q new
-  unfolding plainOp
-  plain-labels xs x q new d e = go q e
-    where
-      same : immediate (scopeIn s w) (localsIn s w l) (labelsIn s w k) rec (operandOf s (p .operand)) ≡ immediate (scopeIn s w) [] (labelsIn s w k) rec (operandOf s (O.Labels xs x))
-      same = told ∙ ap (immAnswer s w k rec) d
-
-      go : (q : Emitted) → Emits instruction (plainOp (scopeIn s w) [] (labelsIn s w k) rec (record { opcode = p .opcode; operand = operandOf s (O.Labels xs x) })) old at q new → Says q new
-      go q e = rw same e
-
-pub ruleset plains = (plain-to, plain-not, plain-labels)
+opcode-then s w ls bs rec opcode p old at o mid q new e f =
+    put-emits imm instruction (λ i. record { opcode = opcode; imm = i }) (immediate (scopeIn s w) ls bs rec p) old at (opcode ∷ []) o mid q new (λ i. refl) e f

@@ -1,23 +1,20 @@
 // A body: its instructions up to its end.
+use crate::turn::Turn;
 use binary::Emitted;
-use instr::BodyAt;
+use instr::Form;
 use scope::Locals;
+use token::ByteAt;
 ghost use Prim.Native.Nat.{_-_, _≤_, _<_};
 ghost use lib.ListN.{length};
+ghost use Rattle.definition.specs.Instructions as Instructions;
 ghost use Rattle.definition.specs.Types as Types;
 ghost use Rattle.signatures.specs.Table.{typesIn};
-ghost use Rattle.scope.specs.Scope.{Recalled, FewLocals};
+ghost use Rattle.scope.specs.Scope.{Recalled, localsIn, FewLocals};
 ghost use Rattle.walk.specs.Walk.{bodyFrom};
-ghost use Rattle.code.specs.Body.{Turned, EmitsBody};
+ghost use Rattle.code.specs.Turns.{Turned};
+ghost use Rattle.code.specs.Body.{EmitsBody};
 
-pub enum Turn {
-    // the place after what was written, the place after the record, and how many blocks are open
-    On(usize, usize, u32),
-    Done,
-    Refused(u8, u32),
-}
-
-// One record of a body where k blocks are open.
+// One record of a body where k blocks are open. Its end, FF, is no opcode either.
 fn one_record(
     s: &[u8],
     work: &mut [u32],
@@ -29,18 +26,20 @@ fn one_record(
     rec: u32,
 ) -> Turn
     requires { ⌜ (length (now s) ≤ 65536) × (16384 ≤ length (now work)) × FewLocals l × (k ≤ 128) × (rec < 4096) × Recalled (now work) (typesIn (now s) (now work)) (Types.bodyUses rec (bodyFrom (4096 - rec) k (now s) here)) ⌝ }
-    ensures { λ r. ⌜ Turned (now (s .entry)) (now (work .entry)) l k rec here (now (out .entry)) at r (now (work .exit)) (now (out .exit)) ⌝ }
+    ensures { λ r. ⌜ Turned (now (s .entry)) (now (work .entry)) (localsIn (now (s .entry)) (now (work .entry)) l) k rec (Instructions.bodyRec k (now (s .entry)) here) (now (out .entry)) at r (now (work .exit)) (now (out .exit)) ⌝ }
 {
-    match instr::read_body(s, here, k) {
-        BodyAt::Got(i, next) => match crate::one::emit_instr(s, work, out, at, l, k, i, rec) {
-            Emitted::To(o) => {
-                let j = frames::enter(s, work, i, k);
-                Turn::On(o, next, j)
+    match token::read_byte(s, here) {
+        ByteAt::Got(b, a) => match instr::opcode_form(b) {
+            Form::NoOpcode => Turn::Done,
+            Form::Opening => crate::block::opens_record(s, work, out, at, a, k, b, rec),
+            Form::Elsing => crate::block::else_record(s, work, out, at, a, k, rec),
+            Form::Ending => crate::block::end_record(s, work, out, at, a, k, rec),
+            Form::Calling => crate::block::indirect_record(s, work, out, at, a, k, rec),
+            Form::Operands(what) => {
+                crate::plain::plain_record(s, work, out, at, a, k, l, b, what, rec)
             }
-            Emitted::Refused(n, q) => Turn::Refused(n, q),
         },
-        BodyAt::End(_) => Turn::Done,
-        BodyAt::Fault(_) => Turn::Done,
+        ByteAt::Fault(_) => Turn::Done,
     }
 }
 

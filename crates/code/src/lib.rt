@@ -1,8 +1,8 @@
 // The code of a function: each instruction is read, resolved and written.
+pub mod block;
 pub mod body;
-pub mod one;
 pub mod operand;
+pub mod plain;
+pub mod turn;
 
 pub use body::emit_body;
-pub use one::emit_instr;
-pub use operand::emit_plain;

@@ -2,7 +2,6 @@
 pub mod labels;
 pub mod locals;
 
-pub use labels::enter;
 pub use labels::open_block;
 pub use locals::LocalsAt;
 pub use locals::set_locals;

@@ -1,26 +1,16 @@
-use Rattle.code.proofs.Bodies.{turns, turn-uses}
-use Rattle.frames.proofs.Blocks.{room-read}
+use Rattle.code.proofs.Bodies.{forms, opening-uses, calling-uses}
 use borrow.Author.Needs.{needs}
 use Rattle.code.proofs.body.one_record.Statement.{statement}
 use Rattle.code.proofs.body.one_record.Tie as tie
 
-read-body-requires : tie.Need-read-body-requires
-read-body-requires c κs = search needs
+read-byte-requires : tie.Need-read-byte-requires
+read-byte-requires c κs = search needs
 
-enum-known-i : tie.Need-enum-known-i
-enum-known-i c = search needs
+enum-known-b : tie.Need-enum-known-b
+enum-known-b c = search needs
 
-emit-instr-requires : tie.Need-emit-instr-requires
-emit-instr-requires c κs = search (turn-uses, needs)
-
-enum-known-o : tie.Need-enum-known-o
-enum-known-o c = search needs
-
-enter-requires : tie.Need-enter-requires
-enter-requires c κs = search (room-read, needs)
-
-enum-known-n : tie.Need-enum-known-n
-enum-known-n c = search needs
+opcode-form-requires : tie.Need-opcode-form-requires
+opcode-form-requires c κs = search needs
 
 enum-told : tie.Need-enum-told
 enum-told c = search needs
@@ -28,14 +18,47 @@ enum-told c = search needs
 enum-told-2 : tie.Need-enum-told-2
 enum-told-2 c = search needs
 
+opens-record-requires : tie.Need-opens-record-requires
+opens-record-requires c κs = search (opening-uses, needs)
+
+enum-told-3 : tie.Need-enum-told-3
+enum-told-3 c = search needs
+
+else-record-requires : tie.Need-else-record-requires
+else-record-requires c κs = search needs
+
+enum-told-4 : tie.Need-enum-told-4
+enum-told-4 c = search needs
+
+end-record-requires : tie.Need-end-record-requires
+end-record-requires c κs = search needs
+
+enum-told-5 : tie.Need-enum-told-5
+enum-told-5 c = search needs
+
+indirect-record-requires : tie.Need-indirect-record-requires
+indirect-record-requires c κs = search (calling-uses, needs)
+
+enum-known-what : tie.Need-enum-known-what
+enum-known-what c = search needs
+
+plain-record-requires : tie.Need-plain-record-requires
+plain-record-requires c κs = search needs
+
+enum-told-6 : tie.Need-enum-told-6
+enum-told-6 c = search needs
+
+returns : tie.Need-returns
+returns c = search (forms) depth 12
+
 same-length : tie.Need-same-length
 same-length c = search needs
 
 same-length-2 : tie.Need-same-length-2
 same-length-2 c = search needs
 
-returns : tie.Need-returns
-returns c = search (turns) depth 12
+returns-2 : tie.Need-returns-2
+returns-2 c = search (forms) depth 12
 
 same-length-3 : tie.Need-same-length-3
 same-length-3 c = search needs
@@ -43,32 +66,72 @@ same-length-3 c = search needs
 same-length-4 : tie.Need-same-length-4
 same-length-4 c = search needs
 
-returns-2 : tie.Need-returns-2
-returns-2 c = search (turns) depth 12
-
 returns-3 : tie.Need-returns-3
-returns-3 c = search (turns) depth 12
+returns-3 c = search (forms) depth 12
+
+same-length-5 : tie.Need-same-length-5
+same-length-5 c = search needs
+
+same-length-6 : tie.Need-same-length-6
+same-length-6 c = search needs
 
 returns-4 : tie.Need-returns-4
-returns-4 c = search (turns) depth 12
+returns-4 c = search (forms) depth 12
+
+same-length-7 : tie.Need-same-length-7
+same-length-7 c = search needs
+
+same-length-8 : tie.Need-same-length-8
+same-length-8 c = search needs
+
+returns-5 : tie.Need-returns-5
+returns-5 c = search (forms) depth 12
+
+same-length-9 : tie.Need-same-length-9
+same-length-9 c = search needs
+
+same-length-10 : tie.Need-same-length-10
+same-length-10 c = search needs
+
+returns-6 : tie.Need-returns-6
+returns-6 c = search (forms) depth 12
+
+returns-7 : tie.Need-returns-7
+returns-7 c = search (forms) depth 12
 
 pub one-record-spec : {M : Type 1} → statement M
 one-record-spec =
     tie.close
     (tie.spec
-    read-body-requires
-    enum-known-i
-    emit-instr-requires
-    enum-known-o
-    enter-requires
-    enum-known-n
+    read-byte-requires
+    enum-known-b
+    opcode-form-requires
     enum-told
     enum-told-2
+    opens-record-requires
+    enum-told-3
+    else-record-requires
+    enum-told-4
+    end-record-requires
+    enum-told-5
+    indirect-record-requires
+    enum-known-what
+    plain-record-requires
+    enum-told-6
+    returns
     same-length
     same-length-2
-    returns
+    returns-2
     same-length-3
     same-length-4
-    returns-2
     returns-3
-    returns-4)
+    same-length-5
+    same-length-6
+    returns-4
+    same-length-7
+    same-length-8
+    returns-5
+    same-length-9
+    same-length-10
+    returns-6
+    returns-7)

@@ -1,7 +1,7 @@
-use Rattle.code.proofs.Instructions.{opens-to, opens-not}
+use Rattle.code.proofs.Blocks.{opens-to, opens-not}
 use borrow.Author.Needs.{needs}
-use Rattle.code.proofs.one.emit_opens.Statement.{statement}
-use Rattle.code.proofs.one.emit_opens.Tie as tie
+use Rattle.code.proofs.block.emit_opens.Statement.{statement}
+use Rattle.code.proofs.block.emit_opens.Tie as tie
 
 block-type-requires : tie.Need-block-type-requires
 block-type-requires c κs = search needs
@@ -9,8 +9,11 @@ block-type-requires c κs = search needs
 enum-known-b : tie.Need-enum-known-b
 enum-known-b c = search needs
 
-put-instruction-requires : tie.Need-put-instruction-requires
-put-instruction-requires c κs = search needs
+put-requires : tie.Need-put-requires
+put-requires c κs = search needs
+
+put-block-type-requires : tie.Need-put-block-type-requires
+put-block-type-requires c κs = search needs
 
 enum-known-n : tie.Need-enum-known-n
 enum-known-n c = search needs
@@ -30,7 +33,8 @@ emit-opens-spec =
     (tie.spec
     block-type-requires
     enum-known-b
-    put-instruction-requires
+    put-requires
+    put-block-type-requires
     enum-known-n
     same-length
     returns

@@ -1,7 +1,7 @@
-use Rattle.code.proofs.Instructions.{closing-to, closing-not}
+use Rattle.code.proofs.Blocks.{closing-to, closing-not}
 use borrow.Author.Needs.{needs}
-use Rattle.code.proofs.one.emit_closing.Statement.{statement}
-use Rattle.code.proofs.one.emit_closing.Tie as tie
+use Rattle.code.proofs.block.emit_closing.Statement.{statement}
+use Rattle.code.proofs.block.emit_closing.Tie as tie
 
 closes-requires : tie.Need-closes-requires
 closes-requires c κs = search needs
@@ -9,8 +9,8 @@ closes-requires c κs = search needs
 enum-told : tie.Need-enum-told
 enum-told c = search needs
 
-put-instruction-requires : tie.Need-put-instruction-requires
-put-instruction-requires c κs = search needs
+put-requires : tie.Need-put-requires
+put-requires c κs = search needs
 
 enum-known-n : tie.Need-enum-known-n
 enum-known-n c = search needs
@@ -27,11 +27,4 @@ returns-2 c = search (closing-to, closing-not) depth 12
 pub emit-closing-spec : {M : Type 1} → statement M
 emit-closing-spec =
     tie.close
-    (tie.spec
-    closes-requires
-    enum-told
-    put-instruction-requires
-    enum-known-n
-    same-length
-    returns
-    returns-2)
+    (tie.spec closes-requires enum-told put-requires enum-known-n same-length returns returns-2)

@@ -1,7 +1,7 @@
-use Rattle.code.proofs.Instructions.{indirect-stops, indirect-to, indirect-not}
+use Rattle.code.proofs.Blocks.{indirect-to, indirect-stops, indirect-not}
 use borrow.Author.Needs.{needs}
-use Rattle.code.proofs.one.emit_indirect.Statement.{statement}
-use Rattle.code.proofs.one.emit_indirect.Tie as tie
+use Rattle.code.proofs.block.emit_indirect.Statement.{statement}
+use Rattle.code.proofs.block.emit_indirect.Tie as tie
 
 item-no-requires : tie.Need-item-no-requires
 item-no-requires c κs = search needs
@@ -28,13 +28,13 @@ same-length : tie.Need-same-length
 same-length c = search needs
 
 returns : tie.Need-returns
-returns c = search (indirect-stops, indirect-to, indirect-not) depth 12
+returns c = search (indirect-to, indirect-stops, indirect-not) depth 12
 
 returns-2 : tie.Need-returns-2
-returns-2 c = search (indirect-stops, indirect-to, indirect-not) depth 12
+returns-2 c = search (indirect-to, indirect-stops, indirect-not) depth 12
 
 returns-3 : tie.Need-returns-3
-returns-3 c = search (indirect-stops, indirect-to, indirect-not) depth 12
+returns-3 c = search (indirect-to, indirect-stops, indirect-not) depth 12
 
 pub emit-indirect-spec : {M : Type 1} → statement M
 emit-indirect-spec =

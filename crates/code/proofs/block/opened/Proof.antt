@@ -1,0 +1,53 @@
+use Rattle.code.proofs.Blocks.{opened-on, opened-not}
+use borrow.Author.Needs.{needs}
+use Rattle.code.proofs.block.opened.Statement.{statement}
+use Rattle.code.proofs.block.opened.Tie as tie
+
+emit-opens-requires : tie.Need-emit-opens-requires
+emit-opens-requires c κs = search needs
+
+enum-known-o : tie.Need-enum-known-o
+enum-known-o c = search needs
+
+open-block-requires : tie.Need-open-block-requires
+open-block-requires c κs = search needs
+
+add-t23 : tie.Need-add-t23
+add-t23 c = search needs
+
+enum-known-n : tie.Need-enum-known-n
+enum-known-n c = search needs
+
+same-length : tie.Need-same-length
+same-length c = search needs
+
+same-length-2 : tie.Need-same-length-2
+same-length-2 c = search needs
+
+returns : tie.Need-returns
+returns c = search (opened-on, opened-not) depth 12
+
+same-length-3 : tie.Need-same-length-3
+same-length-3 c = search needs
+
+same-length-4 : tie.Need-same-length-4
+same-length-4 c = search needs
+
+returns-2 : tie.Need-returns-2
+returns-2 c = search (opened-on, opened-not) depth 12
+
+pub opened-spec : {M : Type 1} → statement M
+opened-spec =
+    tie.close
+    (tie.spec
+    emit-opens-requires
+    enum-known-o
+    open-block-requires
+    add-t23
+    enum-known-n
+    same-length
+    same-length-2
+    returns
+    same-length-3
+    same-length-4
+    returns-2)
