@@ -1,5 +1,5 @@
 -- The writers: the module, alone or with its name section.
-use Prim.Native.Nat.{ℕ, _+_, _*_, _≤_, _<_, _^_}
+use Prim.Native.Nat.{ℕ, _+_, _≤_, _<_, _^_}
 use mathlib.Core.Path.{_≡_, refl, _∙_, ap}
 use mathlib.Core.List.{List, _++_}
 use lib.ListN.{length, drop, length-append}
@@ -27,11 +27,12 @@ module _ (count : ℕ) (bs w old : List ℕ) (m : ℕ) (g : m ≡ past 0 (length
   write-short r e h = record { says = rw (e, lt-leb (length bs) (length old) (omega (arith, g))) refl; long = refl }
 
   -- they have
-  pub write-fits : (len : ℕ) (new w′ : List ℕ) → m ≤ length old → length old * 1 < 2 ^ 63 → Writes bs old 0 len new w w′
+  pub write-fits : (len : ℕ) (new w′ : List ℕ) → m ≤ length old → Writes bs old 0 len new w w′
       → Does count bs w old (record { number = 0; rec = count; len = len }) w′ new
   unfolding fitting heard say outputAfter past
-  write-fits len new w′ h b y =
-      let k : length bs ≤ length old = omega (arith, g) in
+  write-fits len new w′ h y =
+      let b = y .put .short in
+      let k : length bs ≤ length old = omega (arith, g, b) in
       let p = put-room (y .put) (omega (arith, k)) in
       let z : 0 + length bs ≡ length bs = omega arith in
       let a : len ≡ length bs = p .0 ∙ z in

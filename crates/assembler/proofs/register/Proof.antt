@@ -21,11 +21,14 @@ refuse-requires c κs = search needs
 same-length : tie.Need-same-length
 same-length c = search needs
 
+same-length-2 : tie.Need-same-length-2
+same-length-2 c = search needs
+
 returns : tie.Need-returns
 returns c = search register-done
 
-same-length-2 : tie.Need-same-length-2
-same-length-2 c = search needs
+same-length-3 : tie.Need-same-length-3
+same-length-3 c = search needs
 
 returns-2 : tie.Need-returns-2
 returns-2 c = search register-not
@@ -40,6 +43,7 @@ register-spec =
     enum-known-n
     refuse-requires
     same-length
-    returns
     same-length-2
+    returns
+    same-length-3
     returns-2)

@@ -1,4 +1,4 @@
-use Rattle.assembler.proofs.Stages.{resolve-long, resolve-done, resolve-not}
+use Rattle.assembler.proofs.Stages.{resolve-long, resolve-twelve, resolve-done, resolve-not}
 use borrow.Author.Needs.{needs}
 use Rattle.assembler.proofs.resolve.Statement.{statement}
 use Rattle.assembler.proofs.resolve.Tie as tie
@@ -9,8 +9,8 @@ check-fields-requires c κs = search needs
 enum-told : tie.Need-enum-told
 enum-told c = search needs
 
-tally-types-requires : tie.Need-tally-types-requires
-tally-types-requires c κs = search resolve-long
+keep-types-requires : tie.Need-keep-types-requires
+keep-types-requires c κs = (search resolve-long, search resolve-twelve)
 
 enum-known-v : tie.Need-enum-known-v
 enum-known-v c = search needs
@@ -21,11 +21,17 @@ refuse-requires c κs = search needs
 same-length : tie.Need-same-length
 same-length c = search needs
 
+same-length-2 : tie.Need-same-length-2
+same-length-2 c = search needs
+
 returns : tie.Need-returns
 returns c = search resolve-done
 
-same-length-2 : tie.Need-same-length-2
-same-length-2 c = search needs
+same-length-3 : tie.Need-same-length-3
+same-length-3 c = search needs
+
+same-length-4 : tie.Need-same-length-4
+same-length-4 c = search needs
 
 returns-2 : tie.Need-returns-2
 returns-2 c = search resolve-not
@@ -36,10 +42,12 @@ resolve-spec =
     (tie.spec
     check-fields-requires
     enum-told
-    tally-types-requires
+    keep-types-requires
     enum-known-v
     refuse-requires
     same-length
-    returns
     same-length-2
+    returns
+    same-length-3
+    same-length-4
     returns-2)
