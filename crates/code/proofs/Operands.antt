@@ -3,7 +3,7 @@ use Prim.Native.Nat.{ℕ, _*_, _<_, _^_}
 use mathlib.Core.Path.{_≡_, refl}
 use mathlib.Core.List.{List, [], _∷_}
 use lib.ListN.{length}
-use Rattle.definition.specs.Basic.{Answer, ok, refused, _>>=_}
+use Rattle.definition.specs.Basic.{Answer, ok, _>>=_}
 use Rattle.definition.specs.Syntax as Syntax
 use Rattle.definition.specs.Syntax.{Identifier}
 use Rattle.definition.specs.Names.{Namespace, itemNo, localNo, depthOf, immediate, plainOp}

@@ -5,7 +5,6 @@ use mathlib.Core.List.{List, [], _∷_}
 use Rattle.definition.specs.Basic.{ok, _>>=_}
 use Rattle.definition.specs.Syntax as Syntax
 use Rattle.definition.specs.Syntax.{Identifier}
-use Rattle.definition.specs.Reader.{Step, got, fault}
 use Rattle.definition.specs.Token as Token
 use Rattle.definition.specs.Instructions as Instructions
 use Rattle.definition.specs.Names.{Namespace, immediate, plainOp}

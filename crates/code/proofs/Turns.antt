@@ -1,8 +1,8 @@
 -- One record: what was read, and what came of it.
 use Prim.Native.Nat.{ℕ, _≤_}
-use mathlib.Core.Path.{_≡_, refl, sym}
-use mathlib.Core.List.{List, []}
-use Rattle.definition.specs.Basic.{ok, refused}
+use mathlib.Core.Path.{_≡_, refl}
+use mathlib.Core.List.{List}
+use Rattle.definition.specs.Basic.{refused}
 use Rattle.definition.specs.Syntax as Syntax
 use Rattle.definition.specs.Syntax.{Identifier, Rec, instr, plain}
 use Rattle.definition.specs.Reader.{Step, got, fault}
@@ -15,7 +15,7 @@ use Rattle.scope.specs.Scope.{scopeIn, labelsIn}
 use Rattle.binary.specs.Emits.{Wrote, Emits}
 use Rattle.binary.specs.declared.Emitted.{Emitted}
 use Rattle.binary.specs.declared.Emitted.the-variants as E
-use Rattle.code.specs.Turns.{turnOf, recordOf, plainRecord, Stepped, Ended, Halted, Turned, AnyLocals}
+use Rattle.code.specs.Turns.{turnOf, plainRecord, Turned}
 use Rattle.code.specs.declared.turn.Turn.{Turn}
 use Rattle.code.specs.declared.turn.Turn.the-variants as T
 

@@ -26,7 +26,7 @@ ghost use Rattle.definition.specs.Binary as Binary;
 ghost use Rattle.token.specs.Views.{idOf, indexOf};
 ghost use Rattle.typeuse.specs.Views.{useOf};
 ghost use Rattle.signatures.specs.Table.{typesIn};
-ghost use Rattle.scope.specs.Scope.{scopeIn, Recalled, blockUses, labelsIn};
+ghost use Rattle.scope.specs.Scope.{scopeIn, Recalled, blockUses};
 ghost use Rattle.binary.specs.Emits.{Emits};
 ghost use Rattle.code.specs.Turns.{recordOf, readUses, AnyLocals};
 ghost use Rattle.code.specs.Code.{closingOp};
