@@ -1,4 +1,7 @@
 // Instructions that open and close no block and have no type use, and constants.
+pub mod pass;
+
+pub use pass::pass_plain;
 use leb::U32;
 use leb::U64;
 use token::ByteAt;

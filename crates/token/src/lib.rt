@@ -5,6 +5,7 @@ pub mod text;
 
 pub use byte::ByteAt;
 pub use byte::Skip;
+pub use byte::pass_bytes;
 pub use byte::read_byte;
 pub use index::Index;
 pub use index::IndexAt;
