@@ -1,13 +1,12 @@
 -- The loop over all records: what it started from passes as what is left passes from here.
 use mathlib.Core.Path.{_≡_, refl, ap, sym, _∙_, subst}
-use Prim.Native.Nat.{ℕ, zero, suc, _+_, _-_, _*_, _≤_, _<_, _^_, min}
+use Prim.Native.Nat.{ℕ, suc, _+_, _-_, _*_, _≤_, _<_, _^_}
 use mathlib.Core.Bool.{Bool, true, false, _||_}
 use mathlib.Core.List.{List, [], _∷_, _++_, append-nil}
-use mathlib.Core.Option.{Option, none, some}
-use lib.Dec.{leb, ltb}
+use mathlib.Core.Option.{none, some}
 use lib.ListN.{length, getD, set, take, length-set, length-append}
-use lib.Seq.{sets, length-sets, take-all, take-append-le}
-use borrow.Author.Tests.{lt-ltb, le-ltb, lt-leb, le-leb, leb-true, leb-false}
+use lib.Seq.{sets, take-all, take-append-le}
+use borrow.Author.Tests.{lt-ltb, le-ltb}
 use native.Mathlib.Omega.{arith}
 use native.Mathlib.Decide.{decLe}
 use native.Mathlib.Nat.{zero-add}
@@ -20,7 +19,7 @@ use Rattle.definition.specs.Reader.{Step, got, fault}
 use Rattle.definition.specs.Instructions.{bodyRec}
 use Rattle.definition.specs.Records.{Room}
 use Rattle.definition.specs.Read as Read
-use Rattle.definition.specs.Read.{room, bodyAfter, seenAfter, nothingSeen, recordIn, oneRecord, beginsIn, atEnd, read}
+use Rattle.definition.specs.Read.{bodyAfter, seenAfter, nothingSeen, recordIn, oneRecord, beginsIn, atEnd}
 use Rattle.laws.specs.Steps.{total}
 use Rattle.laws.proofs.Bodies.{end-inside}
 use Rattle.laws.proofs.Sets.{sets-append, sets-more}
@@ -29,7 +28,7 @@ use Rattle.sources.specs.declared.seen.Seen.{Seen}
 use Rattle.fields.specs.Views.{fieldOf}
 use Rattle.fields.specs.declared.field.Field.{Field}
 use Rattle.stream.specs.Uses.{mayUse, endWord}
-use Rattle.stream.specs.Pass.{bodyOf, recordPast, placeAfter, movedBy, fieldRecordAt, bodyRecordAt, Passed, usedAfter, endOf, pass, passed, endWords, countWords, areaAfter, areaOf, counted, reading, readingArea, Walks, Reads}
+use Rattle.stream.specs.Pass.{bodyOf, recordPast, placeAfter, movedBy, fieldRecordAt, bodyRecordAt, Passed, usedAfter, endOf, pass, passed, endWords, areaAfter, reading, readingArea, Walks, Reads}
 use Rattle.stream.specs.Counting.{fieldSeen}
 use Rattle.stream.specs.Answers.{outsideAnswer, Kept, an-instr, an-end, keptOf, keptAnswer, keptAt, insideAnswer, endPut}
 use Rattle.stream.specs.declared.record.Place.{Place}

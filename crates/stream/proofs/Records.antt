@@ -1,20 +1,17 @@
 -- One record at the running place: what each way out of its readers comes to.
 use mathlib.Core.Path.{_≡_, refl, ap, sym, _∙_}
 use Prim.Native.Nat.{ℕ, zero, suc, _+_, _-_, _≤_, _<_}
-use mathlib.Core.Bool.{Bool, true, false, not, _||_}
-use mathlib.Core.List.{List, [], _∷_}
+use mathlib.Core.Bool.{Bool, true, false, not}
 use mathlib.Core.Option.{Option, none, some}
-use lib.Dec.{eqb, leb}
-use lib.ListN.{length, getD}
-use borrow.Author.Tests.{lt-leb, le-leb, ne-eqb}
+use lib.Dec.{leb}
+use borrow.Author.Tests.{le-leb, ne-eqb}
 use native.Mathlib.Omega.{arith}
 use native.Mathlib.Numerals.{add-one}
 use mir.Syntax.{w32}
 use mir.Val.{Fits}
-use Rattle.definition.specs.Basic.{if_then_else_, Answer, ok, refused, between, isSome}
-use Rattle.definition.specs.Syntax as Syntax
-use Rattle.definition.specs.Syntax.{Bytes, Identifier, Rec, field, instr, bodyEnd}
-use Rattle.definition.specs.Reader.{Step, got, fault}
+use Rattle.definition.specs.Basic.{ok, refused, between, isSome}
+use Rattle.definition.specs.Syntax.{Bytes, field, instr}
+use Rattle.definition.specs.Reader.{got}
 use Rattle.definition.specs.Instructions.{bodyRec, formOf}
 use Rattle.definition.specs.Records.{Room, fieldRec}
 use Rattle.definition.specs.Read.{bodyAfter, fieldBody, sourceBody, ownBody, openAfter, beginsIn}

@@ -1,5 +1,5 @@
 -- The small steps of the code: counts, depths, bytes.
-use mathlib.Core.Path.{_≡_, refl, ap, sym, _∙_}
+use mathlib.Core.Path.{_≡_}
 use Prim.Native.Nat.{ℕ}
 use mathlib.Core.Bool.{Bool, true, false}
 use mathlib.Core.List.{List}
@@ -11,14 +11,11 @@ use Rattle.definition.specs.Read.{beginsIn}
 use Rattle.token.specs.Views.{spaceOf}
 use Rattle.token.specs.declared.index.Space.{Space}
 use Rattle.sources.specs.declared.seen.Seen.{Seen}
-use Rattle.sources.specs.declared.import.Extern.{Extern}
 use Rattle.sources.specs.declared.source.Own.{Own}
 use Rattle.sources.specs.declared.source.Source.{Source}
-use Rattle.sources.specs.declared.source.Source.the-variants as S
 use Rattle.fields.specs.declared.field.Field.{Field}
-use Rattle.fields.specs.declared.field.Field.the-variants as F
 use Rattle.stream.specs.Pass.{bodyOf, recordPast}
-use Rattle.stream.specs.Counting.{up, oneMore, externBrings, ownBrings, sourceBrings, fieldSeen}
+use Rattle.stream.specs.Counting.{up, oneMore, sourceBrings, fieldSeen}
 use Rattle.stream.specs.Answers.{ownDepth, sourceDepth, fieldDepth, onPast}
 use Rattle.stream.specs.declared.record.Place.{Place}
 use Rattle.stream.specs.declared.record.Inside.the-variants as N

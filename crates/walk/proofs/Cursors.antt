@@ -12,7 +12,6 @@ use native.Mathlib.Omega.{arith}
 use native.Mathlib.Nat.{add-zero}
 use mir.Syntax.{w32}
 use mir.Val.{Fits}
-use Rattle.definition.specs.Basic.{if_then_else_}
 use Rattle.definition.specs.Syntax.{Bytes, Identifier, Instr, Rec, field, instr, bodyEnd}
 use Rattle.definition.specs.Reader.{Step, got, fault}
 use Rattle.definition.specs.Instructions.{bodyRec}
