@@ -1,9 +1,7 @@
 -- Instructions that are passed over: where their operands end, along what the calls of the code answered.
-use mathlib.Core.Path.{_≡_, refl, sym, _∙_}
-use mathlib.Core.List.{List, [], _∷_}
+use mathlib.Core.Path.{_≡_, refl, _∙_}
 use Prim.Native.Nat.{ℕ}
-use Rattle.definition.specs.Syntax as Syntax
-use Rattle.definition.specs.Syntax.{Bytes, Identifier}
+use Rattle.definition.specs.Syntax.{Bytes}
 use Rattle.definition.specs.Reader.{Step, got, fault, onward, byte, many}
 use Rattle.definition.specs.Token.{u32, u64, counted, refType, present, optional}
 use Rattle.definition.specs.Instructions as Instructions

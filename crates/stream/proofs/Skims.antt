@@ -1,17 +1,17 @@
 -- A record of a body that is passed over: what the pass keeps of it, along what the calls of the code answered.
-use mathlib.Core.Path.{_≡_, refl, ap, sym, _∙_}
+use mathlib.Core.Path.{_≡_, refl, ap, _∙_}
 use Prim.Native.Nat.{ℕ, _+_, _-_, _≤_, _<_}
 use mathlib.Core.Bool.{Bool, true, false, not}
-use mathlib.Core.Option.{Option, some}
-use lib.Dec.{eqb, ltb}
+use mathlib.Core.Option.{Option}
+use lib.Dec.{ltb}
 use borrow.Author.Tests.{ltb-true, lt-ltb, le-ltb, ne-eqb}
 use native.Mathlib.Omega.{arith}
-use Rattle.definition.specs.Basic.{Answer, ok, refused}
+use Rattle.definition.specs.Basic.{Answer, ok}
 use Rattle.definition.specs.Syntax as Syntax
 use Rattle.definition.specs.Syntax.{Bytes, Identifier, instr}
 use Rattle.definition.specs.Reader.{Step, got, fault, onward, require, byte, _>>_}
 use Rattle.definition.specs.Token.{identifier, optional, typeUse}
-use Rattle.definition.specs.Instructions.{Form, opening, elsing, ending, calling, operands, plainOf, instruction, formed, formOf, bodyRec}
+use Rattle.definition.specs.Instructions.{opening, elsing, ending, calling, plainOf, instruction, formed, formOf, bodyRec}
 use Rattle.definition.specs.Read.{bodyAfter, openAfter}
 use Rattle.definition.specs.Types.{isShort}
 use Rattle.laws.specs.Steps.{stops}
@@ -21,6 +21,7 @@ use Rattle.token.specs.declared.byte.ByteAt.{ByteAt}
 use Rattle.token.specs.declared.byte.ByteAt.the-variants as B
 use Rattle.token.specs.declared.byte.Skip.{Skip}
 use Rattle.token.specs.declared.byte.Skip.the-variants as S
+use Rattle.token.proofs.Skips.{gave, gave-not}
 use Rattle.typeuse.specs.Views.{useOf, useAt}
 use Rattle.typeuse.specs.declared.TypeUse.{TypeUse}
 use Rattle.typeuse.specs.declared.UseAt.{UseAt}
@@ -32,25 +33,11 @@ use Rattle.instr.specs.Views.{formIs}
 use Rattle.instr.specs.declared.Form as Code
 use Rattle.instr.specs.declared.Form.the-variants as FM
 use Rattle.stream.specs.Uses.{mayUse}
-use Rattle.stream.specs.Pass.{bodyOf, depthOf, recordPast, placeAfter, movedBy, bodyRecordAt}
-use Rattle.stream.specs.Answers.{Kept, an-instr, an-end, keptAt, keptInstr, labelIn, insideAnswer, onPast, refusedHere}
+use Rattle.stream.specs.Pass.{recordPast, placeAfter, movedBy, bodyRecordAt}
+use Rattle.stream.specs.Answers.{Kept, an-end, keptAt, keptInstr, labelIn, insideAnswer, onPast, refusedHere}
 use Rattle.stream.specs.declared.record.InsideAt.{InsideAt}
 use Rattle.stream.specs.declared.record.Place.{Place}
 use Rattle.stream.proofs.Records.{inside}
-
--- ## What was only passed over has been read
-
-record Gave {A : Type 0} (m : Step A) (n : ℕ) : Type 0 where
-  value : A
-  is : m ≡ got value n
-
-gave : {A : Type 0} (m : Step A) (r : Skip) (n : ℕ) → stops m ≡ skip r → r ≡ S.Past n → Gave m n
-gave (got a q) r n e d = let z : q ≡ n = cc in record { value = a; is = rw z }
-gave (fault k) r n e d = let z : _≡_ {A = ℕ} 0 1 = cc in absurd (omega arith)
-
-gave-not : {A : Type 0} (m : Step A) (r : Skip) (n : ℕ) → stops m ≡ skip r → r ≡ S.Fault n → m ≡ fault n
-gave-not (got a q) r n e d = let z : _≡_ {A = ℕ} 0 1 = cc in absurd (omega arith)
-gave-not (fault k) r n e d = let z : k ≡ n = cc in rw z
 
 -- ## The label of an else or an end
 

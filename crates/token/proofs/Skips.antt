@@ -1,13 +1,12 @@
 -- What is only passed over: where a reader stops, along what the calls of the code answered.
 use mathlib.Core.Path.{_≡_, refl, ap, _∙_}
 use mathlib.Core.Bool.{Bool, true, false}
-use mathlib.Core.List.{List, [], _∷_}
 use Prim.Native.Nat.{ℕ}
-use lib.Dec.{eqb, leb}
+use lib.Dec.{leb}
 use borrow.Author.Tests.{ne-eqb}
 use native.Mathlib.Omega.{arith}
-use Rattle.definition.specs.Syntax.{Bytes, Index, Identifier, absent}
-use Rattle.definition.specs.Reader.{Step, got, fault, Reader, onward, require, give, byte, many, choose}
+use Rattle.definition.specs.Syntax.{Bytes}
+use Rattle.definition.specs.Reader.{Step, got, fault, onward, require, byte, many}
 use Rattle.definition.specs.Token.{u32, upTo, idByte, identifier, identifier₁, numberIndex, namedIndex, present, optional}
 use Rattle.laws.specs.Steps.{stops}
 use Rattle.leb.specs.Views.{u32At}
@@ -24,14 +23,25 @@ pub stops-made : {A B : Type 0} (f : A → B) (m : Step A) → stops (onward (λ
 stops-made f (got a next) = refl
 stops-made f (fault n) = refl
 
--- one was passed, and the rest stops there whatever it gave
+-- what was passed over has been read
+pub record Gave {A : Type 0} (m : Step A) (n : ℕ) : Type 0 where
+  pub value : A
+  pub is : m ≡ got value n
+
+pub gave : {A : Type 0} (m : Step A) (r : Skip) (n : ℕ) → stops m ≡ skip r → r ≡ S.Past n → Gave m n
+gave (got a q) r n e d = let z : q ≡ n = cc in record { value = a; is = rw z }
+gave (fault k) r n e d = let z : _≡_ {A = ℕ} 0 1 = cc in absurd (omega arith)
+
+pub gave-not : {A : Type 0} (m : Step A) (r : Skip) (n : ℕ) → stops m ≡ skip r → r ≡ S.Fault n → m ≡ fault n
+gave-not (got a q) r n e d = let z : _≡_ {A = ℕ} 0 1 = cc in absurd (omega arith)
+gave-not (fault k) r n e d = let z : k ≡ n = cc in rw z
+
+-- and the rest stops from there on, whatever it gave
 pub stops-then : {A B : Type 0} (k : A → ℕ → Step B) (x : Step (Unit {0})) (m : Step A) (r : Skip) (n : ℕ) → stops m ≡ skip r → r ≡ S.Past n → ((a : A) → stops (k a n) ≡ x) → stops (onward k m) ≡ x
-stops-then k x (got a q) r n e d p = let z : q ≡ n = cc in rw z (p a)
-stops-then k x (fault f) r n e d p = let z : _≡_ {A = ℕ} 0 1 = cc in absurd (omega arith)
+stops-then k x m r n e d p = let g = gave m r n e d in rw (g .is) (p (g .value))
 
 pub stops-not : {A B : Type 0} (k : A → ℕ → Step B) (m : Step A) (r : Skip) (n : ℕ) → stops m ≡ skip r → r ≡ S.Fault n → stops (onward k m) ≡ fault n
-stops-not k (got a q) r n e d = let z : _≡_ {A = ℕ} 0 1 = cc in absurd (omega arith)
-stops-not k (fault f) r n e d = let z : f ≡ n = cc in rw z
+stops-not k m r n e d = rw (gave-not m r n e d)
 
 -- ## Identifiers
 

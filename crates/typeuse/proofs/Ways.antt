@@ -1,5 +1,5 @@
 -- How `search` follows the definition past an answer of this crate, and past one that is only passed over.
-use mathlib.Core.Path.{_≡_, refl, ap, _∙_}
+use mathlib.Core.Path.{_≡_, ap, _∙_}
 use mathlib.Core.List.{List}
 use Prim.Native.Nat.{ℕ}
 use Rattle.definition.specs.Syntax as Syntax
