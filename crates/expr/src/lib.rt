@@ -1,6 +1,9 @@
 // Instructions that open and close no block and have no type use, and constants.
+pub mod pass;
+
 use leb::U32;
 use leb::U64;
+pub use pass::pass_plain;
 use token::ByteAt;
 use token::Index;
 use token::IndexAt;

@@ -1,6 +1,7 @@
 pub mod Model
 pub mod Counts
 pub mod Records
+pub mod Skims
 pub mod Steps
 pub mod Lent
 pub mod LentTypes

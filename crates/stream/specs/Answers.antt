@@ -2,10 +2,13 @@
 use Prim.Native.Nat.{ℕ, _+_, _*_}
 use mathlib.Core.Bool.{Bool}
 use mathlib.Core.List.{List}
+use mathlib.Core.Option.{Option}
 use lib.Dec.{ltb}
 use lib.ListN.{set}
 use Rattle.definition.specs.Basic.{if_then_else_, Answer, ok, refused}
-use Rattle.definition.specs.Syntax.{Bytes, Identifier, Rec, field, instr, bodyEnd}
+use Rattle.definition.specs.Syntax.{Bytes, Identifier, Instr, Rec, field, instr, bodyEnd}
+use Rattle.definition.specs.Reader.{Step, got, fault, Reader, _>>_, require}
+use Rattle.definition.specs.Token.{identifier}
 use Rattle.sources.specs.declared.source.Own.{Own}
 use Rattle.sources.specs.declared.source.Own.the-variants as O
 use Rattle.sources.specs.declared.source.Source.{Source}
@@ -20,7 +23,7 @@ use Rattle.stream.specs.declared.record.Inside.{Inside}
 use Rattle.stream.specs.declared.record.Inside.the-variants as N
 use Rattle.stream.specs.declared.record.InsideAt.{InsideAt}
 use Rattle.stream.specs.Uses.{mayUse}
-use Rattle.stream.specs.Pass.{recordPast}
+use Rattle.stream.specs.Pass.{recordPast, placeAfter}
 
 -- outside a body
 abbrev pub outsideAnswer : Bytes → Outside → Place → Answer (Rec Identifier) × Place
@@ -50,9 +53,21 @@ insideAnswer (N.On u) q = (ok (an-instr u), q)
 insideAnswer N.End q = (ok an-end, q)
 insideAnswer (N.Refused n) q = (refused n (q .rec), q)
 
--- an instruction was read
+-- the same of an instruction
+abbrev pub keptInstr : Place → Step (Instr Identifier) → Answer Kept × Place
+keptInstr p (got x next) = (ok (an-instr (mayUse x)), placeAfter p (instr x) next)
+keptInstr p (fault n) = (refused n (p .rec), p)
+
+-- the label of an else or an end where `k` blocks are open
+unfoldable pub labelIn : ℕ → Reader (Option Identifier)
+labelIn k = require 8 (ltb 0 k) >> identifier
+
+-- an instruction was passed, or refused
 unfoldable pub onPast : Place → ℕ → ℕ → Bool → InsideAt
 onPast p next depth u = record { what = N.On u; place = recordPast p next depth }
+
+unfoldable pub refusedHere : Place → ℕ → InsideAt
+refusedHere p n = record { what = N.Refused n; place = p }
 
 -- how deep the place after a field stands: in the body of an own function, or outside
 abbrev pub ownDepth : Own → ℕ

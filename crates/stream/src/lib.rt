@@ -3,6 +3,7 @@ pub mod counting;
 pub mod export;
 pub mod pass;
 pub mod record;
+mod skim;
 mod thin;
 
 pub use counting::with_field;

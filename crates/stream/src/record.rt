@@ -1,12 +1,11 @@
 // One record at the running place, and the place after it.
 use fields::Field;
 use fields::FieldAt;
-use instr::BodyAt;
 use instr::Form;
-use instr::Instr;
 use sources::Own;
 use sources::Seen;
 use sources::Source;
+use token::ByteAt;
 ghost use mathlib.Core.Path.{_≡_};
 ghost use Prim.Native.Nat.{_≤_, _<_};
 ghost use lib.ListN.{getD};
@@ -14,7 +13,7 @@ ghost use Rattle.definition.specs.Basic.{if_then_else_};
 ghost use Rattle.definition.specs.Read as Read;
 ghost use Rattle.sources.specs.Views.{roomOf};
 ghost use Rattle.stream.specs.Pass.{bodyOf, recordPast, fieldRecordAt, bodyRecordAt};
-ghost use Rattle.stream.specs.Answers.{outsideAnswer, keptAt, insideAnswer, onPast, fieldDepth};
+ghost use Rattle.stream.specs.Answers.{outsideAnswer, keptAt, insideAnswer, onPast, refusedHere, fieldDepth};
 
 // The running place: a byte, the number of its record, and how deep it stands: 0 outside a body, in one the number of open blocks and one more.
 pub struct Place {
@@ -172,8 +171,8 @@ pub fn field_record(s: &[u8], p: Place, seen: Seen) -> OutsideAt
     }
 }
 
-// An instruction was read.
-fn on(p: Place, at: usize, depth: u32, uses: bool) -> InsideAt
+// An instruction was passed.
+pub fn on(p: Place, at: usize, depth: u32, uses: bool) -> InsideAt
     requires { ⌜ p .rec < 4096 ⌝ }
     ensures { λ r. ⌜ r ≡ onPast p at depth uses ⌝ }
 {
@@ -182,27 +181,30 @@ fn on(p: Place, at: usize, depth: u32, uses: bool) -> InsideAt
     InsideAt { what, place }
 }
 
-// A record of a body.
+pub fn refused(p: Place, n: u8) -> InsideAt
+    ensures { λ r. ⌜ r ≡ refusedHere p n ⌝ }
+{
+    let what = Inside::Refused(n);
+    InsideAt { what, place: p }
+}
+
+// A record of a body: the byte FF where no block is open, or an instruction.
 pub fn body_record(s: &[u8], p: Place) -> InsideAt
     requires { ⌜ (p .rec < 4096) × (1 ≤ p .depth) ⌝ }
     ensures { λ r. ⌜ keptAt (bodyRecordAt p (now (s .entry))) ≡ insideAnswer (r .what) (r .place) ⌝ }
 {
-    match instr::read_body(s, p.at, p.depth - 1) {
-        BodyAt::Got(i, at) => match i {
-            Instr::Opens(_, _, t) => on(p, at, p.depth + 1, !signatures::is_short(s, t)),
-            Instr::Elses(_) => on(p, at, p.depth, false),
-            Instr::Ends(_) => on(p, at, p.depth - 1, false),
-            Instr::Indirect(_, _) => on(p, at, p.depth, true),
-            Instr::Plain(_) => on(p, at, p.depth, false),
-        },
-        BodyAt::End(at) => {
+    match token::read_byte(s, p.at) {
+        ByteAt::Got(b, at) => {
+            if b != 0xFF {
+                return crate::skim::pass_instr(s, p, at, b);
+            }
+            if 1 < p.depth {
+                return refused(p, 8);
+            }
             let place = after_record(p, at, 0);
             let what = Inside::End;
             InsideAt { what, place }
         }
-        BodyAt::Fault(n) => {
-            let what = Inside::Refused(n);
-            InsideAt { what, place: p }
-        }
+        ByteAt::Fault(n) => refused(p, n),
     }
 }

@@ -2,3 +2,4 @@ pub mod Ways
 pub mod Runs
 pub mod Parts
 pub mod Idchars
+pub mod Skips

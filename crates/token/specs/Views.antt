@@ -1,12 +1,14 @@
 -- What the answers of the readers mean: places of a stream as the definition's values.
 use Prim.Native.Nat.{ℕ}
+use mathlib.Core.List.{[], _∷_}
 use mathlib.Core.Option.{Option, none, some}
-use lib.Dec.{eqb}
+use lib.Dec.{eqb, leb}
 use lib.ListN.{take, drop}
 use Rattle.definition.specs.Basic.{if_then_else_}
 use Rattle.definition.specs.Syntax as Syntax
 use Rattle.definition.specs.Syntax.{Bytes, Identifier, absent, number, named}
-use Rattle.definition.specs.Reader.{Step, got, fault}
+use Rattle.definition.specs.Reader.{Step, got, fault, Reader, _>>=_, _>>_, give, require, choose}
+use Rattle.definition.specs.Token as Token
 use Rattle.token.specs.declared.byte.ByteAt.{ByteAt}
 use Rattle.token.specs.declared.byte.ByteAt.the-variants as B
 use Rattle.token.specs.declared.byte.Skip.{Skip}
@@ -48,6 +50,13 @@ abbrev pub idAt : Bytes → PartAt → Step (Option Identifier)
 idAt s (P.Got p next) = got (idOf s p) next
 idAt s (P.Fault n) = fault n
 
+-- the length of an identifier that must have at least one byte
+unfoldable pub nameLength : Reader ℕ
+nameLength = do
+  n ← Token.upTo 5 64
+  require 5 (leb 1 n)
+  give n
+
 abbrev pub spaceOf : Space → Syntax.Space
 spaceOf K.Funcs = Syntax.funcs
 spaceOf K.Tables = Syntax.tables
@@ -65,3 +74,7 @@ indexOf s (X.Named p) = named (partOf s p)
 abbrev pub indexAt : Bytes → IndexAt → Step (Syntax.Index Identifier)
 indexAt s (XA.Got x next) = got (indexOf s x) next
 indexAt s (XA.Fault n) = fault n
+
+-- an index that is present, after the byte that says how it is given
+unfoldable pub given : ℕ → Reader (Syntax.Index Identifier)
+given b = choose b ((1, Token.numberIndex) ∷ (2, Token.namedIndex) ∷ [])

@@ -1,11 +1,13 @@
 // Indices: absent, a number, or an identifier.
 use crate::byte::ByteAt;
+use crate::byte::Skip;
 use crate::text::Part;
 use crate::text::PartAt;
 use leb::U32;
 ghost use mathlib.Core.Path.{_≡_};
 ghost use Rattle.definition.specs.Token as Token;
-ghost use Rattle.token.specs.Views.{indexAt};
+ghost use Rattle.laws.specs.Steps.{stops};
+ghost use Rattle.token.specs.Views.{indexAt, given, skip};
 
 // The index spaces of a module.
 pub enum Space {
@@ -83,5 +85,52 @@ pub fn read_optional(s: &[u8], at: usize) -> IndexAt
             IndexAt::Fault(4)
         }
         ByteAt::Fault(e) => IndexAt::Fault(e),
+    }
+}
+
+// A number, passed over.
+pub fn pass_u32(s: &[u8], at: usize) -> Skip
+    ensures { λ r. ⌜ stops (Token.u32 (now (s .entry)) at) ≡ skip r ⌝ }
+{
+    match leb::read_u32(s, at) {
+        U32::Got(_, next) => Skip::Past(next),
+        U32::Fault(e) => Skip::Fault(e),
+    }
+}
+
+// An index that is present, after the byte that says how it is given.
+fn pass_given(s: &[u8], at: usize, b: u8) -> Skip
+    ensures { λ r. ⌜ stops (given b (now (s .entry)) at) ≡ skip r ⌝ }
+{
+    if b == 1 {
+        return pass_u32(s, at);
+    }
+    if b == 2 {
+        return crate::text::pass_name(s, at);
+    }
+    Skip::Fault(4)
+}
+
+// The two kinds of index, passed over.
+pub fn pass_present(s: &[u8], at: usize) -> Skip
+    ensures { λ r. ⌜ stops (Token.present (now (s .entry)) at) ≡ skip r ⌝ }
+{
+    match crate::byte::read_byte(s, at) {
+        ByteAt::Got(b, next) => pass_given(s, next, b),
+        ByteAt::Fault(e) => Skip::Fault(e),
+    }
+}
+
+pub fn pass_optional(s: &[u8], at: usize) -> Skip
+    ensures { λ r. ⌜ stops (Token.optional (now (s .entry)) at) ≡ skip r ⌝ }
+{
+    match crate::byte::read_byte(s, at) {
+        ByteAt::Got(b, next) => {
+            if b == 0 {
+                return Skip::Past(next);
+            }
+            pass_given(s, next, b)
+        }
+        ByteAt::Fault(e) => Skip::Fault(e),
     }
 }

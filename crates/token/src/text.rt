@@ -4,8 +4,9 @@ use leb::U32;
 ghost use mathlib.Core.Path.{_≡_};
 ghost use Rattle.definition.specs.Reader as Reader;
 ghost use Rattle.definition.specs.Token as Token;
+ghost use Rattle.laws.specs.Steps.{stops};
 ghost use Rattle.leb.specs.Views.{u32At};
-ghost use Rattle.token.specs.Views.{partOf, partAt, idAt};
+ghost use Rattle.token.specs.Views.{partOf, partAt, idAt, nameLength, skip};
 
 // A part of the stream: where its first byte stands, and how many there are.
 pub struct Part {
@@ -64,21 +65,51 @@ pub fn read_identifier(s: &[u8], at: usize) -> PartAt
     }
 }
 
-// An identifier of length at least 1.
-pub fn read_name(s: &[u8], at: usize) -> PartAt
-    ensures { λ r. ⌜ Token.identifier₁ (now (s .entry)) at ≡ partAt (now (s .entry)) r ⌝ }
+// The length of an identifier that must have at least one byte.
+fn name_length(s: &[u8], at: usize) -> U32
+    ensures { λ r. ⌜ nameLength (now (s .entry)) at ≡ u32At r ⌝ }
 {
     match up_to(s, at, 5, 64) {
         U32::Got(len, next) => {
             if len < 1 {
-                return PartAt::Fault(5);
-            }
-            match crate::byte::pass_idchars(s, next, len) {
-                Skip::Past(after) => PartAt::Got(Part { at: next, len }, after),
-                Skip::Fault(e) => PartAt::Fault(e),
+                U32::Fault(5)
+            } else {
+                U32::Got(len, next)
             }
         }
+        U32::Fault(e) => U32::Fault(e),
+    }
+}
+
+// An identifier of length at least 1.
+pub fn read_name(s: &[u8], at: usize) -> PartAt
+    ensures { λ r. ⌜ Token.identifier₁ (now (s .entry)) at ≡ partAt (now (s .entry)) r ⌝ }
+{
+    match name_length(s, at) {
+        U32::Got(len, next) => match crate::byte::pass_idchars(s, next, len) {
+            Skip::Past(after) => PartAt::Got(Part { at: next, len }, after),
+            Skip::Fault(e) => PartAt::Fault(e),
+        },
         U32::Fault(e) => PartAt::Fault(e),
+    }
+}
+
+// The two of them, passed over.
+pub fn pass_identifier(s: &[u8], at: usize) -> Skip
+    ensures { λ r. ⌜ stops (Token.identifier (now (s .entry)) at) ≡ skip r ⌝ }
+{
+    match up_to(s, at, 5, 64) {
+        U32::Got(len, next) => crate::byte::pass_idchars(s, next, len),
+        U32::Fault(e) => Skip::Fault(e),
+    }
+}
+
+pub fn pass_name(s: &[u8], at: usize) -> Skip
+    ensures { λ r. ⌜ stops (Token.identifier₁ (now (s .entry)) at) ≡ skip r ⌝ }
+{
+    match name_length(s, at) {
+        U32::Got(len, next) => crate::byte::pass_idchars(s, next, len),
+        U32::Fault(e) => Skip::Fault(e),
     }
 }
 

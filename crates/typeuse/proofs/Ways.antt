@@ -1,5 +1,5 @@
 -- How `search` follows the definition past an answer of this crate, and past one that is only passed over.
-use mathlib.Core.Path.{_≡_, refl, ap, _∙_}
+use mathlib.Core.Path.{_≡_, ap, _∙_}
 use mathlib.Core.List.{List}
 use Prim.Native.Nat.{ℕ}
 use Rattle.definition.specs.Syntax as Syntax
@@ -7,7 +7,7 @@ use Rattle.definition.specs.Syntax.{Bytes, Identifier}
 use Rattle.definition.specs.Reader.{Step, got, fault, Reader, onward}
 use Rattle.definition.specs.Token as Token
 use Rattle.laws.specs.Steps.{stops}
-use Rattle.token.specs.Views.{byteAt, partAt, indexAt, skip}
+use Rattle.token.specs.Views.{byteAt, partAt, skip}
 use Rattle.token.specs.declared.byte.ByteAt.{ByteAt}
 use Rattle.token.specs.declared.byte.ByteAt.the-variants as B
 use Rattle.token.specs.declared.byte.Skip.{Skip}
@@ -15,9 +15,7 @@ use Rattle.token.specs.declared.byte.Skip.the-variants as S
 use Rattle.token.specs.declared.text.Part.{Part}
 use Rattle.token.specs.declared.text.PartAt.{PartAt}
 use Rattle.token.specs.declared.text.PartAt.the-variants as P
-use Rattle.token.specs.declared.index.Index.{Index}
-use Rattle.token.specs.declared.index.IndexAt.{IndexAt}
-use Rattle.token.specs.declared.index.IndexAt.the-variants as XA
+use Rattle.token.proofs.Skips.{stops-made, stops-then, stops-not}
 use Rattle.typeuse.specs.Views.{localOf, localAt, listOf, listAt, useOf, useAt, elem}
 use Rattle.typeuse.specs.declared.Local.{Local}
 use Rattle.typeuse.specs.declared.LocalAt.{LocalAt}
@@ -55,29 +53,27 @@ pub ruleset use-answers = (local-got, local-not, list-got, list-not, use-got, us
 -- ## An answer whose value is not needed
 
 module _ (s : Bytes) where
-  pub local-past : (m : Step (Syntax.Local Identifier)) (r : LocalAt) (a : Local) (n : ℕ) → m ≡ localAt s r → r ≡ OA.Got a n → stops m ≡ got tt n
-  local-past m r a n e d = rw (e, d)
-
-  pub local-stops : (m : Step (Syntax.Local Identifier)) (r : LocalAt) (n : ℕ) → m ≡ localAt s r → r ≡ OA.Fault n → stops m ≡ fault n
-  local-stops m r n e d = rw (e, d)
-
   pub part-past : (m : Step Bytes) (r : PartAt) (a : Part) (n : ℕ) → m ≡ partAt s r → r ≡ P.Got a n → stops m ≡ got tt n
   part-past m r a n e d = rw (e, d)
 
   pub part-stops : (m : Step Bytes) (r : PartAt) (n : ℕ) → m ≡ partAt s r → r ≡ P.Fault n → stops m ≡ fault n
   part-stops m r n e d = rw (e, d)
 
-  pub index-past : (m : Step (Syntax.Index Identifier)) (r : IndexAt) (a : Index) (n : ℕ) → m ≡ indexAt s r → r ≡ XA.Got a n → stops m ≡ got tt n
-  index-past m r a n e d = rw (e, d)
-
-  pub index-stops : (m : Step (Syntax.Index Identifier)) (r : IndexAt) (n : ℕ) → m ≡ indexAt s r → r ≡ XA.Fault n → stops m ≡ fault n
-  index-stops m r n e d = rw (e, d)
-
 pub byte-past : (m : Step ℕ) (r : ByteAt) (b n : ℕ) → m ≡ byteAt r → r ≡ B.Got b n → stops m ≡ got tt n
 byte-past m r b n e d = rw (e, d)
 
 pub byte-stops : (m : Step ℕ) (r : ByteAt) (n : ℕ) → m ≡ byteAt r → r ≡ B.Fault n → stops m ≡ fault n
 byte-stops m r n e d = rw (e, d)
+
+-- a parameter: its identifier, and its type
+module _ (s : Bytes) (at : ℕ) (r : Skip) (n : ℕ) (told : stops (Token.identifier s at) ≡ skip r) where
+  pub param-past : (x : Step (Unit {0})) → r ≡ S.Past n → stops (Token.valType s n) ≡ x → stops (Token.param s at) ≡ x
+  unfolding Token.param
+  param-past x d p = stops-then _ x (Token.identifier s at) r n told d (λ i. stops-made _ (Token.valType s n) ∙ p)
+
+  pub param-stops : r ≡ S.Fault n → stops (Token.param s at) ≡ fault n
+  unfolding Token.param
+  param-stops d = stops-not _ (Token.identifier s at) r n told d
 
 -- what a list is of was matched
 module _ (w : Elem) (s : Bytes) (at : ℕ) (x : Step (Unit {0})) where
@@ -93,7 +89,7 @@ module _ (w : Elem) (s : Bytes) (at : ℕ) (x : Step (Unit {0})) where
   pub is-index : w ≡ E.Index → stops (Token.present s at) ≡ x → stops (elem w s at) ≡ x
   is-index d p = rw d p
 
-pub ruleset passed-over = (is-local, is-type, is-string, is-index, local-past, local-stops, part-past, part-stops, index-past, index-stops, byte-past, byte-stops)
+pub ruleset passed-over = (is-local, is-type, is-string, is-index, param-past, param-stops, part-past, part-stops, byte-past, byte-stops)
 
 -- one element of a list was passed, as the call answered
 pub skip-past : {A : Type 0} (m : Step A) (r : Skip) (n : ℕ) → stops m ≡ skip r → r ≡ S.Past n → stops m ≡ got tt n

@@ -44,26 +44,35 @@ pub enum Elem {
     Index,
 }
 
+fn pass_type(s: &[u8], at: usize) -> Skip
+    ensures { λ r. ⌜ stops (Token.valType (now (s .entry)) at) ≡ skip r ⌝ }
+{
+    match coretypes::val_type(s, at) {
+        ByteAt::Got(_, next) => Skip::Past(next),
+        ByteAt::Fault(e) => Skip::Fault(e),
+    }
+}
+
+fn pass_local(s: &[u8], at: usize) -> Skip
+    ensures { λ r. ⌜ stops (Token.param (now (s .entry)) at) ≡ skip r ⌝ }
+{
+    match token::pass_identifier(s, at) {
+        Skip::Past(next) => pass_type(s, next),
+        Skip::Fault(e) => Skip::Fault(e),
+    }
+}
+
 fn pass_one(s: &[u8], at: usize, what: Elem) -> Skip
     ensures { λ r. ⌜ stops (elem what (now (s .entry)) at) ≡ skip r ⌝ }
 {
     match what {
-        Elem::Local => match read_local(s, at) {
-            LocalAt::Got(_, next) => Skip::Past(next),
-            LocalAt::Fault(e) => Skip::Fault(e),
-        },
-        Elem::Type => match coretypes::val_type(s, at) {
-            ByteAt::Got(_, next) => Skip::Past(next),
-            ByteAt::Fault(e) => Skip::Fault(e),
-        },
+        Elem::Local => pass_local(s, at),
+        Elem::Type => pass_type(s, at),
         Elem::String => match token::read_string(s, at) {
             PartAt::Got(_, next) => Skip::Past(next),
             PartAt::Fault(e) => Skip::Fault(e),
         },
-        Elem::Index => match token::read_present(s, at) {
-            IndexAt::Got(_, next) => Skip::Past(next),
-            IndexAt::Fault(e) => Skip::Fault(e),
-        },
+        Elem::Index => token::pass_present(s, at),
     }
 }
 
