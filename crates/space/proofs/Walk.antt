@@ -1,13 +1,13 @@
 -- Plain mathematics of the loops over the work area.
 use Prim.Native.Nat.{ℕ, zero, suc, _+_, _-_, _*_, _≤_, _<_, min}
 use mathlib.Core.Path.{_≡_, refl, sym, _∙_, ap}
-use mathlib.Core.Bool.{Bool, true, false, _&&_}
+use mathlib.Core.Bool.{Bool, true, false, _&&_, false≢true}
 use mathlib.Core.List.{List, [], _∷_, _++_, append-nil}
 use mathlib.Core.Option.{Option, none, some}
 use lib.ListN.{length, getD, set, take, drop, replicate, length-set, drop-of-length-le}
 use lib.Seq.{drop-cons, drop-length, getD-set-same, getD-set-other}
 use lib.Dec.{eqb}
-use borrow.Author.Tests.{eq-eqb, ne-eqb}
+use borrow.Author.Tests.{eqb-true, eqb-false, eq-eqb, ne-eqb}
 use borrow.Author.Fill.{fill-more}
 use mir.Syntax.{w32}
 use mir.Val.{Fits}
@@ -21,7 +21,7 @@ use Rattle.token.specs.Views.{part, partOf, idOf, indexOf}
 use Rattle.token.specs.declared.text.Part.{Part}
 use Rattle.token.specs.declared.index.Index.{Index}
 use Rattle.token.specs.declared.index.Index.the-variants as X
-use Rattle.space.specs.Area.{entry, entryWords, names, labels, found}
+use Rattle.space.specs.Area.{tagOf, entryPart, entry, entryWords, names, labels, found}
 use Rattle.space.specs.declared.table.Found.{Found}
 use Rattle.space.specs.declared.table.Found.the-variants as F
 
@@ -38,6 +38,25 @@ differ (x ∷ xs) (y ∷ ys) h = go (eqb x y) (differ xs ys (λ e. h (ap suc e))
     go : (t : Bool) → false ≡ sameBytes xs ys → false ≡ (t && sameBytes xs ys)
     go true e = e
     go false e = refl
+
+both-true : (a b : Bool) → (a && b) ≡ true → (a ≡ true) × (b ≡ true)
+both-true true b e = (refl, e)
+both-true false b e = (e, absurd (false≢true e))
+
+not-true : (b : Bool) → (b ≡ true → ⊥) → false ≡ b
+not-true true h = absurd (h refl)
+not-true false h = refl
+
+-- equal bytes are the same list
+bytes-are : (xs ys : List ℕ) → sameBytes xs ys ≡ true → xs ≡ ys
+unfolding sameBytes same
+bytes-are [] [] e = refl
+bytes-are [] (y ∷ ys) e = absurd (false≢true e)
+bytes-are (x ∷ xs) [] e = absurd (false≢true e)
+bytes-are (x ∷ xs) (y ∷ ys) e =
+    let h = both-true (eqb x y) (sameBytes xs ys) e in
+    let p = eqb-true x y (h .0) in
+    let q = bytes-are xs ys (h .1) in cc
 
 -- what is left from `i` on decides
 pub record Same (a b : List ℕ) (i : ℕ) : Type 0 where
@@ -69,19 +88,58 @@ module _ {a b : List ℕ} {i : ℕ} (v : Same a b i) (e : length a ≡ length b)
       let q : length b ≤ i = omega arith in
       rw (drop-of-length-le a h, drop-of-length-le b q) at (v .agree)
 
+-- ## Tags
+
+-- the tag of no bytes
+pub tag-none : (bs : List ℕ) → length bs ≡ 0 → 0 ≡ tagOf bs
+unfolding tagOf
+tag-none [] e = refl
+tag-none (b ∷ bs) e = absurd (omega arith)
+
 -- ## One entry
 
-module _ (s w name : List ℕ) (at len : ℕ) (l : len ≡ getD w (at + 1) 0) where
-  -- an entry of length 0 is no identifier
-  pub carries-none : len ≡ 0 → false ≡ carries sameBytes name (entry s w at)
-  unfolding entry
-  carries-none e = rw (sym l) (sym (rw (eq-eqb _ _ e)))
+module _ (s w name : List ℕ) (at tag : ℕ) (g : tag ≡ tagOf name) where
+  -- where the entry's identifier stands, and the test of its tag
+  abbrev there : List ℕ
+  there = partOf s (entryPart w at)
 
-  -- the bytes decide
-  pub carries-same : (r : Bool) (place : ℕ) (other : List ℕ) → (len ≡ 0 → ⊥) → place ≡ getD w at 0 → other ≡ partOf s (record { at = place; len = len })
-      → r ≡ sameBytes name other → r ≡ carries sameBytes name (entry s w at)
+  abbrev fits : Bool
+  fits = eqb (getD w (at + 2) 0) (tagOf there)
+
+  -- an entry of another tag is another name
+  pub carries-other : (getD w (at + 2) 0 ≡ tag → ⊥) → false ≡ carries sameBytes name (entry s w at)
   unfolding entry
-  carries-same r place other h o b e = e ∙ sym (rw (sym l, sym o, b) (rw (ne-eqb _ _ h)))
+  carries-other d = go fits (eqb (getD w (at + 1) 0) 0) (eqb-true _ _)
+    where
+      go : (a b : Bool) → (a ≡ true → getD w (at + 2) 0 ≡ tagOf there) → false ≡ carries sameBytes name (if a then (if b then none else some there) else none)
+      go false b f = refl
+      go true true f = refl
+      go true false f = not-true (sameBytes name there) (λ e. d (f refl ∙ sym (ap tagOf (bytes-are name there e)) ∙ sym g))
+
+  module _ (len : ℕ) (l : len ≡ getD w (at + 1) 0) where
+    -- an entry of length 0 is no identifier
+    pub carries-none : len ≡ 0 → false ≡ carries sameBytes name (entry s w at)
+    unfolding entry
+    carries-none e = go fits (eqb (getD w (at + 1) 0) 0) (eq-eqb _ _ (sym l ∙ e))
+      where
+        go : (a b : Bool) → b ≡ true → false ≡ carries sameBytes name (if a then (if b then none else some there) else none)
+        go false b e = refl
+        go true true e = refl
+        go true false e = absurd (false≢true e)
+
+    -- the bytes decide
+    pub carries-same : (r : Bool) (place : ℕ) (other : List ℕ) → getD w (at + 2) 0 ≡ tag → (len ≡ 0 → ⊥) → place ≡ getD w at 0
+        → other ≡ partOf s (record { at = place; len = len }) → r ≡ sameBytes name other → r ≡ carries sameBytes name (entry s w at)
+    unfolding entry
+    carries-same r place other d h o b e =
+        let k : other ≡ there = rw (sym l, sym o) b in
+        e ∙ rw k (go fits (eqb (getD w (at + 1) 0) 0) (ne-eqb _ _ (rw l at h)) (eqb-false _ _))
+      where
+        go : (a b : Bool) → b ≡ false → (a ≡ false → getD w (at + 2) 0 ≡ tagOf there → ⊥)
+            → sameBytes name there ≡ carries sameBytes name (if a then (if b then none else some there) else none)
+        go true true e f = absurd (false≢true (sym e))
+        go true false e f = refl
+        go false b e f = sym (not-true (sameBytes name there) (λ q. f refl (d ∙ g ∙ ap tagOf (bytes-are name there q))))
 
 -- an entry that was written says its identifier
 part-clipped : (s : List ℕ) (at len : ℕ) → part s (min at (length s)) len ≡ part s at len
@@ -92,16 +150,18 @@ part-clipped s at len = go (decLe at (length s))
     go (yes h) = let e : min at (length s) ≡ at = omega arith in rw e
     go (no h) = let e : min at (length s) ≡ length s = omega arith in let g : length s ≤ at = omega arith in rw (e, drop-length s, drop-of-length-le s g)
 
-pub entry-written : (s w : List ℕ) (at : ℕ) (p : Part) (r : ℕ) → at + 2 < length w → entry s (entryWords s w at p r) at ≡ idOf s p
+pub entry-written : (s w : List ℕ) (at : ℕ) (p : Part) → at + 2 < length w → entry s (entryWords s w at p) at ≡ idOf s p
 unfolding entry entryWords
-entry-written s w at p r h =
+entry-written s w at p h =
+    let r = tagOf (partOf s p) in
     let a = set w at (min (p .at) (length s)) in
     let b = set a (at + 1) (p .len) in
     let la : length a ≡ length w = length-set w at (min (p .at) (length s)) in
     let x : getD (set b (at + 2) r) at 0 ≡ min (p .at) (length s) =
     getD-set-other b (at + 2) at r 0 (λ e. omega arith) ∙ getD-set-other a (at + 1) at (p .len) 0 (λ e. omega arith) ∙ getD-set-same w at _ 0 (omega arith) in
     let y : getD (set b (at + 2) r) (at + 1) 0 ≡ p .len = getD-set-other b (at + 2) (at + 1) r 0 (λ e. omega arith) ∙ getD-set-same a (at + 1) (p .len) 0 (omega arith) in
-    rw (x, y) (ap (λ (l : List ℕ). if eqb (p .len) 0 then none else some l) (part-clipped s (p .at) (p .len)))
+    let z : getD (set b (at + 2) r) (at + 2) 0 ≡ r = getD-set-same b (at + 2) r 0 (rw (length-set a (at + 1) (p .len), la) h) in
+    rw (x, y, z, part-clipped s (p .at) (p .len), eq-eqb r r refl) refl
 
 -- ## Looking along a list
 
@@ -173,7 +233,7 @@ find-begin s w base count name = record {
 
 module _ {s w : List ℕ} {base count : ℕ} {name : List ℕ} {k at : ℕ} (v : Finding s w base count name k at) where
   -- the entry lies in the area
-  pub find-room : base + 3 * count ≤ length w → k < count → at + 1 < length w
+  pub find-room : base + 3 * count ≤ length w → k < count → at + 2 < length w
   find-room p h = omega (arith, v .place)
 
   -- the entry that is next
@@ -209,7 +269,7 @@ out-begin s w base blocks name = record { sum = omega arith; look = look-begin (
 
 module _ {s w : List ℕ} {base blocks : ℕ} {name : List ℕ} {left passed : ℕ} (v : Outward s w base blocks name left passed) where
   -- the entry lies in the area
-  pub out-room : base + 3 * blocks ≤ length w → (left ≡ 0 → ⊥) → base + 3 * (left - 1) + 1 < length w
+  pub out-room : base + 3 * blocks ≤ length w → (left ≡ 0 → ⊥) → base + 3 * (left - 1) + 2 < length w
   out-room p h = omega (arith, v .sum)
 
   -- the block carries the name
@@ -302,9 +362,10 @@ module _ (name : List ℕ) (q : Found) (k : ℕ) (d : q ≡ F.At k) where
 
 -- ## Writing
 
-pub entry-words : (s w : List ℕ) (at place : ℕ) (p : Part) (r : ℕ) → place ≡ min (p .at) (length s) → set (set (set w at place) (at + 1) (p .len)) (at + 2) r ≡ entryWords s w at p r
+pub entry-words : (s w : List ℕ) (at place : ℕ) (p : Part) (name : List ℕ) (tag : ℕ) → place ≡ min (p .at) (length s) → name ≡ partOf s p → tag ≡ tagOf name
+    → set (set (set w at place) (at + 1) (p .len)) (at + 2) tag ≡ entryWords s w at p
 unfolding entryWords
-entry-words s w at place p r e = rw e
+entry-words s w at place p name tag e b t = rw (e, t, b)
 
 module _ (w : List ℕ) (at a : ℕ) (h : at + 2 < length w) where
   -- the second word of an entry lies in the area

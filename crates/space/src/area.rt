@@ -26,15 +26,16 @@ pub fn place_in(s: &[u8], at: usize) -> u32
     s.len() as u32
 }
 
-// An entry is written: an identifier, and the record that defined it.
-pub fn put_name(s: &[u8], work: &mut [u32], at: usize, id: Part, rec: u32)
+// An entry is written: where an identifier stands, and its tag.
+pub fn put_name(s: &[u8], work: &mut [u32], at: usize, id: Part)
     requires { ⌜ (length (now s) ≤ 65536) × (at + 2 < length (now work)) ⌝ }
-    ensures { λ _. ⌜ now (work .exit) ≡ entryWords (now (s .entry)) (now (work .entry)) at id rec ⌝ }
+    ensures { λ _. ⌜ now (work .exit) ≡ entryWords (now (s .entry)) (now (work .entry)) at id ⌝ }
 {
     let place = place_in(s, id.at);
+    let tag = crate::name::tag_of(token::bytes_of(s, id));
     work[at] = place;
     work[at + 1] = id.len;
-    work[at + 2] = rec;
+    work[at + 2] = tag;
 }
 
 // Every word becomes 0.

@@ -15,6 +15,7 @@ pub fn label_depth(s: &[u8], work: &[u32], base: usize, blocks: usize, name: &[u
     requires { ⌜ base + 3 * blocks ≤ length (now work) ⌝ }
     ensures { λ r. ⌜ Names.find sameBytes (now (name .entry)) (labels blocks (now (s .entry)) (now (work .entry)) base) ≡ found r ⌝ }
 {
+    let tag = crate::name::tag_of(name);
     let mut left = blocks;
     let mut passed = 0;
     let depth = loop {
@@ -22,7 +23,7 @@ pub fn label_depth(s: &[u8], work: &[u32], base: usize, blocks: usize, name: &[u
             return Found::Nothing;
         }
         left -= 1;
-        if crate::name::carries(s, work, base + 3 * left, name) {
+        if crate::name::carries(s, work, base + 3 * left, tag, name) {
             break passed;
         }
         passed += 1;

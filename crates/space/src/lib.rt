@@ -1,4 +1,4 @@
-// Tables of names in the lent work area, three words to an entry: the place of an identifier in the stream, its length (0: none), and the record that defined it.
+// Tables of names in the lent work area, three words to an entry: the place of an identifier in the stream, its length (0: none), and its tag, which tells nearly every other name apart by one comparison.
 pub mod area;
 pub mod label;
 pub mod name;
@@ -12,6 +12,7 @@ pub use label::depth_of;
 pub use label::label_depth;
 pub use name::carries;
 pub use name::same;
+pub use name::tag_of;
 pub use table::Found;
 pub use table::Resolved;
 pub use table::find_name;

@@ -1,11 +1,25 @@
-// Names compared: with bytes, and with an entry of the work area.
+// Names compared: by their tags, with bytes, and with an entry of the work area.
 use token::Part;
 ghost use mathlib.Core.Path.{_≡_};
 ghost use Prim.Native.Nat.{_+_, _<_};
 ghost use lib.ListN.{length};
 ghost use Rattle.definition.specs.Basic.{sameBytes};
 ghost use Rattle.definition.specs.Names as Names;
-ghost use Rattle.space.specs.Area.{entry};
+ghost use Rattle.space.specs.Area.{entry, tagOf};
+
+// The tag of a name: its length and three of its bytes, in one word.
+pub fn tag_of(name: &[u8]) -> u32
+    ensures { λ r. ⌜ r ≡ tagOf (now (name .entry)) ⌝ }
+{
+    let n = name.len();
+    if n == 0 {
+        return 0;
+    }
+    let first = name[0] as u32;
+    let last = name[n - 1] as u32;
+    let middle = name[n / 2] as u32;
+    (n % 256) as u32 + 256 * first + 65536 * last + 16777216 * middle
+}
 
 // Equal bytes. Other lengths cost one comparison.
 pub fn same(a: &[u8], b: &[u8]) -> bool
@@ -31,11 +45,14 @@ fn wide(x: u32) -> usize
     x as usize
 }
 
-// The entry at a place of the work area carries the name.
-pub fn carries(s: &[u8], work: &[u32], at: usize, name: &[u8]) -> bool
-    requires { ⌜ at + 1 < length (now work) ⌝ }
+// The entry at a place of the work area carries the name, which has this tag. Another tag is another name.
+pub fn carries(s: &[u8], work: &[u32], at: usize, tag: u32, name: &[u8]) -> bool
+    requires { ⌜ (at + 2 < length (now work)) × (tag ≡ tagOf (now name)) ⌝ }
     ensures { λ r. ⌜ r ≡ Names.carries sameBytes (now (name .entry)) (entry (now (s .entry)) (now (work .entry)) at) ⌝ }
 {
+    if work[at + 2] != tag {
+        return false;
+    }
     let len = work[at + 1];
     if len == 0 {
         return false;

@@ -24,10 +24,11 @@ pub fn find_name(s: &[u8], work: &[u32], base: usize, count: usize, name: &[u8])
     requires { ⌜ base + 3 * count ≤ length (now work) ⌝ }
     ensures { λ r. ⌜ Names.find sameBytes (now (name .entry)) (names count (now (s .entry)) (now (work .entry)) base) ≡ found r ⌝ }
 {
+    let tag = crate::name::tag_of(name);
     let mut k = 0;
     let mut at = base;
     while k < count {
-        if crate::name::carries(s, work, at, name) {
+        if crate::name::carries(s, work, at, tag, name) {
             return Found::At(k);
         }
         k += 1;

@@ -6,6 +6,12 @@ use Rattle.space.proofs.area.put_name.Tie as tie
 place-in-requires : tie.Need-place-in-requires
 place-in-requires c κs = search needs
 
+bytes-of-requires : tie.Need-bytes-of-requires
+bytes-of-requires c κs = search needs
+
+tag-of-requires : tie.Need-tag-of-requires
+tag-of-requires c κs = search needs
+
 mul-work : tie.Need-mul-work
 mul-work c = search needs
 
@@ -41,6 +47,8 @@ put-name-spec =
     tie.close
     (tie.spec
     place-in-requires
+    bytes-of-requires
+    tag-of-requires
     mul-work
     slice-write-work
     add-work

@@ -4,10 +4,13 @@ use Rattle.space.proofs.label.label_depth.Statement.{statement}
 use Rattle.space.proofs.label.label_depth.Tie as tie
 
 abbrev Inv-loop : tie.InvT-loop
-Inv-loop s work base blocks name left₀ passed₀ left passed = Outward s work base blocks name left passed
+Inv-loop s work base blocks name tag left₀ passed₀ left passed = Outward s work base blocks name left passed
 
 abbrev μ-loop : tie.MeasureT-loop
-μ-loop s work base blocks name left₀ passed₀ left passed = left
+μ-loop s work base blocks name tag left₀ passed₀ left passed = left
+
+tag-of-requires : tie.Need-tag-of-requires Inv-loop μ-loop
+tag-of-requires c κs = search needs
 
 loop-holds : tie.Need-loop-holds Inv-loop μ-loop
 loop-holds c = search out-begin
@@ -45,6 +48,7 @@ label-depth-spec =
     (tie.spec
     Inv-loop
     μ-loop
+    tag-of-requires
     loop-holds
     returns
     sub-left

@@ -5,10 +5,13 @@ use Rattle.space.proofs.table.find_name.Statement.{statement}
 use Rattle.space.proofs.table.find_name.Tie as tie
 
 abbrev Inv-loop : tie.InvT-loop
-Inv-loop s work base count name k₀ at₀ k at = Finding s work base count name k at
+Inv-loop s work base count name tag k₀ at₀ k at = Finding s work base count name k at
 
 abbrev μ-loop : tie.MeasureT-loop
-μ-loop s work base count name k₀ at₀ k at = count - k
+μ-loop s work base count name tag k₀ at₀ k at = count - k
+
+tag-of-requires : tie.Need-tag-of-requires Inv-loop μ-loop
+tag-of-requires c κs = search needs
 
 loop-holds : tie.Need-loop-holds Inv-loop μ-loop
 loop-holds c = search find-begin
@@ -40,6 +43,7 @@ find-name-spec =
     (tie.spec
     Inv-loop
     μ-loop
+    tag-of-requires
     loop-holds
     carries-requires
     returns
