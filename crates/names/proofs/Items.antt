@@ -93,7 +93,7 @@ module _ (s w : List ℕ) (seen : Seen) (k : Space) (p : Part) (r b n : ℕ) (d 
     unfolding registerIn tableAt
     item-taken y = rw (← e, ← d, ← h, y)
 
-    pub item-put : (w′ : List ℕ) → t ≡ false → w′ ≡ entryWords s w (b + 3 * n) p r → registerIn s w seen r ((k, p) ∷ []) ≡ ok w′
+    pub item-put : (w′ : List ℕ) → t ≡ false → w′ ≡ entryWords s w (b + 3 * n) p → registerIn s w seen r ((k, p) ∷ []) ≡ ok w′
     unfolding registerIn tableAt
     item-put w′ y z = rw (← e, ← d, ← h, y, z)
 
@@ -105,17 +105,17 @@ module _ (s w : List ℕ) (seen : Seen) (r : ℕ) (j : Space) (a : Part) where
   unfolding registerIn
   register-then ps w′ e = go (taken sameBytes (idOf s a) (tableAt seen j s w)) e
     where
-      go : (t : Bool) → (if t then refused 13 r else ok (entryWords s w (base j + 3 * countOf seen j) a r)) ≡ ok w′
-          → (if t then refused 13 r else registerIn s (entryWords s w (base j + 3 * countOf seen j) a r) (oneMore seen j) r ps) ≡ registerIn s w′ (oneMore seen j) r ps
+      go : (t : Bool) → (if t then refused 13 r else ok (entryWords s w (base j + 3 * countOf seen j) a)) ≡ ok w′
+          → (if t then refused 13 r else registerIn s (entryWords s w (base j + 3 * countOf seen j) a) (oneMore seen j) r ps) ≡ registerIn s w′ (oneMore seen j) r ps
       go true e = let z : _≡_ {A = ℕ} 0 1 = cc in absurd (omega arith)
-      go false e = let d : entryWords s w (base j + 3 * countOf seen j) a r ≡ w′ = cc in rw d
+      go false e = let d : entryWords s w (base j + 3 * countOf seen j) a ≡ w′ = cc in rw d
 
   register-stops : (ps : List Entry) (n q : ℕ) → registerIn s w seen r ((j, a) ∷ []) ≡ refused n q → registerIn s w seen r ((j, a) ∷ ps) ≡ refused n q
   unfolding registerIn
   register-stops ps n q e = go (taken sameBytes (idOf s a) (tableAt seen j s w)) e
     where
-      go : (t : Bool) → (if t then refused 13 r else ok (entryWords s w (base j + 3 * countOf seen j) a r)) ≡ refused n q
-          → (if t then refused 13 r else registerIn s (entryWords s w (base j + 3 * countOf seen j) a r) (oneMore seen j) r ps) ≡ refused n q
+      go : (t : Bool) → (if t then refused 13 r else ok (entryWords s w (base j + 3 * countOf seen j) a)) ≡ refused n q
+          → (if t then refused 13 r else registerIn s (entryWords s w (base j + 3 * countOf seen j) a) (oneMore seen j) r ps) ≡ refused n q
       go true e = cc
       go false e = let z : _≡_ {A = ℕ} 0 1 = cc in absurd (omega arith)
 

@@ -123,16 +123,16 @@ base-high k = omega arith
 -- one item more, where it is not taken
 module _ (s w : List ℕ) (seen : Seen) (r : ℕ) (xs : Items Identifier) (h : Holding s w seen xs) (k : Space) (p : Part) (ps : List Entry) (low : countOf seen k < 256) (long : 16384 ≤ length w) where
   abbrev v : List ℕ
-  v = entryWords s w (base k + 3 * countOf seen k) p r
+  v = entryWords s w (base k + 3 * countOf seen k) p
 
   abbrev ys : Items Identifier
   ys = xs ++ ((k, idOf s p) ∷ [])
 
   far : 16384 ≤ length v
-  far = rw (words-length s w (base k + 3 * countOf seen k) p r) long
+  far = rw (words-length s w (base k + 3 * countOf seen k) p) long
 
   stood : Holding s v (oneMore seen k) ys
-  stood = holding-more s w seen xs h k p r low long
+  stood = holding-more s w seen xs h k p low long
 
   went-on : (w′ : List ℕ) → taken sameBytes (idOf s p) (tableAt seen k s w) ≡ false → Went s v (oneMore seen k) r ys ps w′ → Went s w seen r xs ((k, p) ∷ ps) w′
   unfolding partsThen after
@@ -141,7 +141,7 @@ module _ (s w : List ℕ) (seen : Seen) (r : ℕ) (xs : Items Identifier) (h : H
         items = y .items;
         holding = y .holding;
         same = λ fs. rw (h .each k, d) (y .same fs);
-        kept = kept-then (words-kept s w (base k + 3 * countOf seen k) p r 5904 (omega (arith, base-high k))) (y .kept);
+        kept = kept-then (words-kept s w (base k + 3 * countOf seen k) p 5904 (omega (arith, base-high k))) (y .kept);
       }
 
 went : (s w : List ℕ) (seen : Seen) (r : ℕ) (xs : Items Identifier) (ps : List Entry) (w′ : List ℕ)
@@ -149,14 +149,14 @@ went : (s w : List ℕ) (seen : Seen) (r : ℕ) (xs : Items Identifier) (ps : Li
 unfolding registerIn partsThen after Fit
 went s w seen r xs [] w′ h g long e = let d : w ≡ w′ = cc in record { items = xs; holding = rw (← d) h; same = λ fs. refl; kept = rw (← d) (kept-same 5904 w) }
 went s w seen r xs ((k, p) ∷ ps) w′ h g long e =
-    go (λ f. went s (entryWords s w (base k + 3 * countOf seen k) p r) (oneMore seen k) r (xs ++ ((k, idOf s p) ∷ [])) ps w′
+    go (λ f. went s (entryWords s w (base k + 3 * countOf seen k) p) (oneMore seen k) r (xs ++ ((k, idOf s p) ∷ [])) ps w′
     (stood s w seen r xs h k p ps (g .0) long) (g .1) (far s w seen r xs h k p ps (g .0) long) f)
     (taken sameBytes (idOf s p) (tableAt seen k s w)) refl e
   where
-    go : (registerIn s (entryWords s w (base k + 3 * countOf seen k) p r) (oneMore seen k) r ps ≡ ok w′
-        → Went s (entryWords s w (base k + 3 * countOf seen k) p r) (oneMore seen k) r (xs ++ ((k, idOf s p) ∷ [])) ps w′)
+    go : (registerIn s (entryWords s w (base k + 3 * countOf seen k) p) (oneMore seen k) r ps ≡ ok w′
+        → Went s (entryWords s w (base k + 3 * countOf seen k) p) (oneMore seen k) r (xs ++ ((k, idOf s p) ∷ [])) ps w′)
         → (t : Bool) → taken sameBytes (idOf s p) (tableAt seen k s w) ≡ t
-        → (if t then refused 13 r else registerIn s (entryWords s w (base k + 3 * countOf seen k) p r) (oneMore seen k) r ps) ≡ ok w′ → Went s w seen r xs ((k, p) ∷ ps) w′
+        → (if t then refused 13 r else registerIn s (entryWords s w (base k + 3 * countOf seen k) p) (oneMore seen k) r ps) ≡ ok w′ → Went s w seen r xs ((k, p) ∷ ps) w′
     go rest true d f = let z : _≡_ {A = ℕ} 0 1 = cc in absurd (omega arith)
     go rest false d f = went-on s w seen r xs h k p ps (g .0) long w′ d (rest f)
 
@@ -165,13 +165,13 @@ stopped : (s w : List ℕ) (seen : Seen) (r : ℕ) (xs : Items Identifier) (ps :
 unfolding registerIn partsThen Fit
 stopped s w seen r xs [] n q h g long e fs = let z : _≡_ {A = ℕ} 0 1 = cc in absurd (omega arith)
 stopped s w seen r xs ((k, p) ∷ ps) n q h g long e fs =
-    go (λ f. stopped s (entryWords s w (base k + 3 * countOf seen k) p r) (oneMore seen k) r (xs ++ ((k, idOf s p) ∷ [])) ps n q
+    go (λ f. stopped s (entryWords s w (base k + 3 * countOf seen k) p) (oneMore seen k) r (xs ++ ((k, idOf s p) ∷ [])) ps n q
     (stood s w seen r xs h k p ps (g .0) long) (g .1) (far s w seen r xs h k p ps (g .0) long) f fs)
     (taken sameBytes (idOf s p) (tableAt seen k s w)) refl e
   where
-    go : (registerIn s (entryWords s w (base k + 3 * countOf seen k) p r) (oneMore seen k) r ps ≡ refused n q → partsThen s r (xs ++ ((k, idOf s p) ∷ [])) ps fs ≡ refused n q)
+    go : (registerIn s (entryWords s w (base k + 3 * countOf seen k) p) (oneMore seen k) r ps ≡ refused n q → partsThen s r (xs ++ ((k, idOf s p) ∷ [])) ps fs ≡ refused n q)
         → (t : Bool) → taken sameBytes (idOf s p) (tableAt seen k s w) ≡ t
-        → (if t then refused 13 r else registerIn s (entryWords s w (base k + 3 * countOf seen k) p r) (oneMore seen k) r ps) ≡ refused n q
+        → (if t then refused 13 r else registerIn s (entryWords s w (base k + 3 * countOf seen k) p) (oneMore seen k) r ps) ≡ refused n q
         → (if taken sameBytes (idOf s p) (space k xs) then refused 13 r else partsThen s r (xs ++ ((k, idOf s p) ∷ [])) ps fs) ≡ refused n q
     go rest true d f = let a : 13 ≡ n = cc in let b : r ≡ q = cc in rw (h .each k, d, a, b)
     go rest false d f = rw (h .each k, d) (rest f)
@@ -360,7 +360,7 @@ sets-kept n w b (x ∷ xs) h = kept-then (kept-set n b x w h) (sets-kept n (set 
 names-above : (s w : List ℕ) (xs : List ℕ) (n b : ℕ) → 5897 + length xs ≤ b → names n s (sets w 5897 xs) b ≡ names n s w b
 unfolding names entry
 names-above s w xs zero b h = refl
-names-above s w xs (suc n) b h = rw (sets-other w 5897 xs b h, sets-other w 5897 xs (b + 1) (omega arith), names-above s w xs n (b + 3) (omega arith))
+names-above s w xs (suc n) b h = rw (sets-other w 5897 xs b h, sets-other w 5897 xs (b + 1) (omega arith), sets-other w 5897 xs (b + 2) (omega arith), names-above s w xs n (b + 3) (omega arith))
 
 -- all fields were registered, and the counts say how many names there are
 module _ (s w₀ w : List ℕ) (c : Cursor) (v : Registering s w₀ w c) (m : Met) (told : visitIn (c .left) c s ≡ visitOf s m) (is : m .what ≡ W.Done)

@@ -13,12 +13,12 @@ use native.Mathlib.Decide.{decLe}
 use Rattle.definition.specs.Basic.{if_then_else_, Answer, ok, refused, sameBytes}
 use Rattle.definition.specs.Syntax.{Bytes, Identifier, Space, funcs, tables, mems, globals, types, elems, datas, code, sameSpace}
 use Rattle.definition.specs.Names.{Namespace, Items, taken, space}
-use Rattle.token.specs.Views.{idOf}
+use Rattle.token.specs.Views.{partOf, idOf}
 use Rattle.token.specs.declared.text.Part.{Part}
 use Rattle.sources.specs.Views.{countOf, noneSeen}
 use Rattle.sources.specs.declared.seen.Seen.{Seen}
 use Rattle.stream.specs.Counting.{up, oneMore}
-use Rattle.space.specs.Area.{entry, entryWords, names}
+use Rattle.space.specs.Area.{tagOf, entry, entryWords, names}
 use Rattle.space.specs.Kept.{Kept}
 use Rattle.space.proofs.Kept.{kept-set, kept-then, kept-same}
 use Rattle.space.proofs.Walk.{entry-written}
@@ -27,43 +27,45 @@ use Rattle.names.proofs.Items.{base-low}
 
 -- ## Words that are not written
 
-module _ (s w : List ℕ) (at : ℕ) (p : Part) (r : ℕ) where
-  words-other : (i : ℕ) → (i ≡ at → ⊥) → (i ≡ at + 1 → ⊥) → (i ≡ at + 2 → ⊥) → getD (entryWords s w at p r) i 0 ≡ getD w i 0
+module _ (s w : List ℕ) (at : ℕ) (p : Part) where
+  words-other : (i : ℕ) → (i ≡ at → ⊥) → (i ≡ at + 1 → ⊥) → (i ≡ at + 2 → ⊥) → getD (entryWords s w at p) i 0 ≡ getD w i 0
   unfolding entryWords
   words-other i a b c =
       let x = set w at (min (p .at) (length s)) in
-      getD-set-other (set x (at + 1) (p .len)) (at + 2) i r 0 c ∙ getD-set-other x (at + 1) i (p .len) 0 b ∙ getD-set-other w at i (min (p .at) (length s)) 0 a
+      getD-set-other (set x (at + 1) (p .len)) (at + 2) i (tagOf (partOf s p)) 0 c ∙ getD-set-other x (at + 1) i (p .len) 0 b ∙ getD-set-other w at i (min (p .at) (length s)) 0 a
 
-  pub words-length : length (entryWords s w at p r) ≡ length w
+  pub words-length : length (entryWords s w at p) ≡ length w
   unfolding entryWords
   words-length =
       let x = set w at (min (p .at) (length s)) in
-      length-set (set x (at + 1) (p .len)) (at + 2) r ∙ length-set x (at + 1) (p .len) ∙ length-set w at (min (p .at) (length s))
+      length-set (set x (at + 1) (p .len)) (at + 2) (tagOf (partOf s p)) ∙ length-set x (at + 1) (p .len) ∙ length-set w at (min (p .at) (length s))
 
-  pub words-kept : (n : ℕ) → n ≤ at → Kept n w (entryWords s w at p r)
+  pub words-kept : (n : ℕ) → n ≤ at → Kept n w (entryWords s w at p)
   unfolding entryWords
   words-kept n h =
       let x = set w at (min (p .at) (length s)) in
-      kept-then (kept-then (kept-set n at (min (p .at) (length s)) w h) (kept-set n (at + 1) (p .len) x (omega arith))) (kept-set n (at + 2) r (set x (at + 1) (p .len)) (omega arith))
+      kept-then (kept-then (kept-set n at (min (p .at) (length s)) w h) (kept-set n (at + 1) (p .len) x (omega arith))) (kept-set n (at + 2) (tagOf (partOf s p)) (set x (at + 1) (p .len)) (omega arith))
 
   -- a table that ends before the entry, or begins after it
-  pub names-low : (n b : ℕ) → b + 3 * n ≤ at → names n s (entryWords s w at p r) b ≡ names n s w b
+  pub names-low : (n b : ℕ) → b + 3 * n ≤ at → names n s (entryWords s w at p) b ≡ names n s w b
   unfolding names entry
   names-low zero b h = refl
   names-low (suc n) b h =
       rw (
         words-other b (λ e. omega arith) (λ e. omega arith) (λ e. omega arith),
         words-other (b + 1) (λ e. omega arith) (λ e. omega arith) (λ e. omega arith),
+        words-other (b + 2) (λ e. omega arith) (λ e. omega arith) (λ e. omega arith),
         names-low n (b + 3) (omega arith),
       )
 
-  names-high : (n b : ℕ) → at + 3 ≤ b → names n s (entryWords s w at p r) b ≡ names n s w b
+  names-high : (n b : ℕ) → at + 3 ≤ b → names n s (entryWords s w at p) b ≡ names n s w b
   unfolding names entry
   names-high zero b h = refl
   names-high (suc n) b h =
       rw (
         words-other b (λ e. omega arith) (λ e. omega arith) (λ e. omega arith),
         words-other (b + 1) (λ e. omega arith) (λ e. omega arith) (λ e. omega arith),
+        words-other (b + 2) (λ e. omega arith) (λ e. omega arith) (λ e. omega arith),
         names-high n (b + 3) (omega arith),
       )
 
@@ -100,9 +102,9 @@ apart : (k j : Space) (n m : ℕ) → n ≤ 256 → m < 256 → (code k ≡ code
 unfolding base
 apart k j n m h g d e = omega arith
 
-module _ (s w : List ℕ) (seen : Seen) (xs : Items Identifier) (h : Holding s w seen xs) (j : Space) (p : Part) (r : ℕ) (low : countOf seen j < 256) (long : 16384 ≤ length w) where
+module _ (s w : List ℕ) (seen : Seen) (xs : Items Identifier) (h : Holding s w seen xs) (j : Space) (p : Part) (low : countOf seen j < 256) (long : 16384 ≤ length w) where
   abbrev w′ : List ℕ
-  w′ = entryWords s w (base j + 3 * countOf seen j) p r
+  w′ = entryWords s w (base j + 3 * countOf seen j) p
 
   count-same : (k : Space) → code k ≡ code j → countOf (oneMore seen j) k ≡ countOf seen k + 1
   unfolding oneMore up
@@ -119,9 +121,9 @@ module _ (s w : List ℕ) (seen : Seen) (xs : Items Identifier) (h : Holding s w
   table-same k d =
       let c : countOf (oneMore seen j) k ≡ suc (countOf seen k) = count-same k d ∙ omega arith in
       let e : countOf seen k ≡ countOf seen j = ap (λ n. getD (seen .counts) n 0) d in
-      let a : names (countOf seen k) s w′ (base k) ≡ names (countOf seen k) s w (base k) = names-low s w (base j + 3 * countOf seen j) p r (countOf seen k) (base k) (omega arith) in
+      let a : names (countOf seen k) s w′ (base k) ≡ names (countOf seen k) s w (base k) = names-low s w (base j + 3 * countOf seen j) p (countOf seen k) (base k) (omega arith) in
       let g : base k + 3 * countOf seen k ≡ base j + 3 * countOf seen j = omega arith in
-      let b : entry s w′ (base k + 3 * countOf seen k) ≡ idOf s p = rw g (entry-written s w (base j + 3 * countOf seen j) p r (omega (arith, base-low j))) in
+      let b : entry s w′ (base k + 3 * countOf seen k) ≡ idOf s p = rw g (entry-written s w (base j + 3 * countOf seen j) p (omega (arith, base-low j))) in
       rw (c, names-snoc (countOf seen k) s w′ (base k), a, b) refl
 
   table-other : (k : Space) → (code k ≡ code j → ⊥) → tableAt (oneMore seen j) k s w′ ≡ tableAt seen k s w
@@ -129,8 +131,8 @@ module _ (s w : List ℕ) (seen : Seen) (xs : Items Identifier) (h : Holding s w
   table-other k d = rw (count-other k d) (go (decLe (base k + 3 * countOf seen k) (base j + 3 * countOf seen j)))
     where
       go : Dec (base k + 3 * countOf seen k ≤ base j + 3 * countOf seen j) → names (countOf seen k) s w′ (base k) ≡ names (countOf seen k) s w (base k)
-      go (yes e) = names-low s w (base j + 3 * countOf seen j) p r (countOf seen k) (base k) e
-      go (no e) = names-high s w (base j + 3 * countOf seen j) p r (countOf seen k) (base k) (apart k j (countOf seen k) (countOf seen j) (h .few k) low d e)
+      go (yes e) = names-low s w (base j + 3 * countOf seen j) p (countOf seen k) (base k) e
+      go (no e) = names-high s w (base j + 3 * countOf seen j) p (countOf seen k) (base k) (apart k j (countOf seen k) (countOf seen j) (h .few k) low d e)
 
   pub holding-more : Holding s w′ (oneMore seen j) (xs ++ ((j, idOf s p) ∷ []))
   unfolding space

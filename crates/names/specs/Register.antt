@@ -46,7 +46,7 @@ unfoldable pub registerIn : Bytes → List ℕ → Seen → ℕ → List Entry �
 registerIn s w seen r [] = ok w
 registerIn s w seen r ((k, p) ∷ ps) =
     if taken sameBytes (idOf s p) (tableAt seen k s w) then refused 13 r else
-    registerIn s (entryWords s w (base k + 3 * countOf seen k) p r) (oneMore seen k) r ps
+    registerIn s (entryWords s w (base k + 3 * countOf seen k) p) (oneMore seen k) r ps
 
 -- no identifier
 abbrev pub nameless : Part

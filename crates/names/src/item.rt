@@ -49,7 +49,7 @@ fn register_item(s: &[u8], work: &mut [u32], seen: Seen, k: Space, id: Part, rec
     if is_taken(s, work, base, count, id) {
         return Registered::Refused(13, rec);
     }
-    space::put_name(s, work, base + 3 * count, id, rec);
+    space::put_name(s, work, base + 3 * count, id);
     Registered::Done
 }
 
