@@ -27,9 +27,9 @@ use Rattle.scope.specs.declared.Locals.{Locals}
 -- ## Words that are kept
 
 module _ (s w w′ : List ℕ) (m : ℕ) (k : Kept m w w′) where
-  pub entry-kept : (i : ℕ) → i + 1 < m → entry s w′ i ≡ entry s w i
+  pub entry-kept : (i : ℕ) → i + 2 < m → entry s w′ i ≡ entry s w i
   unfolding entry
-  entry-kept i h = rw (kept-word k i (omega arith), kept-word k (i + 1) h)
+  entry-kept i h = rw (kept-word k i (omega arith), kept-word k (i + 1) (omega arith), kept-word k (i + 2) h)
 
   pub names-kept : (n b : ℕ) → b + 3 * n ≤ m → names n s w′ b ≡ names n s w b
   unfolding names
@@ -92,11 +92,11 @@ recalled-scope s w w′ us k u = rw (types-kept s w w′ 11280 k (omega arith)) 
 -- ## One more entry
 
 -- a block opens: its label is the innermost
-pub labels-open : (s w : List ℕ) (k : ℕ) (p : Part) (r : ℕ) → 11920 + 3 * k + 2 < length w → labelsIn s (entryWords s w (11920 + 3 * k) p r) (k + 1) ≡ idOf s p ∷ labelsIn s w k
+pub labels-open : (s w : List ℕ) (k : ℕ) (p : Part) → 11920 + 3 * k + 2 < length w → labelsIn s (entryWords s w (11920 + 3 * k) p) (k + 1) ≡ idOf s p ∷ labelsIn s w k
 unfolding labelsIn labels
-labels-open s w k p r h =
+labels-open s w k p h =
     let i = 11920 + 3 * k in
-    rw (add-one, entry-written s w i p r h) (ap (λ (l : Namespace Identifier). idOf s p ∷ l) (labels-kept s w (entryWords s w i p r) i (words-kept s w i p r i (omega arith)) k (omega arith)))
+    rw (add-one, entry-written s w i p h) (ap (λ (l : Namespace Identifier). idOf s p ∷ l) (labels-kept s w (entryWords s w i p) i (words-kept s w i p i (omega arith)) k (omega arith)))
 
 -- a block closes
 pub labels-close : (s w : List ℕ) (k : ℕ) → tail (labelsIn s w k) ≡ labelsIn s w (k - 1)
@@ -116,10 +116,10 @@ unfolding localsIn names
 locals-none s w n = append-nil (replicate n none)
 
 -- one local more
-pub locals-more : (s w : List ℕ) (l : Locals) (p : Part) (r : ℕ) → 11536 + 3 * l .count + 2 < length w
-    → localsIn s (entryWords s w (11536 + 3 * l .count) p r) (record { nameless = l .nameless; count = l .count + 1 }) ≡ localsIn s w l ++ (idOf s p ∷ [])
+pub locals-more : (s w : List ℕ) (l : Locals) (p : Part) → 11536 + 3 * l .count + 2 < length w
+    → localsIn s (entryWords s w (11536 + 3 * l .count) p) (record { nameless = l .nameless; count = l .count + 1 }) ≡ localsIn s w l ++ (idOf s p ∷ [])
 unfolding localsIn
-locals-more s w l p r h =
+locals-more s w l p h =
     let i = 11536 + 3 * l .count in
-    let a : names (l .count) s (entryWords s w i p r) 11536 ≡ names (l .count) s w 11536 = names-kept s w (entryWords s w i p r) i (words-kept s w i p r i (omega arith)) (l .count) 11536 (omega arith) in
-    rw (add-one, names-snoc (l .count) s (entryWords s w i p r) 11536, a, entry-written s w i p r h) (sym (append-assoc (replicate (l .nameless) none) (names (l .count) s w 11536) (idOf s p ∷ [])))
+    let a : names (l .count) s (entryWords s w i p) 11536 ≡ names (l .count) s w 11536 = names-kept s w (entryWords s w i p) i (words-kept s w i p i (omega arith)) (l .count) 11536 (omega arith) in
+    rw (add-one, names-snoc (l .count) s (entryWords s w i p) 11536, a, entry-written s w i p h) (sym (append-assoc (replicate (l .nameless) none) (names (l .count) s w 11536) (idOf s p ∷ [])))

@@ -20,7 +20,7 @@ use Rattle.scope.specs.Scope.{scopeIn, labelsIn}
 pub label-table : (w : List ℕ) (k : ℕ) → 16384 ≤ length w → k ≤ 128 → 11920 + 3 * k ≤ length w
 label-table w k h l = omega arith
 
-pub label-entry : (w : List ℕ) (k : ℕ) → 16384 ≤ length w → k ≤ 128 → 11920 + 3 * (k - 1) + 1 < length w
+pub label-entry : (w : List ℕ) (k : ℕ) → 16384 ≤ length w → k ≤ 128 → 11920 + 3 * (k - 1) + 2 < length w
 label-entry w k h l = omega arith
 
 -- ## Depths

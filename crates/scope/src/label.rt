@@ -45,8 +45,9 @@ pub fn closes(s: &[u8], work: &[u32], k: u32, label: Part, rec: u32) -> Closed
         return Closed::Yes;
     }
     let name = token::bytes_of(s, label);
+    let tag = space::tag_of(name);
     let outer = k - 1;
-    if space::carries(s, work, 11920 + 3 * (outer as usize), name) {
+    if space::carries(s, work, 11920 + 3 * (outer as usize), tag, name) {
         return Closed::Yes;
     }
     Closed::Refused(17, rec)

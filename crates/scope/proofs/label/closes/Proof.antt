@@ -12,6 +12,9 @@ returns-2 c = search (closings) depth 12
 bytes-of-requires : tie.Need-bytes-of-requires
 bytes-of-requires c κs = search needs
 
+tag-of-requires : tie.Need-tag-of-requires
+tag-of-requires c κs = search needs
+
 sub-outer : tie.Need-sub-outer
 sub-outer c = search needs
 
@@ -40,6 +43,7 @@ closes-spec =
     returns
     returns-2
     bytes-of-requires
+    tag-of-requires
     sub-outer
     cast-carries
     mul-carries
