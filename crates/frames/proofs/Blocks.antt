@@ -14,8 +14,8 @@ use Rattle.frames.specs.Blocks.{Opened}
 pub block-entry : (w : List ℕ) (k : ℕ) → 16384 ≤ length w → k < 128 → 11920 + 3 * k + 2 < length w
 block-entry w k h l = omega arith
 
-pub block-opened : (s w : List ℕ) (k : ℕ) (p : Part) (w′ : List ℕ) → w′ ≡ entryWords s w (11920 + 3 * k) p 0 → 16384 ≤ length w → k < 128 → Opened s w k p w′
+pub block-opened : (s w : List ℕ) (k : ℕ) (p : Part) (w′ : List ℕ) → w′ ≡ entryWords s w (11920 + 3 * k) p → 16384 ≤ length w → k < 128 → Opened s w k p w′
 block-opened s w k p w′ e h l = record {
-  labels = rw e (labels-open s w k p 0 (omega arith));
-  kept = rw e (words-kept s w (11920 + 3 * k) p 0 11920 (omega arith));
+  labels = rw e (labels-open s w k p (omega arith));
+  kept = rw e (words-kept s w (11920 + 3 * k) p 11920 (omega arith));
 }

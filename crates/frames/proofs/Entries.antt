@@ -41,19 +41,19 @@ module _ (s w : List ℕ) (count n : ℕ) (p : Part) (rec : ℕ) (e : n ≡ coun
     unfolding PutsOne
     one-taken y = record { twice = rw (← e, ← h) y; number = refl; place = refl; long = refl }
 
-    pub one-put : (w′ : List ℕ) → t ≡ false → w′ ≡ entryWords s w (11536 + 3 * n) p rec → PutsOne s w count p rec (E.Now (count + 1)) w′
+    pub one-put : (w′ : List ℕ) → t ≡ false → w′ ≡ entryWords s w (11536 + 3 * n) p → PutsOne s w count p rec (E.Now (count + 1)) w′
     unfolding PutsOne
     one-put w′ y z = record {
       free = rw (← e, ← h) y;
       entries = rw (z, ← e) (go n one-entry);
       one = refl;
-      kept = rw z (words-kept s w (11536 + 3 * n) p rec 11536 (omega arith));
+      kept = rw z (words-kept s w (11536 + 3 * n) p 11536 (omega arith));
     }
       where
-        go : (n : ℕ) → 11536 + 3 * n + 2 < length w → names (n + 1) s (entryWords s w (11536 + 3 * n) p rec) 11536 ≡ names n s w 11536 ++ (idOf s p ∷ [])
+        go : (n : ℕ) → 11536 + 3 * n + 2 < length w → names (n + 1) s (entryWords s w (11536 + 3 * n) p) 11536 ≡ names n s w 11536 ++ (idOf s p ∷ [])
         go n g =
             let d : n + 1 ≡ suc n = omega arith in
-            rw (d, names-snoc n s (entryWords s w (11536 + 3 * n) p rec) 11536, names-low s w (11536 + 3 * n) p rec n 11536 (omega arith), entry-written s w (11536 + 3 * n) p rec g) refl
+            rw (d, names-snoc n s (entryWords s w (11536 + 3 * n) p) 11536, names-low s w (11536 + 3 * n) p n 11536 (omega arith), entry-written s w (11536 + 3 * n) p g) refl
 
 -- ## The identifiers of a list, one at a time
 

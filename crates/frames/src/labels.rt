@@ -9,5 +9,5 @@ pub fn open_block(s: &[u8], work: &mut [u32], k: u32, label: Part)
     requires { ⌜ (length (now s) ≤ 65536) × (16384 ≤ length (now work)) × (k < 128) ⌝ }
     ensures { λ _. ⌜ Opened (now (s .entry)) (now (work .entry)) k label (now (work .exit)) ⌝ }
 {
-    space::put_name(s, work, 11920 + 3 * (k as usize), label, 0);
+    space::put_name(s, work, 11920 + 3 * (k as usize), label);
 }

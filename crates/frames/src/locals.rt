@@ -30,7 +30,7 @@ fn put_local(s: &[u8], work: &mut [u32], count: u32, id: Part, rec: u32) -> Entr
     if names::item::is_taken(s, work, 11536, n, id) {
         return EntriesAt::Refused(13, rec);
     }
-    space::put_name(s, work, 11536 + 3 * n, id, rec);
+    space::put_name(s, work, 11536 + 3 * n, id);
     EntriesAt::Now(count + 1)
 }
 
