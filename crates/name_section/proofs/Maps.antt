@@ -1,6 +1,6 @@
 -- Name maps, a place at a time.
 use Prim.Native.Nat.{ℕ, zero, suc, _+_, _-_, _*_, _^_, _≤_, _<_, min}
-use mathlib.Core.Path.{_≡_, refl, sym, _∙_, ap, subst}
+use mathlib.Core.Path.{_≡_, refl, sym, _∙_, ap}
 use mathlib.Core.List.{List, [], _∷_, _++_, append-assoc, append-nil}
 use mathlib.Core.Option.{none, some}
 use lib.ListN.{length, getD, length-append}
@@ -22,11 +22,11 @@ use Rattle.typeuse.specs.declared.Local.{Local}
 use Rattle.typeuse.specs.declared.LocalAt.{LocalAt}
 use Rattle.typeuse.specs.declared.LocalAt.the-variants as O
 use Rattle.entries.proofs.Elements.{elements-none, elements-more, elements-fault}
-use Rattle.space.specs.Area.{entry, names}
+use Rattle.space.specs.Area.{tagOf, entry, names}
 use Rattle.names.specs.Register.{base, tableOf}
 use Rattle.frames.specs.Locals.{idsAt}
 use Rattle.definition.specs.NameSection.{namedFrom, nameAssoc}
-use Rattle.name_section.specs.Maps.{first, Adds, Names, Few, entryAt}
+use Rattle.name_section.specs.Maps.{first, Adds, Names, Few}
 use Rattle.name_section.specs.declared.map.Reached.{Reached}
 
 -- ## Entries in a row
@@ -87,13 +87,21 @@ module _ (s : Bytes) (p : Part) (x : Reached) (old : Bytes) where
 
 -- ## The table of functions
 
-pub entry-is : (w : List ℕ) (place a b : ℕ) → a ≡ getD w place 0 → b ≡ getD w (place + 1) 0 → record { at = a; len = b } ≡ entryAt w place
-entry-is w place a b d e = rw (d, e) refl
+module _ (s w : List ℕ) (place a b t g : ℕ) (name : List ℕ) (d : a ≡ getD w place 0) (e : b ≡ getD w (place + 1) 0) (f : t ≡ getD w (place + 2) 0)
+    (n : name ≡ partOf s (record { at = a; len = b })) (h : g ≡ tagOf name) where
+  -- the tag is that of the bytes
+  pub entry-is : g ≡ t → idOf s (record { at = a; len = b }) ≡ entry s w place
+  unfolding entry
+  entry-is q = rw (← d, ← e, ← f, ← n, ← h, eq-eqb t g (sym q)) refl
 
-pub place-put : (s w : List ℕ) (place : ℕ) (p : Part) (x : Reached) (old : Bytes) (r : Reached) (new : Bytes) → p ≡ entryAt w place → Names (idOf s p ∷ []) x old r new
+  -- it is not
+  pub entry-none : (g ≡ t → ⊥) → idOf s (record { at = 0; len = 0 }) ≡ entry s w place
+  unfolding entry
+  entry-none q = rw (← d, ← e, ← f, ← n, ← h, ne-eqb t g (λ z. q (sym z))) refl
+
+pub place-put : (s w : List ℕ) (place : ℕ) (p : Part) (x : Reached) (old : Bytes) (r : Reached) (new : Bytes) → idOf s p ≡ entry s w place → Names (idOf s p ∷ []) x old r new
     → Names (entry s w place ∷ []) x old r new
-unfolding entry
-place-put s w place p x old r new e v = subst (λ (z : Part). Names (idOf s z ∷ []) x old r new) e v
+place-put s w place p x old r new e v = rw (← e) v
 
 pub record Naming (s w old : List ℕ) (at left place : ℕ) (x : Reached) (out : List ℕ) : Type 0 where
   pub low : place + 3 * left ≤ 6672
@@ -116,7 +124,7 @@ module _ (s w old : List ℕ) (at left place : ℕ) (x : Reached) (out : List �
   pub naming-few : Few 8589934592 x
   naming-few = record { low = omega (arith, v .sum); fewer = omega (arith, v .so-far .number, v .so-far .count, named-few 0 (v .done)) }
 
-  pub naming-room : 0 < left → 16384 ≤ length w → place + 1 < length w
+  pub naming-room : 0 < left → 16384 ≤ length w → place + 2 < length w
   naming-room h g = omega (arith, v .low)
 
   pub naming-next : 0 < left → Fits w64 (place + 3)

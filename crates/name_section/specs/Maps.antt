@@ -2,7 +2,7 @@
 use Prim.Native.Nat.{ℕ, _+_, _≤_}
 use mathlib.Core.Path.{_≡_}
 use mathlib.Core.List.{List, [], _∷_}
-use lib.ListN.{length, getD}
+use lib.ListN.{length}
 use Rattle.definition.specs.Basic.{concatMap}
 use Rattle.definition.specs.Syntax.{Bytes, Identifier, FuncType}
 use Rattle.definition.specs.Token as Token
@@ -10,7 +10,6 @@ use Rattle.definition.specs.Types as Types
 use Rattle.definition.specs.Types.{usedAt}
 use Rattle.definition.specs.Names.{Namespace, Scope, typeNo}
 use Rattle.emit.specs.Put.{Put}
-use Rattle.token.specs.declared.text.Part.{Part}
 use Rattle.typeuse.specs.Views.{listOf, useOf}
 use Rattle.typeuse.specs.declared.List as Code
 use Rattle.typeuse.specs.declared.TypeUse.{TypeUse}
@@ -52,10 +51,6 @@ LocalNames ls x old r new = Adds indirectNameAssoc (localNamesFrom (x .number) l
 pub record Few (top : ℕ) (x : Reached) : Type 0 where
   pub low : x .number ≤ top
   pub fewer : x .count ≤ x .number
-
--- the identifier that stands in two words
-abbrev pub entryAt : List ℕ → ℕ → Part
-entryAt w i = record { at = getD w i 0; len = getD w (i + 1) 0 }
 
 -- ## Functions
 

@@ -11,7 +11,7 @@ ghost use Rattle.token.specs.Views.{idOf};
 ghost use Rattle.space.specs.Area.{entry};
 ghost use Rattle.names.specs.Register.{tableOf};
 ghost use Rattle.frames.specs.Locals.{idsOf};
-ghost use Rattle.name_section.specs.Maps.{Few, Names, first, entryAt};
+ghost use Rattle.name_section.specs.Maps.{Few, Names, first};
 
 // Where the next entry of a map goes, the number of the next place, and how many entries came before.
 pub struct Reached {
@@ -65,25 +65,30 @@ fn function_count(work: &[u32]) -> u32
     256
 }
 
-// The identifier of an entry of the work area.
-fn entry_at(work: &[u32], place: usize) -> Part
-    requires { ⌜ place + 1 < length (now work) ⌝ }
-    ensures { λ r. ⌜ r ≡ entryAt (now (work .entry)) place ⌝ }
+// The identifier of an entry of the work area. Words whose third is not the tag say none.
+fn entry_at(s: &[u8], work: &[u32], place: usize) -> Part
+    requires { ⌜ place + 2 < length (now work) ⌝ }
+    ensures { λ r. ⌜ idOf (now (s .entry)) r ≡ entry (now (s .entry)) (now (work .entry)) place ⌝ }
 {
     let at = space::word(work, place);
     let len = space::word(work, place + 1);
-    Part {
+    let tag = space::word(work, place + 2);
+    let id = Part {
         at: at as usize,
         len,
+    };
+    if space::tag_of(token::bytes_of(s, id)) == tag {
+        return id;
     }
+    Part { at: 0, len: 0 }
 }
 
 // The place of a function, whose entry stands there in the work area.
 fn put_place(s: &[u8], work: &[u32], out: &mut [u8], x: Reached, place: usize) -> Reached
-    requires { ⌜ (place + 1 < length (now work)) × Few 8589934592 x ⌝ }
+    requires { ⌜ (place + 2 < length (now work)) × Few 8589934592 x ⌝ }
     ensures { λ r. ⌜ Names (entry (now (s .entry)) (now (work .entry)) place ∷ []) x (now (out .entry)) r (now (out .exit)) ⌝ }
 {
-    let id = entry_at(work, place);
+    let id = entry_at(s, work, place);
     put_next(out, x, s, id)
 }
 
