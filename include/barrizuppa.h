@@ -5,7 +5,8 @@
  * Link with target/staticlib/libassembler.a, which `rt staticlib assembler`
  * proves and writes, for x86-64 Linux. It needs memcpy and memset and nothing
  * else, allocates nothing, keeps nothing between calls, and may be called from
- * several threads at a time, each with buffers of its own.
+ * several threads at a time, each with buffers of its own. A call takes less
+ * than 96 KB of stack.
  *
  * What is promised here are the proved contracts of the two calls in
  * crates/assembler/src/export.rt, in words. That these declarations have the
