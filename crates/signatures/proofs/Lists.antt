@@ -5,7 +5,7 @@ use mathlib.Core.Bool.{Bool, true, false}
 use mathlib.Core.List.{List, [], _∷_, map}
 use lib.ListN.{length}
 use lib.Dec.{leb, ltb}
-use borrow.Author.Tests.{eq-eqb, ne-eqb, lt-ltb}
+use borrow.Author.Tests.{eq-eqb, ne-eqb, lt-ltb, ltb-true, ltb-false}
 use mir.Syntax.{w32}
 use mir.Val.{Fits}
 use native.Mathlib.Omega.{arith}
@@ -154,6 +154,16 @@ module _ (s : Bytes) (named : Bool) (l : Code.List) (at left n : ℕ) (v : Count
       let f : length (typesOf named s l) ≡ length (elements (typed named) s (l .at) (l .count)) = ap length (types-are named s l) in
       omega (arith, v .same)
 
+-- ## Any type
+
+module _ (s : Bytes) (named : Bool) (l : Code.List) (r : NextType) (told : elements (typed named) s (l .at) (l .count) ≡ typesNext named (l .count) s r) where
+  pub any-yes : (t q : ℕ) → r ≡ N.Type t q → true ≡ ltb 0 (length (typesOf named s l))
+  any-yes t q e =
+      sym (ap (λ (z : List ValType). ltb 0 (length z)) (types-are named s l ∙ told ∙ ap (typesNext named (l .count) s) e) ∙ lt-ltb 0 (suc (length (elements (typed named) s q (l .count - 1)))) (omega arith))
+
+  pub any-no : r ≡ N.End → false ≡ ltb 0 (length (typesOf named s l))
+  any-no e = sym (ap (λ (z : List ValType). ltb 0 (length z)) (types-are named s l ∙ told) ∙ rw e)
+
 -- ## What the counts tell of a type use
 
 params-length : (s : Bytes) (n at : ℕ) → length (map (λ p. p .type) (elements param s at n)) ≡ length (elements param s at n)
@@ -166,30 +176,34 @@ params-length s (suc n) at = go (λ next. params-length s n next) (param s at)
     go f (got x next) = ap suc (f next)
     go f (fault k) = refl
 
-module _ (s : Bytes) (t : TypeUse) (n : ℕ) (e : n ≡ length (typesOf true s (t .params))) where
-  params-number : n ≡ length (elements param s (t .params .at) (t .params .count))
+module _ (s : Bytes) (t : TypeUse) (p : Bool) (e : p ≡ ltb 0 (length (typesOf true s (t .params)))) where
+  params-any : p ≡ ltb 0 (length (elements param s (t .params .at) (t .params .count)))
   unfolding typesOf
-  params-number = e ∙ params-length s (t .params .count) (t .params .at)
+  params-any = e ∙ ap (ltb 0) (params-length s (t .params .count) (t .params .at))
 
-  pub short-no : (n ≡ 0 → ⊥) → false ≡ isShort (useOf s t)
+  pub short-no : p ≡ true → false ≡ isShort (useOf s t)
   unfolding isShort
-  short-no h = let p = params-number in sym (rw (← p, ne-eqb _ _ h))
+  short-no h = let b = ltb-true 0 (length (elements param s (t .params .at) (t .params .count))) (sym params-any ∙ h) in sym (rw (ne-eqb (length (elements param s (t .params .at) (t .params .count))) 0 (λ z. omega arith)))
 
-  pub inline-params : 0 < n → true ≡ isInline (useOf s t)
+  pub inline-params : p ≡ true → true ≡ isInline (useOf s t)
   unfolding isInline
-  inline-params h = let p = params-number in sym (lt-ltb 0 (length (elements param s (t .params .at) (t .params .count)) + length (elements valType s (t .results .at) (t .results .count))) (omega arith))
+  inline-params h =
+      let b = ltb-true 0 (length (elements param s (t .params .at) (t .params .count))) (sym params-any ∙ h) in
+      sym (lt-ltb 0 (length (elements param s (t .params .at) (t .params .count)) + length (elements valType s (t .results .at) (t .results .count))) (omega arith))
 
-  module _ (m : ℕ) (f : m ≡ length (typesOf false s (t .results))) where
-    results-number : m ≡ length (elements valType s (t .results .at) (t .results .count))
-    unfolding typesOf
-    results-number = f
+  module _ (h : p ≡ false) where
+    params-none : length (elements param s (t .params .at) (t .params .count)) ≡ 0
+    params-none = let b = ltb-false 0 (length (elements param s (t .params .at) (t .params .count))) (sym params-any ∙ h) in omega arith
 
-    pub short-results : n ≡ 0 → leb m 1 ≡ isShort (useOf s t)
-    unfolding isShort
-    short-results h = let p = params-number in let q = results-number in sym (rw (← p, ← q, eq-eqb _ _ h))
+    pub short-results : (m : ℕ) → m ≡ length (typesOf false s (t .results)) → leb m 1 ≡ isShort (useOf s t)
+    unfolding isShort typesOf
+    short-results m f = sym (rw (params-none, f))
 
-    pub inline-results : n ≤ 0 → ltb 0 m ≡ isInline (useOf s t)
-    unfolding isInline
-    inline-results h = let p = params-number in let q = results-number in let z : length (elements param s (t .params .at) (t .params .count)) + m ≡ m = omega arith in sym (rw (← q, z))
+    pub inline-results : (q : Bool) → q ≡ ltb 0 (length (typesOf false s (t .results))) → q ≡ isInline (useOf s t)
+    unfolding isInline typesOf
+    inline-results q f =
+        let z : length (elements param s (t .params .at) (t .params .count)) + length (elements valType s (t .results .at) (t .results .count)) ≡ length (elements valType s (t .results .at) (t .results .count)) =
+        omega (arith, params-none) in
+        f ∙ sym (ap (ltb 0) z)
 
 pub ruleset shorts = (short-no, short-results, inline-params, inline-results)

@@ -4,6 +4,7 @@ use typeuse::List;
 use typeuse::LocalAt;
 use typeuse::TypeUse;
 ghost use mathlib.Core.Path.{_≡_};
+ghost use lib.Dec.{ltb};
 ghost use lib.ListN.{length};
 ghost use Rattle.definition.specs.Types as Types;
 ghost use Rattle.typeuse.specs.Views.{elements, useOf};
@@ -91,22 +92,32 @@ pub fn count_types(s: &[u8], named: bool, l: List) -> u32
     }
 }
 
+// Does a list have any value type?
+fn any_type(s: &[u8], named: bool, l: List) -> bool
+    ensures { λ r. ⌜ r ≡ ltb 0 (length (typesOf named (now (s .entry)) l)) ⌝ }
+{
+    match next_type(s, l.at, l.count, named) {
+        NextType::Type(_, _) => true,
+        NextType::End => false,
+    }
+}
+
 // A block of this type use has a short form: no parameters, and at most one result.
 pub fn is_short(s: &[u8], t: TypeUse) -> bool
     ensures { λ r. ⌜ r ≡ Types.isShort (useOf (now (s .entry)) t) ⌝ }
 {
-    if count_types(s, true, t.params) == 0 {
-        return count_types(s, false, t.results) <= 1;
+    if any_type(s, true, t.params) {
+        return false;
     }
-    false
+    count_types(s, false, t.results) <= 1
 }
 
 // A type use has any parameter or result.
 pub fn is_inline(s: &[u8], t: TypeUse) -> bool
     ensures { λ r. ⌜ r ≡ Types.isInline (useOf (now (s .entry)) t) ⌝ }
 {
-    if 0 < count_types(s, true, t.params) {
+    if any_type(s, true, t.params) {
         return true;
     }
-    0 < count_types(s, false, t.results)
+    any_type(s, false, t.results)
 }

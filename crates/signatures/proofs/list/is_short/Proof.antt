@@ -2,18 +2,20 @@ use Rattle.signatures.proofs.Lists.{shorts}
 use borrow.Author.Needs.{needs}
 use Rattle.signatures.proofs.list.is_short.Statement.{statement}
 use Rattle.signatures.proofs.list.is_short.Tie as tie
+use Rattle.signatures.proofs.list.any_type.Reads as any-type-reads
+use Rattle.signatures.proofs.list.count_types.Reads as count-types-reads
 
-count-types-requires : tie.Need-count-types-requires
-count-types-requires c κs = search needs
-
-count-types-requires-2 : tie.Need-count-types-requires-2
-count-types-requires-2 c κs = search needs
+any-type-requires : tie.Need-any-type-requires
+any-type-requires c κs = search needs
 
 returns : tie.Need-returns
 returns c = search (shorts) depth 8
+
+count-types-requires : tie.Need-count-types-requires
+count-types-requires c κs = search needs
 
 returns-2 : tie.Need-returns-2
 returns-2 c = search (shorts) depth 8
 
 pub is-short-spec : {M : Type 1} → statement M
-is-short-spec = tie.close (tie.spec count-types-requires count-types-requires-2 returns returns-2)
+is-short-spec = tie.close (tie.spec any-type-requires returns count-types-requires returns-2)
