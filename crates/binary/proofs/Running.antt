@@ -171,6 +171,9 @@ module _ {s : Bytes} {at count n here left : ℕ} (v : Counting s at count n her
     same = v .same ∙ (let e : runs (localTypes s here left) ≡ (r .count, r .value) ∷ runs (localTypes s (r .next) (r .left)) = run-first s here left q r w d in rw e (omega arith));
   }
 
+  pub count-few : n ≤ count
+  count-few = omega (arith, v .few)
+
   pub count-nothing : (q : RunAt) → RunAtIs s here left q → q ≡ R.Nothing → n ≡ length (runs (localTypes s at count))
   count-nothing q w d = (let e : runs (localTypes s here left) ≡ [] = run-nothing s here left q w d in omega (arith, rw e at (v .same)))
 

@@ -2,6 +2,7 @@
 use typeuse::List;
 use typeuse::LocalAt;
 ghost use mathlib.Core.Path.{_≡_};
+ghost use Prim.Native.Nat.{_≤_};
 ghost use lib.ListN.{length};
 ghost use Rattle.definition.specs.Basic.{concatMap};
 ghost use Rattle.definition.specs.Binary as Binary;
@@ -102,31 +103,48 @@ fn put_run(out: &mut [u8], at: usize, r: Run) -> usize
     emit::put(out, a, r.value)
 }
 
+// How many runs were put, and the place after them.
+pub struct Runs {
+    pub count: u64,
+    pub next: usize,
+}
+
 // The runs, without their count.
-fn put_each_run(out: &mut [u8], at: usize, s: &[u8], ls: List) -> usize
-    ensures { λ r. ⌜ Put (now (out .entry)) at (concatMap Binary.run (Binary.runs (localTypes (now (s .entry)) (ls .at) (ls .count)))) r (now (out .exit)) ⌝ }
+fn put_each_run(out: &mut [u8], at: usize, s: &[u8], ls: List) -> Runs
+    ensures { λ r. ⌜ (r .count ≤ ls .count) × (r .count ≡ length (Binary.runs (localTypes (now (s .entry)) (ls .at) (ls .count)))) × Put (now (out .entry)) at (concatMap Binary.run (Binary.runs (localTypes (now (s .entry)) (ls .at) (ls .count)))) (r .next) (now (out .exit)) ⌝ }
 {
     let mut o = at;
+    let mut n: u64 = 0;
     let mut here = ls.at;
     let mut left = ls.count;
     while 0 < left {
         match run_at(s, here, left) {
             RunAt::Got(r) => {
                 o = put_run(out, o, r);
+                n += 1;
                 here = r.next;
                 left = r.left;
             }
             RunAt::Nothing => {
-                return o;
+                return Runs { count: n, next: o };
             }
         }
     }
-    o
+    Runs { count: n, next: o }
 }
 
+// The runs after their count. Where that is one group, the runs are put first, after a place for it.
 pub fn put_runs(out: &mut [u8], at: usize, s: &[u8], ls: List) -> usize
     ensures { λ r. ⌜ Put (now (out .entry)) at (Binary.vec Binary.run (Binary.runs (localTypes (now (s .entry)) (ls .at) (ls .count)))) r (now (out .exit)) ⌝ }
 {
+    if ls.count < 128 {
+        if at < out.len() {
+            let r = put_each_run(out, at + 1, s, ls);
+            emit::put(out, at, r.count as u8);
+            return r.next;
+        }
+    }
     let a = leb::put_u(out, at, count_runs(s, ls));
-    put_each_run(out, a, s, ls)
+    let r = put_each_run(out, a, s, ls);
+    r.next
 }

@@ -51,6 +51,19 @@ put-then {a} {b} {c} {bs} {cs} {at} {r} {q} x y = record {
 pub put-cons : {a b c cs : List ℕ} {x at r q : ℕ} → Put a at (x ∷ []) r b → Put b r cs q c → Put a at (x ∷ cs) q c
 put-cons x y = put-then x y
 
+-- a byte that is put before bytes which stand already
+pub put-before : {old mid new bs : List ℕ} {at b r x : ℕ} → at < length old → Put old (at + 1) bs b mid → Put mid at (x ∷ []) r new → Put old at (x ∷ bs) b new
+unfolding past
+put-before {old} {mid} {new} {bs} {at} {b} {r} {x} h p q = record {
+  place = omega (arith, p .place, p .short);
+  bytes = λ f.
+      let c : at + 1 ≡ suc at = omega arith in
+      let d : mid ≡ sets old (suc at) bs = p .bytes (omega arith) ∙ rw c refl in
+      q .bytes (omega arith) ∙ rw d (set-before old at (suc at) x bs (omega arith));
+  long = q .long ∙ p .long;
+  short = p .short;
+}
+
 -- with room for all its bytes an emitter puts them there, and leaves what is before and after them
 pub put-room : {old new bs : List ℕ} {at r : ℕ} → Put old at bs r new → at + length bs ≤ length old
     → (r ≡ at + length bs) × (new ≡ take at old ++ bs ++ drop (at + length bs) old)
