@@ -5,7 +5,7 @@ use Rattle.definition.specs.Syntax as Syntax
 use Rattle.definition.specs.Syntax.{Bytes, Identifier, FieldRec, typeR, importR, itemR, exportR, startR, elemR, dataR}
 use Rattle.definition.specs.Reader.{Step, got, fault, Reader, byte, choose, give, _>>=_}
 use Rattle.definition.specs.Token as Token
-use Rattle.definition.specs.Records.{Forms, ownFuncForm}
+use Rattle.definition.specs.Records.{Forms, ownFuncForm, funcExtern}
 use Rattle.token.specs.Views.{partOf, idOf, spaceOf, indexOf}
 use Rattle.typeuse.specs.Views.{listOf}
 use Rattle.expr.specs.Views.{plainIs}
@@ -53,3 +53,7 @@ itemOf forms i es = byte >>= λ b. choose b forms >>= λ x. give (itemR i es x)
 -- what follows the form byte of an own function
 unfoldable pub ownItem : Option Identifier → List Bytes → Reader (FieldRec Identifier)
 ownItem i es = ownFuncForm >>= λ x. give (itemR i es x)
+
+-- what follows the kind byte of an imported function, where there is room for it
+unfoldable pub importedFunc : Syntax.ImportName → Reader (FieldRec Identifier)
+importedFunc n = Token.identifier >>= λ i. funcExtern >>= λ d. give (importR n i d)
