@@ -1,2 +1,3 @@
 pub mod Lists
 pub mod Ways
+pub mod Gets

@@ -1,4 +1,11 @@
 // Counted lists, and type uses. A list is only passed over: its elements are read again where they are needed.
+pub mod known;
+
+pub use known::known_local;
+pub use known::known_local_list;
+pub use known::known_strings;
+pub use known::known_type_list;
+pub use known::known_type_use;
 use leb::U32;
 use token::ByteAt;
 use token::Index;
