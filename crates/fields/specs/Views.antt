@@ -5,7 +5,7 @@ use Rattle.definition.specs.Syntax as Syntax
 use Rattle.definition.specs.Syntax.{Bytes, Identifier, FieldRec, typeR, importR, itemR, exportR, startR, elemR, dataR}
 use Rattle.definition.specs.Reader.{Step, got, fault, Reader, byte, choose, give, _>>=_}
 use Rattle.definition.specs.Token as Token
-use Rattle.definition.specs.Records.{Forms}
+use Rattle.definition.specs.Records.{Forms, ownFuncForm}
 use Rattle.token.specs.Views.{partOf, idOf, spaceOf, indexOf}
 use Rattle.typeuse.specs.Views.{listOf}
 use Rattle.expr.specs.Views.{plainIs}
@@ -49,3 +49,7 @@ fieldAt s (FA.Fault n) = fault n
 -- what follows the exports of an item: its form
 unfoldable pub itemOf : Forms → Option Identifier → List Bytes → Reader (FieldRec Identifier)
 itemOf forms i es = byte >>= λ b. choose b forms >>= λ x. give (itemR i es x)
+
+-- what follows the form byte of an own function
+unfoldable pub ownItem : Option Identifier → List Bytes → Reader (FieldRec Identifier)
+ownItem i es = ownFuncForm >>= λ x. give (itemR i es x)

@@ -2,9 +2,11 @@
 pub mod export;
 pub mod field;
 pub mod item;
+pub mod known;
 pub mod segment;
 
 pub use field::Field;
 pub use field::FieldAt;
 pub use field::read_field;
+pub use known::known_field;
 pub use segment::Mode;
