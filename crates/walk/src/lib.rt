@@ -131,7 +131,7 @@ pub fn visit(s: &[u8], work: &[u32], c: Cursor) -> Met
             next: c,
         };
     }
-    match fields::read_field(s, c.at, c.seen) {
+    match fields::known_field(s, c.at, c.seen) {
         FieldAt::Got(f, here) => {
             let next = next_cursor(work, c, f, here);
             Met {

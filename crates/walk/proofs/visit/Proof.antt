@@ -1,4 +1,5 @@
 use Rattle.walk.proofs.Cursors.{visit-ways}
+use Rattle.walk.proofs.Steps.{visit-sound}
 use borrow.Author.Needs.{needs}
 use Rattle.walk.proofs.visit.Statement.{statement}
 use Rattle.walk.proofs.visit.Tie as tie
@@ -12,8 +13,8 @@ returns-2 c = search visit-ways
 returns-3 : tie.Need-returns-3
 returns-3 c = search visit-ways
 
-read-field-requires : tie.Need-read-field-requires
-read-field-requires c κs = search needs
+known-field-requires : tie.Need-known-field-requires
+known-field-requires c κs = search (visit-sound, needs)
 
 enum-known-f : tie.Need-enum-known-f
 enum-known-f c = search needs
@@ -37,7 +38,7 @@ visit-spec =
     returns
     returns-2
     returns-3
-    read-field-requires
+    known-field-requires
     enum-known-f
     next-cursor-requires
     enum-told
