@@ -8,6 +8,7 @@ use lib.Seq.{getD-set-same, getD-set-other}
 use lib.Dec.{eqb}
 use native.Mathlib.Decide.{decLe}
 use native.Mathlib.Omega.{arith}
+use Rattle.definition.specs.Basic.{sameBytes}
 use Rattle.definition.specs.Syntax.{Bytes}
 use Rattle.definition.specs.Reader.{fault}
 use Rattle.definition.specs.Token.{param, valType, identifier, upTo, u32, groups}
@@ -69,6 +70,16 @@ module _ (s : Bytes) (a b : Signature) (r : NextBoth) (e : Both s (a .named) (a 
     step-end h = let f = rw d at (e .same) in let k = rw h at (g .same) in record { same = rw (f, k); fewer = tt }
 
 pub ruleset steps = (step-params, step-params-differ, step-results, step-results-differ, step-end)
+
+-- the parameters decide where they differ, and else the results
+module _ (s : Bytes) (x y : Signature) (f : Bool) (e : f ≡ sameBytes (typesOf (x .named) s (x .params)) (typesOf (y .named) s (y .params))) where
+  pub same-not : f ≡ false → false ≡ sameType (signatureOf s x) (signatureOf s y)
+  unfolding sameType signatureOf
+  same-not d = sym (rw (← e, d))
+
+  pub same-results : (g : Bool) → f ≡ true → g ≡ sameBytes (typesOf false s (x .results)) (typesOf false s (y .results)) → g ≡ sameType (signatureOf s x) (signatureOf s y)
+  unfolding sameType signatureOf
+  same-results g d h = h ∙ sym (rw (← e, d))
 
 -- what is left of `x` and `y` decides
 pub record Matching (s : Bytes) (x y a b : Signature) : Type 0 where

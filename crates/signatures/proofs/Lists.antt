@@ -27,6 +27,7 @@ use Rattle.typeuse.specs.declared.TypeUse.{TypeUse}
 use Rattle.signatures.specs.Table.{typesOf, typed, typesNext, Both}
 use Rattle.signatures.specs.declared.list.NextType.{NextType}
 use Rattle.signatures.specs.declared.list.NextType.the-variants as N
+use Rattle.signatures.specs.declared.list.NextBoth.{NextBoth}
 use Rattle.signatures.specs.declared.list.NextBoth.the-variants as B
 
 -- ## The next type
@@ -125,6 +126,26 @@ module _ (s : Bytes) (named : Bool) (a : Code.List) (other : Bool) (b : Code.Lis
       }
 
 pub ruleset boths = (both-end, both-long, both-short, both-differ, both-same)
+
+-- two lists are as equal as what is left of them
+pub record InStep (s : Bytes) (named : Bool) (a : Code.List) (other : Bool) (b x y : Code.List) : Type 0 where
+  pub same : sameBytes (typesOf named s a) (typesOf other s b) ≡ sameBytes (typesOf named s x) (typesOf other s y)
+
+pub in-step-begin : (s : Bytes) (named : Bool) (a : Code.List) (other : Bool) (b : Code.List) → InStep s named a other b a b
+in-step-begin s named a other b = record { same = refl }
+
+module _ (s : Bytes) (named : Bool) (a : Code.List) (other : Bool) (b x y : Code.List) (v : InStep s named a other b x y) (r : NextBoth) (e : Both s named x other y r) where
+  pub in-step-again : (p q : Code.List) → r ≡ B.Same p q → InStep s named a other b p q
+  in-step-again p q d = record { same = v .same ∙ (rw d at (e .same)) }
+
+  pub in-step-less : (p q : Code.List) → r ≡ B.Same p q → p .count < x .count
+  in-step-less p q d = rw d at (e .fewer)
+
+  pub in-step-differ : r ≡ B.Differ → false ≡ sameBytes (typesOf named s a) (typesOf other s b)
+  in-step-differ d = sym (v .same ∙ (rw d at (e .same)))
+
+  pub in-step-end : r ≡ B.End → true ≡ sameBytes (typesOf named s a) (typesOf other s b)
+  in-step-end d = sym (v .same ∙ (rw d at (e .same)))
 
 -- ## The number of types
 

@@ -1,6 +1,7 @@
 // One type of the table.
 use crate::list::NextBoth;
 use crate::list::next_both;
+use crate::list::same_list;
 use typeuse::List;
 use typeuse::TypeUse;
 ghost use mathlib.Core.Path.{_≡_};
@@ -84,22 +85,10 @@ pub fn next_step(s: &[u8], a: Signature, b: Signature) -> NextStep
 pub fn same_type(s: &[u8], x: Signature, y: Signature) -> bool
     ensures { λ r. ⌜ r ≡ Types.sameType (signatureOf (now (s .entry)) x) (signatureOf (now (s .entry)) y) ⌝ }
 {
-    let mut a = x;
-    let mut b = y;
-    loop {
-        match next_step(s, a, b) {
-            NextStep::Same(p, q) => {
-                a = p;
-                b = q;
-            }
-            NextStep::Differ => {
-                return false;
-            }
-            NextStep::End => {
-                return true;
-            }
-        }
+    if same_list(s, x.named, x.params, y.named, y.params) {
+        return same_list(s, false, x.results, false, y.results);
     }
+    false
 }
 
 // A word of the work area as a place.

@@ -6,6 +6,7 @@ use typeuse::TypeUse;
 ghost use mathlib.Core.Path.{_≡_};
 ghost use lib.Dec.{ltb};
 ghost use lib.ListN.{length};
+ghost use Rattle.definition.specs.Basic.{sameBytes};
 ghost use Rattle.definition.specs.Types as Types;
 ghost use Rattle.typeuse.specs.Views.{elements, useOf};
 ghost use Rattle.signatures.specs.Table.{typed, typesNext, typesOf, Both};
@@ -68,6 +69,28 @@ pub fn next_both(s: &[u8], named: bool, a: List, other: bool, b: List) -> NextBo
             NextType::Type(_, _) => NextBoth::Differ,
             NextType::End => NextBoth::End,
         },
+    }
+}
+
+// Equal lists: walked in step, and left at the first difference.
+pub fn same_list(s: &[u8], named: bool, a: List, other: bool, b: List) -> bool
+    ensures { λ r. ⌜ r ≡ sameBytes (typesOf named (now (s .entry)) a) (typesOf other (now (s .entry)) b) ⌝ }
+{
+    let mut x = a;
+    let mut y = b;
+    loop {
+        match next_both(s, named, x, other, y) {
+            NextBoth::Same(p, q) => {
+                x = p;
+                y = q;
+            }
+            NextBoth::Differ => {
+                return false;
+            }
+            NextBoth::End => {
+                return true;
+            }
+        }
     }
 }
 
