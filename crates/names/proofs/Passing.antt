@@ -43,11 +43,11 @@ use Rattle.walk.specs.declared.Met.{Met}
 use Rattle.walk.specs.declared.What.the-variants as W
 use Rattle.walk.proofs.Steps.{visit-done, visit-read, visit-fields, visit-next}
 use Rattle.walk.proofs.Gives.{roomy, RoomyField, Rooms}
-use Rattle.names.specs.Register.{base, tableAt, tableOf, Entry, registerIn, nameless, sourceItems, brought, Fit, registered, Tables}
+use Rattle.names.specs.Register.{base, tableAt, tableOf, Entry, registerIn, nameless, sourceItems, brought, Fit, Puts, Tables}
 use Rattle.names.specs.declared.register.Registered.{Registered}
 use Rattle.names.specs.declared.register.Registered.the-variants as R
-use Rattle.names.proofs.Items.{base-low}
-use Rattle.names.proofs.Tables.{Holding, holding-more, words-length, words-kept, code-small}
+use Rattle.names.proofs.Items.{base-high}
+use Rattle.names.proofs.Tables.{Holding, holding-more, words-length, code-small}
 
 -- ## What the definition registers of a field
 
@@ -114,11 +114,6 @@ record Went (s w : List ℕ) (seen : Seen) (r : ℕ) (xs : Items Identifier) (ps
   items : Items Identifier
   holding : Holding s w′ (after seen ps) items
   same : (fs : Numbered Identifier) → partsThen s r xs ps fs ≡ register sameBytes items fs
-  kept : Kept 5904 w w′
-
-base-high : (k : Space) → 5904 ≤ base k
-unfolding base
-base-high k = omega arith
 
 -- one item more, where it is not taken
 module _ (s w : List ℕ) (seen : Seen) (r : ℕ) (xs : Items Identifier) (h : Holding s w seen xs) (k : Space) (p : Part) (ps : List Entry) (low : countOf seen k < 256) (long : 16384 ≤ length w) where
@@ -141,13 +136,12 @@ module _ (s w : List ℕ) (seen : Seen) (r : ℕ) (xs : Items Identifier) (h : H
         items = y .items;
         holding = y .holding;
         same = λ fs. rw (h .each k, d) (y .same fs);
-        kept = kept-then (words-kept s w (base k + 3 * countOf seen k) p 5904 (omega (arith, base-high k))) (y .kept);
       }
 
 went : (s w : List ℕ) (seen : Seen) (r : ℕ) (xs : Items Identifier) (ps : List Entry) (w′ : List ℕ)
     → Holding s w seen xs → Fit seen ps → 16384 ≤ length w → registerIn s w seen r ps ≡ ok w′ → Went s w seen r xs ps w′
 unfolding registerIn partsThen after Fit
-went s w seen r xs [] w′ h g long e = let d : w ≡ w′ = cc in record { items = xs; holding = rw (← d) h; same = λ fs. refl; kept = rw (← d) (kept-same 5904 w) }
+went s w seen r xs [] w′ h g long e = let d : w ≡ w′ = cc in record { items = xs; holding = rw (← d) h; same = λ fs. refl }
 went s w seen r xs ((k, p) ∷ ps) w′ h g long e =
     go (λ f. went s (entryWords s w (base k + 3 * countOf seen k) p) (oneMore seen k) r (xs ++ ((k, idOf s p) ∷ [])) ps w′
     (stood s w seen r xs h k p ps (g .0) long) (g .1) (far s w seen r xs h k p ps (g .0) long) f)
@@ -291,18 +285,12 @@ module _ (s : List ℕ) (c : Cursor) (m : Met) (told : visitIn (c .left) c s ≡
   unfolding fieldsHere
   fields xs = rw (visit-fields s c m told f here is) (field-parts s (c .rec) (countOf (c .seen)) (bodyIn (fieldBody (fieldOf s f)) (c .rec + 1) s here) xs (fieldsAhead (m .next) s) f)
 
-  module _ (w : List ℕ) (v : Registering s w c) (q : Registered) (w′ : List ℕ) (put : registerIn s w (c .seen) (c .rec) (brought f) ≡ registered q w′) (long : 16384 ≤ length w) where
-    after-them : q ≡ R.Done → Went s w (c .seen) (c .rec) (v .items) (brought f) w′
-    after-them d = went s w (c .seen) (c .rec) (v .items) (brought f) w′ (v .holding) registering-fit long (rw d at put)
-
-    -- they were registered, in words that are the tables' own
-    pub registering-kept : q ≡ R.Done → Kept 5904 w w′
-    registering-kept d = after-them d .kept
-
+  module _ (w : List ℕ) (v : Registering s w c) (q : Registered) (w′ : List ℕ) (put : Puts s w (c .seen) (c .rec) (brought f) q w′) (long : 16384 ≤ length w) where
+    -- they were registered
     pub registering-again : q ≡ R.Done → Registering s w′ (m .next)
     unfolding cursorAfter
     registering-again d =
-        let y = after-them d in
+        let y = went s w (c .seen) (c .rec) (v .items) (brought f) w′ (v .holding) registering-fit long (rw d at (put .says)) in
         let n = visit-next s c m told f here is in
         record {
           items = y .items;
@@ -313,7 +301,7 @@ module _ (s : List ℕ) (c : Cursor) (m : Met) (told : visitIn (c .left) c s ≡
     -- one was not
     pub registering-stops : (n z : ℕ) → q ≡ R.Refused n z → register sameBytes [] (fieldsIn s) ≡ refused n z
     registering-stops n z d =
-        v .same ∙ fields (v .items) ∙ stopped s w (c .seen) (c .rec) (v .items) (brought f) n z (v .holding) registering-fit long (rw d at put) (fieldsAhead (m .next) s)
+        v .same ∙ fields (v .items) ∙ stopped s w (c .seen) (c .rec) (v .items) (brought f) n z (v .holding) registering-fit long (rw d at (put .says)) (fieldsAhead (m .next) s)
 
 -- no field is left
 pub registering-done : (s w : List ℕ) (c : Cursor) (v : Registering s w c) (m : Met) → visitIn (c .left) c s ≡ visitOf s m → m .what ≡ W.Done → register sameBytes [] (fieldsIn s) ≡ ok (v .items)

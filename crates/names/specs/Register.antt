@@ -17,6 +17,7 @@ use Rattle.fields.specs.declared.field.Field.{Field}
 use Rattle.fields.specs.declared.field.Field.the-variants as F
 use Rattle.stream.specs.Counting.{oneMore, externBrings, ownBrings}
 use Rattle.space.specs.Area.{entryWords, names}
+use Rattle.space.specs.Kept.{Kept}
 use Rattle.names.specs.declared.register.Registered.{Registered}
 use Rattle.names.specs.declared.register.Registered.the-variants as R
 
@@ -74,6 +75,11 @@ Fit seen ((k, p) ∷ ps) = (countOf seen k < 256) × Fit (oneMore seen k) ps
 abbrev pub registered : Registered → List ℕ → Answer (List ℕ)
 registered R.Done w = ok w
 registered (R.Refused n r) w = refused n r
+
+-- they were registered or refused, and the words below the tables are as they were
+pub record Puts (s w : List ℕ) (seen : Seen) (r : ℕ) (ps : List Entry) (q : Registered) (w′ : List ℕ) : Type 0 where
+  pub says : registerIn s w seen r ps ≡ registered q w′
+  pub kept : Kept 5904 w w′
 
 -- ## All items
 
