@@ -1,15 +1,14 @@
 -- Where an item goes, and that there is room for the items that a field brings.
 use Prim.Native.Nat.{ℕ, _+_, _*_, _≤_, _<_}
-use mathlib.Core.Path.{_≡_, refl, sym, _∙_, ap}
+use mathlib.Core.Path.{_≡_, sym}
 use mathlib.Core.Bool.{Bool, true, false}
 use mathlib.Core.List.{List, [], _∷_}
 use mir.Syntax.{w64}
 use mir.Val.{Fits}
 use lib.ListN.{length}
-use lib.Dec.{eqb}
 use borrow.Author.Tests.{eq-eqb, ne-eqb}
 use native.Mathlib.Omega.{arith}
-use Rattle.definition.specs.Basic.{if_then_else_, Answer, ok, refused, sameBytes, isSome}
+use Rattle.definition.specs.Basic.{sameBytes, isSome}
 use Rattle.definition.specs.Syntax.{Identifier, Space, funcs, tables, mems, globals, types, elems, datas, code}
 use Rattle.definition.specs.Names.{Namespace, find, taken}
 use Rattle.token.specs.Views.{partOf, idOf}
@@ -24,12 +23,10 @@ use Rattle.typeuse.specs.declared.List as Code
 use Rattle.fields.specs.declared.field.Field.{Field}
 use Rattle.fields.specs.declared.field.Field.the-variants as F
 use Rattle.stream.specs.Counting.{oneMore, externBrings, ownBrings}
-use Rattle.space.specs.Area.{entryWords, names, found}
+use Rattle.space.specs.Area.{found}
 use Rattle.space.specs.declared.table.Found.{Found}
 use Rattle.space.specs.declared.table.Found.the-variants as X
-use Rattle.names.specs.Register.{base, tableAt, Entry, registerIn, nameless, sourceItems, brought, Fit, registered}
-use Rattle.names.specs.declared.register.Registered.{Registered}
-use Rattle.names.specs.declared.register.Registered.the-variants as R
+use Rattle.names.specs.Register.{base, Entry, nameless, sourceItems, brought, Fit}
 
 -- ## Is an identifier taken?
 

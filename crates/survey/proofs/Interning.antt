@@ -1,16 +1,16 @@
 -- Laws of the uses of types, field after field.
-use Prim.Native.Nat.{ℕ, _+_, _-_, _*_, _≤_, _<_}
-use mathlib.Core.Path.{_≡_, refl, sym, _∙_, ap}
+use Prim.Native.Nat.{ℕ, _+_, _-_, _≤_, _<_}
+use mathlib.Core.Path.{_≡_, sym, _∙_, ap}
 use mathlib.Core.List.{List, [], _++_, append-nil, append-assoc}
 use mathlib.Core.Option.{Option, none, some}
 use lib.ListN.{getD}
 use native.Mathlib.Omega.{arith}
 use Rattle.definition.specs.Basic.{ok, refused}
-use Rattle.definition.specs.Syntax.{Bytes, Identifier, FuncType}
+use Rattle.definition.specs.Syntax.{Bytes, Identifier}
 use Rattle.definition.specs.Read.{fieldBody}
 use Rattle.definition.specs.Deinline.{Numbered}
 use Rattle.definition.specs.Types.{Uses, bodyUses, uses, declared, intern, allTypes}
-use Rattle.laws.proofs.Interning.{Keeps, intern-keeps}
+use Rattle.laws.proofs.Interning.{intern-keeps}
 use Rattle.sources.specs.Views.{countOf}
 use Rattle.fields.specs.Views.{fieldOf}
 use Rattle.fields.specs.declared.field.Field.{Field}
