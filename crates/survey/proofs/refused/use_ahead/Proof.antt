@@ -1,17 +1,14 @@
 use borrow.Author.Needs.{needs}
 use Rattle.walk.proofs.Steps.{visit-less, visit-few}
-use Rattle.types.proofs.Passes.{Using, using-begin, using-skips, using-done, using-refused, using-again}
-use Rattle.types.proofs.pass.use_all.Statement.{statement}
-use Rattle.types.proofs.pass.use_all.Tie as tie
+use Rattle.survey.proofs.Surveying.{Using, using-begin, using-skips, using-done, using-refused, using-again}
+use Rattle.survey.proofs.refused.use_ahead.Statement.{statement}
+use Rattle.survey.proofs.refused.use_ahead.Tie as tie
 
 abbrev Inv-loop : tie.InvT-loop
-Inv-loop s work₀ declared c₀ count₀ work c count = Using s work₀ declared work c count
+Inv-loop s work₀ types c₀ count₀ work c count = Using s work₀ work c count
 
 abbrev μ-loop : tie.MeasureT-loop
-μ-loop s work₀ declared c₀ count₀ work c count = c .left
-
-start-requires : tie.Need-start-requires Inv-loop μ-loop
-start-requires c κs = search needs
+μ-loop s work₀ types c₀ count₀ work c count = c .left
 
 loop-holds : tie.Need-loop-holds Inv-loop μ-loop
 loop-holds c = search using-begin
@@ -21,9 +18,6 @@ visit-requires c κs = search needs
 
 enum-known-what : tie.Need-enum-known-what Inv-loop μ-loop
 enum-known-what c = search needs
-
-body-uses-requires : tie.Need-body-uses-requires Inv-loop μ-loop
-body-uses-requires c κs = search needs
 
 use-field-requires : tie.Need-use-field-requires Inv-loop μ-loop
 use-field-requires c κs = search (visit-few, using-skips, needs)
@@ -55,17 +49,15 @@ same-length-2 c = search needs
 returns-2 : tie.Need-returns-2 Inv-loop μ-loop
 returns-2 c = search using-done
 
-pub use-all-spec : {M : Type 1} → statement M
-use-all-spec =
+pub use-ahead-spec : {M : Type 1} → statement M
+use-ahead-spec =
     tie.close
     (tie.spec
     Inv-loop
     μ-loop
-    start-requires
     loop-holds
     visit-requires
     enum-known-what
-    body-uses-requires
     use-field-requires
     enum-known-k
     enum-known-n

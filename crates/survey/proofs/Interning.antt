@@ -1,0 +1,151 @@
+-- Laws of the uses of types, field after field.
+use Prim.Native.Nat.{ℕ, _+_, _-_, _≤_, _<_}
+use mathlib.Core.Path.{_≡_, sym, _∙_, ap}
+use mathlib.Core.List.{List, [], _++_, append-nil, append-assoc}
+use mathlib.Core.Option.{Option, none, some}
+use lib.ListN.{getD}
+use native.Mathlib.Omega.{arith}
+use Rattle.definition.specs.Basic.{ok, refused}
+use Rattle.definition.specs.Syntax.{Bytes, Identifier}
+use Rattle.definition.specs.Read.{fieldBody}
+use Rattle.definition.specs.Deinline.{Numbered}
+use Rattle.definition.specs.Types.{Uses, bodyUses, uses, declared, intern, allTypes}
+use Rattle.laws.proofs.Interning.{intern-keeps}
+use Rattle.sources.specs.Views.{countOf}
+use Rattle.fields.specs.Views.{fieldOf}
+use Rattle.fields.specs.declared.field.Field.{Field}
+use Rattle.space.specs.Kept.{Kept}
+use Rattle.space.proofs.Kept.{kept-word}
+use Rattle.signatures.specs.Table.{typeTable}
+use Rattle.signatures.proofs.Types.{table-kept}
+use Rattle.walk.specs.Walk.{bodyIn, begin, cursorAfter, visitIn, visitOf, fieldsHere, fieldsAhead, fieldsIn, Ahead}
+use Rattle.walk.specs.declared.Cursor.{Cursor}
+use Rattle.walk.specs.declared.Met.{Met}
+use Rattle.walk.specs.declared.What.the-variants as W
+use Rattle.walk.proofs.Steps.{visit-done, visit-few, visit-next, visit-fields, visit-unused}
+use Rattle.types.specs.Uses.{Skips, usesField, endAfter, Known, Handled, Handles}
+use Rattle.types.specs.declared.taken.Used.{Used}
+use Rattle.types.specs.declared.taken.Used.the-variants as U
+use Rattle.types.proofs.Handled.{intern-on, intern-stops, known-kept, known-append, known-wide, keeps-same, handles-types, handles-stopped}
+use Rattle.types.proofs.Bodies.{after-low, after-high}
+use Rattle.types.proofs.Fields.{uses-append, record-uses}
+
+-- ## The record after a field
+
+end-low : (b : Option ℕ) (r : ℕ) (s : Bytes) (here : ℕ) → r + 1 ≤ endAfter b r s here
+end-low none r s here = omega arith
+end-low (some k) r s here = after-low (4096 - (r + 1)) k (r + 1) s here
+
+end-high : (b : Option ℕ) (r : ℕ) (s : Bytes) (here : ℕ) → r < 4096 → endAfter b r s here ≤ 4096
+end-high none r s here h = omega arith
+end-high (some k) r s here h = let e = after-high (4096 - (r + 1)) k (r + 1) s here in omega arith
+
+-- ## The walk
+
+-- the types so far decide over the uses that are ahead
+pub record Interning (s w : List ℕ) (c : Cursor) (k : ℕ) : Type 0 where
+  pub same : allTypes (fieldsIn s) ≡ intern (typeTable k s w 520) (uses (fieldsAhead c s))
+
+-- the uses so far are known by their numbers
+pub record Knowing (s w : List ℕ) (c : Cursor) (k : ℕ) : Type 0 where
+  pub done : Uses
+  pub known : Known (c .rec) w (typeTable k s w 520) done
+  pub same : done ++ uses (fieldsAhead c s) ≡ uses (fieldsIn s)
+  pub low : c .rec ≤ 4096
+
+-- before the first field
+module _ (s w : List ℕ) (k : ℕ) (c : Cursor) (e : c ≡ begin) where
+  pub interning-begin : typeTable k s w 520 ≡ declared (fieldsIn s) → Interning s w c k
+  unfolding allTypes fieldsIn
+  interning-begin t = record { same = rw (e, t) }
+
+  pub knowing-begin : Knowing s w c k
+  unfolding fieldsIn begin Known
+  knowing-begin = record { done = []; known = tt; same = rw e; low = rw e (omega arith) }
+
+-- words after the types and their numbers do not matter
+module _ (s w w′ : List ℕ) (c : Cursor) (k : ℕ) (few : k ≤ 256) (h : Kept 5904 w w′) where
+  pub interning-kept : Interning s w c k → Interning s w′ c k
+  interning-kept v = record { same = rw (table-kept k s 520 5904 (omega arith) h) (v .same) }
+
+  pub knowing-kept : Knowing s w c k → Knowing s w′ c k
+  knowing-kept v =
+      let t = typeTable k s w 520 in
+      record {
+        done = v .done;
+        known = rw (table-kept k s 520 5904 (omega arith) h)
+            (known-kept (c .rec) (c .rec) w w′ t t (v .done) (omega arith) (keeps-same t) (λ i l. kept-word h (1800 + i) (omega (arith, v .low))) (v .known));
+        same = v .same;
+        low = v .low;
+      }
+
+module _ (s : Bytes) (c : Cursor) (m : Met) (told : visitIn (c .left) c s ≡ visitOf s m) where
+  -- no field is left
+  module _ (w : List ℕ) (k : ℕ) (is : m .what ≡ W.Done) where
+    pub interning-done : Interning s w c k → allTypes (fieldsIn s) ≡ ok (typeTable k s w 520)
+    unfolding uses intern
+    interning-done v = v .same ∙ rw (visit-done s c m told is)
+
+    pub knowing-done : Knowing s w c k → Known 4096 w (typeTable k s w 520) (uses (fieldsIn s))
+    unfolding uses
+    knowing-done v =
+        let all : v .done ≡ uses (fieldsIn s) = sym (append-nil (v .done)) ∙ ap (λ (l : Numbered Identifier). v .done ++ uses l) (sym (visit-done s c m told is)) ∙ v .same in
+        rw (← all) (known-wide (c .rec) 4096 w (typeTable k s w 520) (v .done) (v .low) (v .known))
+
+  module _ (f : Field) (here : ℕ) (is : m .what ≡ W.Field f here) where
+    -- a body that is not marked need not be looked at
+    pub field-skips : (w : List ℕ) → Ahead s w c → Skips w (c .own) (bodyUses (c .rec + 1) (bodyIn (fieldBody (fieldOf s f)) (c .rec + 1) s here))
+    field-skips w a = record { unused = λ d. visit-unused s c m told f here is w a d }
+
+    abbrev here-uses : Uses
+    here-uses = usesField (c .rec) (fieldOf s f) s here
+
+    -- the uses of a field, and those ahead of it
+    split : uses (fieldsAhead c s) ≡ here-uses ++ uses (fieldsAhead (m .next) s)
+    unfolding fieldsHere
+    split =
+        ap uses (visit-fields s c m told f here is) ∙ uses-append _ (fieldsAhead (m .next) s)
+        ∙ ap (λ (l : Uses). l ++ uses (fieldsAhead (m .next) s)) (record-uses (c .rec) (countOf (c .seen)) (fieldOf s f) s here)
+
+    module _ (w : List ℕ) (k : ℕ) (q : Used) (w′ : List ℕ) (used : Handles (c .rec) (endAfter (fieldBody (fieldOf s f)) (c .rec) s here) s here-uses w k q w′) where
+      -- they were refused
+      pub interning-refused : Interning s w c k → (n p : ℕ) → q ≡ U.Refused n p → allTypes (fieldsIn s) ≡ refused n p
+      interning-refused v n p e =
+          let d = split in
+          v .same ∙ rw d (intern-stops (typeTable k s w 520) here-uses (uses (fieldsAhead (m .next) s)) n p (handles-stopped _ _ s here-uses w k q w′ used n p e .says))
+
+      pub refused-kept : (n p : ℕ) → q ≡ U.Refused n p → Kept 520 w w′
+      refused-kept n p e = handles-stopped _ _ s here-uses w k q w′ used n p e .kept
+
+      -- they were taken or added
+      module _ (k′ : ℕ) (e : q ≡ U.Types k′) where
+        abbrev u : Handled (c .rec) (endAfter (fieldBody (fieldOf s f)) (c .rec) s here) s here-uses w k w′ k′
+        u = handles-types _ _ s here-uses w k q w′ used k′ e
+
+        pub used-few : k′ ≤ 256
+        used-few = u .few
+
+        pub used-kept : Kept 520 w w′
+        used-kept = u .kept
+
+        pub used-above : (i : ℕ) → 5904 ≤ i → getD w′ i 0 ≡ getD w i 0
+        used-above i l = u .above i (omega arith)
+
+        pub interning-again : Interning s w c k → Interning s w′ (m .next) k′
+        interning-again v = let d = split in record { same = v .same ∙ rw d (intern-on (typeTable k s w 520) (typeTable k′ s w′ 520) here-uses (uses (fieldsAhead (m .next) s)) (u .types)) }
+
+        pub knowing-again : Knowing s w c k → Knowing s w′ (m .next) k′
+        unfolding cursorAfter
+        knowing-again v =
+            let next : m .next .rec ≡ endAfter (fieldBody (fieldOf s f)) (c .rec) s here = ap (λ (z : Cursor). z .rec) (visit-next s c m told f here is) in
+            let low = end-low (fieldBody (fieldOf s f)) (c .rec) s here in
+            let high = end-high (fieldBody (fieldOf s f)) (c .rec) s here (visit-few s c m told f here is) in
+            let ts = typeTable k s w 520 in
+            let all = typeTable k′ s w′ 520 in
+            record {
+              done = v .done ++ here-uses;
+              known = rw next (known-append _ w′ all (v .done) here-uses
+                  (known-kept (c .rec) _ w w′ ts all (v .done) (omega arith) (intern-keeps ts here-uses all (u .types)) (u .before) (v .known)) (u .known));
+              same = append-assoc (v .done) here-uses (uses (fieldsAhead (m .next) s)) ∙ ap (λ (l : Uses). v .done ++ l) (sym split) ∙ v .same;
+              low = omega arith;
+            }
