@@ -1,9 +1,9 @@
-// The interning pass: the declared types of a stream, wherever they stand, and then those that uses add, in order of use.
+// The interning of types: the declared types of a stream, wherever they stand, and those that the uses of a field add, in order of use.
 pub mod body;
 pub mod declared;
 pub mod field;
-pub mod pass;
 pub mod taken;
 
-pub use pass::Typed;
-pub use pass::all_types;
+pub use declared::declare_all;
+pub use field::use_field;
+pub use taken::Used;
