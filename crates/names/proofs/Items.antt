@@ -1,4 +1,4 @@
--- One item in its table, and the items that a field brings.
+-- Where an item goes, and that there is room for the items that a field brings.
 use Prim.Native.Nat.{ℕ, _+_, _*_, _≤_, _<_}
 use mathlib.Core.Path.{_≡_, refl, sym, _∙_, ap}
 use mathlib.Core.Bool.{Bool, true, false}
@@ -62,6 +62,10 @@ base-low types = omega arith
 base-low elems = omega arith
 base-low datas = omega arith
 
+pub base-high : (k : Space) → 5904 ≤ base k
+unfolding base
+base-high k = omega arith
+
 module _ (k : Space) (c : ℕ) (e : c ≡ code k) where
   pub base-mul : Fits w64 (768 * c)
   unfolding base
@@ -87,46 +91,6 @@ module _ (s w : List ℕ) (seen : Seen) (k : Space) (p : Part) (r b n : ℕ) (d 
 
   pub item-place : countOf seen k < 256 → Fits w64 (b + 3 * n)
   item-place low = record { fits = omega (arith, base-low k) }
-
-  module _ (t : Bool) (h : t ≡ taken sameBytes (idOf s p) (names n s w b)) where
-    pub item-taken : t ≡ true → registerIn s w seen r ((k, p) ∷ []) ≡ refused 13 r
-    unfolding registerIn tableAt
-    item-taken y = rw (← e, ← d, ← h, y)
-
-    pub item-put : (w′ : List ℕ) → t ≡ false → w′ ≡ entryWords s w (b + 3 * n) p → registerIn s w seen r ((k, p) ∷ []) ≡ ok w′
-    unfolding registerIn tableAt
-    item-put w′ y z = rw (← e, ← d, ← h, y, z)
-
--- ## One item after the other
-
-module _ (s w : List ℕ) (seen : Seen) (r : ℕ) (j : Space) (a : Part) where
-  register-then : (ps : List Entry) (w′ : List ℕ) → registerIn s w seen r ((j, a) ∷ []) ≡ ok w′
-      → registerIn s w seen r ((j, a) ∷ ps) ≡ registerIn s w′ (oneMore seen j) r ps
-  unfolding registerIn
-  register-then ps w′ e = go (taken sameBytes (idOf s a) (tableAt seen j s w)) e
-    where
-      go : (t : Bool) → (if t then refused 13 r else ok (entryWords s w (base j + 3 * countOf seen j) a)) ≡ ok w′
-          → (if t then refused 13 r else registerIn s (entryWords s w (base j + 3 * countOf seen j) a) (oneMore seen j) r ps) ≡ registerIn s w′ (oneMore seen j) r ps
-      go true e = let z : _≡_ {A = ℕ} 0 1 = cc in absurd (omega arith)
-      go false e = let d : entryWords s w (base j + 3 * countOf seen j) a ≡ w′ = cc in rw d
-
-  register-stops : (ps : List Entry) (n q : ℕ) → registerIn s w seen r ((j, a) ∷ []) ≡ refused n q → registerIn s w seen r ((j, a) ∷ ps) ≡ refused n q
-  unfolding registerIn
-  register-stops ps n q e = go (taken sameBytes (idOf s a) (tableAt seen j s w)) e
-    where
-      go : (t : Bool) → (if t then refused 13 r else ok (entryWords s w (base j + 3 * countOf seen j) a)) ≡ refused n q
-          → (if t then refused 13 r else registerIn s (entryWords s w (base j + 3 * countOf seen j) a) (oneMore seen j) r ps) ≡ refused n q
-      go true e = cc
-      go false e = let z : _≡_ {A = ℕ} 0 1 = cc in absurd (omega arith)
-
-module _ (s w : List ℕ) (seen : Seen) (r : ℕ) (j : Space) (a b : Part) (q : Registered) (w′ : List ℕ) (told : registerIn s w seen r ((j, b) ∷ []) ≡ registered q w′) (e : b ≡ a) where
-  -- the first was registered: the others decide
-  pub first-done : (ps : List Entry) (more : Seen) (x : Answer (List ℕ)) → q ≡ R.Done → more ≡ oneMore seen j → registerIn s w′ more r ps ≡ x → registerIn s w seen r ((j, a) ∷ ps) ≡ x
-  first-done ps more x d m h = rw (← e, register-then s w seen r j b ps w′ (rw d at told), ← m) h
-
-  -- it was not
-  pub first-refused : (ps : List Entry) (n z : ℕ) → q ≡ R.Refused n z → registerIn s w seen r ((j, a) ∷ ps) ≡ refused n z
-  first-refused ps n z d = rw (← e) (register-stops s w seen r j b ps n z (rw d at told))
 
 -- ## Room for what a field brings
 
@@ -176,44 +140,3 @@ module _ (seen : Seen) (f : Field) (h : Fit seen (brought f)) where
   fit-data i m b d = (rw d at h) .0
 
 pub ruleset fits = (fit-first, fit-second, fit-own, fit-imported, fit-table, fit-mem, fit-type, fit-import, fit-item, fit-elem, fit-data)
-
--- ## What the answers say
-
-module _ (s w : List ℕ) (seen : Seen) (r : ℕ) (a : Answer (List ℕ)) where
-  pub of-own : (i : Part) (x : Source) (j : Space) (o : Own) → x ≡ S.Own o → j ≡ ownBrings o → registerIn s w seen r ((j, i) ∷ []) ≡ a → registerIn s w seen r (sourceItems i x) ≡ a
-  of-own i x j o d e h = rw (d, ← e) h
-
-  pub of-imported : (i : Part) (x : Source) (j : Space) (n : _) (y : Extern) → x ≡ S.Imported n y → j ≡ externBrings y → registerIn s w seen r ((j, i) ∷ []) ≡ a → registerIn s w seen r (sourceItems i x) ≡ a
-  of-imported i x j n y d e h = rw (d, ← e) h
-
-  pub of-table : (i : Part) (x : Source) (wide : Bool) (xs : Code.List) → x ≡ S.TableOf wide xs → registerIn s w seen r ((elems, nameless) ∷ (tables, i) ∷ []) ≡ a → registerIn s w seen r (sourceItems i x) ≡ a
-  of-table i x wide xs d h = rw d h
-
-  pub of-mem : (i : Part) (x : Source) (wide : Bool) (b : Part) → x ≡ S.MemOf wide b → registerIn s w seen r ((datas, nameless) ∷ (mems, i) ∷ []) ≡ a → registerIn s w seen r (sourceItems i x) ≡ a
-  of-mem i x wide b d h = rw d h
-
-  pub of-type : (f : Field) (i : Part) (ps rs : Code.List) → f ≡ F.Type i ps rs → registerIn s w seen r ((types, i) ∷ []) ≡ a → registerIn s w seen r (brought f) ≡ a
-  of-type f i ps rs d h = rw d h
-
-  pub of-import : (f : Field) (j : Space) (n : _) (i : Part) (x : Extern) → f ≡ F.Import n i x → j ≡ externBrings x → registerIn s w seen r ((j, i) ∷ []) ≡ a → registerIn s w seen r (brought f) ≡ a
-  of-import f j n i x d e h = rw (d, ← e) h
-
-  pub of-item : (f : Field) (i : Part) (es : Code.List) (x : Source) → f ≡ F.Item i es x → registerIn s w seen r (sourceItems i x) ≡ a → registerIn s w seen r (brought f) ≡ a
-  of-item f i es x d h = rw d h
-
-  pub of-elem : (f : Field) (i : Part) (m : _) (xs : Code.List) → f ≡ F.Elem i m xs → registerIn s w seen r ((elems, i) ∷ []) ≡ a → registerIn s w seen r (brought f) ≡ a
-  of-elem f i m xs d h = rw d h
-
-  pub of-data : (f : Field) (i : Part) (m : _) (b : Part) → f ≡ F.Data i m b → registerIn s w seen r ((datas, i) ∷ []) ≡ a → registerIn s w seen r (brought f) ≡ a
-  of-data f i m b d h = rw d h
-
-module _ (s w : List ℕ) (seen : Seen) (r : ℕ) (f : Field) where
-  pub of-export : (n : Part) (k : _) (x : _) → f ≡ F.Export n k x → registerIn s w seen r (brought f) ≡ ok w
-  unfolding registerIn
-  of-export n k x d = rw d
-
-  pub of-start : (x : _) → f ≡ F.Start x → registerIn s w seen r (brought f) ≡ ok w
-  unfolding registerIn
-  of-start x d = rw d
-
-pub ruleset ofs = (of-own, of-imported, of-table, of-mem, of-type, of-import, of-item, of-elem, of-data, of-export, of-start)

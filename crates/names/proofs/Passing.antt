@@ -1,4 +1,4 @@
--- The pass over all fields: what the definition registers stands in the tables.
+-- A walk over all fields: what the definition registers stands in the tables.
 use Prim.Native.Nat.{ℕ, zero, suc, _+_, _*_, _-_, _≤_, _<_, min}
 use mathlib.Core.Path.{_≡_, refl, sym, _∙_, ap}
 use mathlib.Core.Bool.{Bool, true, false}
@@ -35,19 +35,19 @@ use Rattle.stream.proofs.Counts.{extern-brings, own-brings}
 use Rattle.laws.proofs.Sets.{sets-more}
 use Rattle.space.specs.Area.{entry, entryWords, names}
 use Rattle.space.specs.Kept.{Kept}
-use Rattle.space.proofs.Kept.{kept-then, kept-same, kept-less, kept-set}
+use Rattle.space.proofs.Kept.{kept-then, kept-same, kept-set}
 use Rattle.definition.specs.Read.{fieldBody}
-use Rattle.walk.specs.Walk.{bodyIn, counting, seenWith, begin, cursorAfter, visitIn, visitOf, fieldsHere, fieldsAhead, fieldsIn, Ahead}
+use Rattle.walk.specs.Walk.{bodyIn, counting, seenWith, begin, cursorAfter, visitIn, visitOf, fieldsHere, fieldsAhead, fieldsIn}
 use Rattle.walk.specs.declared.Cursor.{Cursor}
 use Rattle.walk.specs.declared.Met.{Met}
 use Rattle.walk.specs.declared.What.the-variants as W
-use Rattle.walk.proofs.Steps.{visit-done, visit-read, visit-fields, visit-next, visit-ahead, ahead-kept}
+use Rattle.walk.proofs.Steps.{visit-done, visit-read, visit-fields, visit-next}
 use Rattle.walk.proofs.Gives.{roomy, RoomyField, Rooms}
-use Rattle.names.specs.Register.{base, tableAt, tableOf, Entry, registerIn, nameless, sourceItems, brought, Fit, registered, Tables, Stands, Registers}
+use Rattle.names.specs.Register.{base, tableAt, tableOf, Entry, registerIn, nameless, sourceItems, brought, Fit, Puts, Tables}
 use Rattle.names.specs.declared.register.Registered.{Registered}
 use Rattle.names.specs.declared.register.Registered.the-variants as R
-use Rattle.names.proofs.Items.{base-low}
-use Rattle.names.proofs.Tables.{Holding, holding-more, words-length, words-kept, code-small}
+use Rattle.names.proofs.Items.{base-high}
+use Rattle.names.proofs.Tables.{Holding, holding-more, words-length, code-small}
 
 -- ## What the definition registers of a field
 
@@ -114,11 +114,6 @@ record Went (s w : List ℕ) (seen : Seen) (r : ℕ) (xs : Items Identifier) (ps
   items : Items Identifier
   holding : Holding s w′ (after seen ps) items
   same : (fs : Numbered Identifier) → partsThen s r xs ps fs ≡ register sameBytes items fs
-  kept : Kept 5904 w w′
-
-base-high : (k : Space) → 5904 ≤ base k
-unfolding base
-base-high k = omega arith
 
 -- one item more, where it is not taken
 module _ (s w : List ℕ) (seen : Seen) (r : ℕ) (xs : Items Identifier) (h : Holding s w seen xs) (k : Space) (p : Part) (ps : List Entry) (low : countOf seen k < 256) (long : 16384 ≤ length w) where
@@ -141,13 +136,12 @@ module _ (s w : List ℕ) (seen : Seen) (r : ℕ) (xs : Items Identifier) (h : H
         items = y .items;
         holding = y .holding;
         same = λ fs. rw (h .each k, d) (y .same fs);
-        kept = kept-then (words-kept s w (base k + 3 * countOf seen k) p 5904 (omega (arith, base-high k))) (y .kept);
       }
 
 went : (s w : List ℕ) (seen : Seen) (r : ℕ) (xs : Items Identifier) (ps : List Entry) (w′ : List ℕ)
     → Holding s w seen xs → Fit seen ps → 16384 ≤ length w → registerIn s w seen r ps ≡ ok w′ → Went s w seen r xs ps w′
 unfolding registerIn partsThen after Fit
-went s w seen r xs [] w′ h g long e = let d : w ≡ w′ = cc in record { items = xs; holding = rw (← d) h; same = λ fs. refl; kept = rw (← d) (kept-same 5904 w) }
+went s w seen r xs [] w′ h g long e = let d : w ≡ w′ = cc in record { items = xs; holding = rw (← d) h; same = λ fs. refl }
 went s w seen r xs ((k, p) ∷ ps) w′ h g long e =
     go (λ f. went s (entryWords s w (base k + 3 * countOf seen k) p) (oneMore seen k) r (xs ++ ((k, idOf s p) ∷ [])) ps w′
     (stood s w seen r xs h k p ps (g .0) long) (g .1) (far s w seen r xs h k p ps (g .0) long) f)
@@ -232,14 +226,13 @@ module _ (s : Bytes) (seen : Seen) where
   fits-read : (f : Code.Field) (at here : ℕ) → fieldRec (roomOf seen) s at ≡ got (fieldOf s f) here → Fit seen (brought f)
   fits-read f at here e = roomy-fits f (roomy (roomOf seen) s at (fieldOf s f) here e)
 
--- ## The loop
+-- ## The walk
 
-pub record Registering (s w₀ w : List ℕ) (c : Cursor) : Type 0 where
+-- the items so far stand in the tables, and the others are ahead
+pub record Registering (s w : List ℕ) (c : Cursor) : Type 0 where
   pub items : Items Identifier
   pub holding : Holding s w (c .seen) items
   pub same : register sameBytes [] (fieldsIn s) ≡ register sameBytes items (fieldsAhead c s)
-  pub kept : Kept 5904 w₀ w
-  pub ahead : Ahead s w c
 
 holding-none : (s w : List ℕ) → Holding s w noneSeen []
 unfolding space tableAt names
@@ -264,51 +257,56 @@ holding-none s w = record { each = none; few = few; seven = refl }
     few datas = omega arith
 
 -- before the first field
-pub registering-begin : (s w : List ℕ) (c : Cursor) → c ≡ begin → Ahead s w begin → Registering s w w c
+pub registering-begin : (s w : List ℕ) (c : Cursor) → c ≡ begin → Registering s w c
 unfolding fieldsIn begin
-registering-begin s w c e a = record { items = []; holding = rw e (holding-none s w); same = rw e; kept = kept-same 5904 w; ahead = rw e a }
+registering-begin s w c e = record { items = []; holding = rw e (holding-none s w); same = rw e }
 
-module _ (s w₀ w : List ℕ) (c : Cursor) (v : Registering s w₀ w c) where
-  pub registering-ahead : Ahead s w c
-  registering-ahead = v .ahead
+-- words below the tables do not matter to them
+names-same : (s w w′ : List ℕ) (n b : ℕ) → 5904 ≤ b → ((i : ℕ) → 5904 ≤ i → getD w′ i 0 ≡ getD w i 0) → names n s w′ b ≡ names n s w b
+unfolding names entry
+names-same s w w′ zero b h f = refl
+names-same s w w′ (suc n) b h f = rw (f b h, f (b + 1) (omega arith), f (b + 2) (omega arith), names-same s w w′ n (b + 3) (omega arith) f)
 
-  pub registering-long : 16384 ≤ length w₀ → 16384 ≤ length w
-  registering-long h = rw (v .kept .long) h
+pub registering-above : (s w w′ : List ℕ) (c : Cursor) → ((i : ℕ) → 5904 ≤ i → getD w′ i 0 ≡ getD w i 0) → Registering s w c → Registering s w′ c
+unfolding tableAt
+registering-above s w w′ c f v =
+    record {
+      items = v .items;
+      holding = record { each = λ k. v .holding .each k ∙ sym (names-same s w w′ (countOf (c .seen) k) (base k) (base-high k) f); few = v .holding .few; seven = v .holding .seven };
+      same = v .same;
+    }
 
-  module _ (m : Met) (told : visitIn (c .left) c s ≡ visitOf s m) where
-    module _ (f : Code.Field) (here : ℕ) (is : m .what ≡ W.Field f here) where
-      -- a field's items have room
-      pub registering-fit : Fit (c .seen) (brought f)
-      registering-fit = fits-read s (c .seen) f (c .at) here (visit-read s c m told f here is)
+module _ (s : List ℕ) (c : Cursor) (m : Met) (told : visitIn (c .left) c s ≡ visitOf s m) (f : Code.Field) (here : ℕ) (is : m .what ≡ W.Field f here) where
+  -- a field's items have room
+  pub registering-fit : Fit (c .seen) (brought f)
+  registering-fit = fits-read s (c .seen) f (c .at) here (visit-read s c m told f here is)
 
-      fields : (xs : Items Identifier) → register sameBytes xs (fieldsAhead c s) ≡ partsThen s (c .rec) xs (brought f) (fieldsAhead (m .next) s)
-      unfolding fieldsHere
-      fields xs = rw (visit-fields s c m told f here is) (field-parts s (c .rec) (countOf (c .seen)) (bodyIn (fieldBody (fieldOf s f)) (c .rec + 1) s here) xs (fieldsAhead (m .next) s) f)
+  fields : (xs : Items Identifier) → register sameBytes xs (fieldsAhead c s) ≡ partsThen s (c .rec) xs (brought f) (fieldsAhead (m .next) s)
+  unfolding fieldsHere
+  fields xs = rw (visit-fields s c m told f here is) (field-parts s (c .rec) (countOf (c .seen)) (bodyIn (fieldBody (fieldOf s f)) (c .rec + 1) s here) xs (fieldsAhead (m .next) s) f)
 
-      module _ (q : Registered) (w′ : List ℕ) (put : registerIn s w (c .seen) (c .rec) (brought f) ≡ registered q w′) (long : 16384 ≤ length w) where
-        -- they were registered
-        pub registering-again : q ≡ R.Done → Registering s w₀ w′ (m .next)
-        unfolding cursorAfter
-        registering-again d =
-            let y = went s w (c .seen) (c .rec) (v .items) (brought f) w′ (v .holding) registering-fit long (rw d at put) in
-            let n = visit-next s c m told f here is in
-            record {
-              items = y .items;
-              holding = holding-as s w′ (after (c .seen) (brought f)) (m .next .seen) (y .items) (after-field s (c .seen) f ∙ ap (λ (z : Cursor). z .seen .counts) (sym n)) (y .holding);
-              same = v .same ∙ fields (v .items) ∙ y .same (fieldsAhead (m .next) s);
-              kept = kept-then (v .kept) (y .kept);
-              ahead = visit-ahead s c m told f here is w′ (ahead-kept s w w′ c (kept-less 520 5904 (omega arith) (y .kept)) (v .ahead));
-            }
+  module _ (w : List ℕ) (v : Registering s w c) (q : Registered) (w′ : List ℕ) (put : Puts s w (c .seen) (c .rec) (brought f) q w′) (long : 16384 ≤ length w) where
+    -- they were registered
+    pub registering-again : q ≡ R.Done → Registering s w′ (m .next)
+    unfolding cursorAfter
+    registering-again d =
+        let y = went s w (c .seen) (c .rec) (v .items) (brought f) w′ (v .holding) registering-fit long (rw d at (put .says)) in
+        let n = visit-next s c m told f here is in
+        record {
+          items = y .items;
+          holding = holding-as s w′ (after (c .seen) (brought f)) (m .next .seen) (y .items) (after-field s (c .seen) f ∙ ap (λ (z : Cursor). z .seen .counts) (sym n)) (y .holding);
+          same = v .same ∙ fields (v .items) ∙ y .same (fieldsAhead (m .next) s);
+        }
 
-        -- one was not
-        pub registering-stops : (n z : ℕ) → q ≡ R.Refused n z → register sameBytes [] (fieldsIn s) ≡ refused n z
-        registering-stops n z d =
-            v .same ∙ fields (v .items) ∙ stopped s w (c .seen) (c .rec) (v .items) (brought f) n z (v .holding) registering-fit long (rw d at put) (fieldsAhead (m .next) s)
+    -- one was not
+    pub registering-stops : (n z : ℕ) → q ≡ R.Refused n z → register sameBytes [] (fieldsIn s) ≡ refused n z
+    registering-stops n z d =
+        v .same ∙ fields (v .items) ∙ stopped s w (c .seen) (c .rec) (v .items) (brought f) n z (v .holding) registering-fit long (rw d at (put .says)) (fieldsAhead (m .next) s)
 
-    -- no field is left
-    pub registering-done : m .what ≡ W.Done → register sameBytes [] (fieldsIn s) ≡ ok (v .items)
-    unfolding register
-    registering-done is = v .same ∙ rw (visit-done s c m told is) refl
+-- no field is left
+pub registering-done : (s w : List ℕ) (c : Cursor) (v : Registering s w c) (m : Met) → visitIn (c .left) c s ≡ visitOf s m → m .what ≡ W.Done → register sameBytes [] (fieldsIn s) ≡ ok (v .items)
+unfolding register
+registering-done s w c v m told is = v .same ∙ rw (visit-done s c m told is) refl
 
 -- ## The counts
 
@@ -362,9 +360,8 @@ unfolding names entry
 names-above s w xs zero b h = refl
 names-above s w xs (suc n) b h = rw (sets-other w 5897 xs b h, sets-other w 5897 xs (b + 1) (omega arith), sets-other w 5897 xs (b + 2) (omega arith), names-above s w xs n (b + 3) (omega arith))
 
--- all fields were registered, and the counts say how many names there are
-module _ (s w₀ w : List ℕ) (c : Cursor) (v : Registering s w₀ w c) (m : Met) (told : visitIn (c .left) c s ≡ visitOf s m) (is : m .what ≡ W.Done)
-    (long : 16384 ≤ length w) (w′ : List ℕ) (e : w′ ≡ sets w 5897 (c .seen .counts)) where
+-- the counts say how many names there are
+module _ (s w : List ℕ) (c : Cursor) (v : Registering s w c) (long : 16384 ≤ length w) (w′ : List ℕ) (e : w′ ≡ sets w 5897 (c .seen .counts)) where
   stands-table : (k : Space) → space k (v .items) ≡ tableOf k s w′
   unfolding tableOf tableAt
   stands-table k =
@@ -373,19 +370,8 @@ module _ (s w₀ w : List ℕ) (c : Cursor) (v : Registering s w₀ w c) (m : Me
       let b : min (countOf (c .seen) k) 256 ≡ countOf (c .seen) k = omega (arith, v .holding .few k) in
       rw (e, a, b, names-above s w (c .seen .counts) (countOf (c .seen) k) (base k) (omega (arith, base-high k, v .holding .seven))) (v .holding .each k)
 
-  pub registers-done : Registers s w₀ R.Done w′
-  unfolding Registers
-  registers-done =
-      record {
-        items = v .items;
-        says = registering-done s w₀ w c v m told is;
-        tables = record { each = stands-table };
-        kept = kept-then (kept-less 5897 5904 (omega arith) (v .kept)) (rw e (sets-kept 5897 w 5897 (c .seen .counts) (omega arith)));
-      }
+  pub counted-tables : Tables s w′ (v .items)
+  counted-tables = record { each = stands-table }
 
--- one was refused
-module _ (s w₀ w : List ℕ) (c : Cursor) (v : Registering s w₀ w c) (m : Met) (told : visitIn (c .left) c s ≡ visitOf s m) (f : Code.Field) (here : ℕ) (is : m .what ≡ W.Field f here)
-    (q : Registered) (w′ : List ℕ) (put : registerIn s w (c .seen) (c .rec) (brought f) ≡ registered q w′) (long : 16384 ≤ length w) where
-  pub registers-stops : (n z : ℕ) → q ≡ R.Refused n z → length w′ ≡ length w → Registers s w₀ (R.Refused n z) w′
-  unfolding Registers
-  registers-stops n z d l = (registering-stops s w₀ w c v m told f here is q w′ put long n z d, l ∙ v .kept .long)
+  pub counted-kept : Kept 5897 w w′
+  counted-kept = rw e (sets-kept 5897 w 5897 (c .seen .counts) (omega arith))

@@ -2,11 +2,11 @@
 use Prim.Native.Nat.{ℕ, _+_, _*_, _<_, min}
 use mathlib.Core.Path.{_≡_}
 use mathlib.Core.List.{List, [], _∷_}
-use lib.ListN.{length, getD}
+use lib.ListN.{getD}
 use Rattle.definition.specs.Basic.{if_then_else_, Answer, ok, refused, sameBytes}
 use Rattle.definition.specs.Syntax as Syntax
 use Rattle.definition.specs.Syntax.{Bytes, Identifier, Space, funcs, tables, mems, globals, types, elems, datas, code}
-use Rattle.definition.specs.Names.{Namespace, Items, taken, space, register}
+use Rattle.definition.specs.Names.{Namespace, Items, taken, space}
 use Rattle.token.specs.Views.{idOf}
 use Rattle.token.specs.declared.text.Part.{Part}
 use Rattle.sources.specs.Views.{countOf}
@@ -18,7 +18,6 @@ use Rattle.fields.specs.declared.field.Field.the-variants as F
 use Rattle.stream.specs.Counting.{oneMore, externBrings, ownBrings}
 use Rattle.space.specs.Area.{entryWords, names}
 use Rattle.space.specs.Kept.{Kept}
-use Rattle.walk.specs.Walk.{fieldsIn}
 use Rattle.names.specs.declared.register.Registered.{Registered}
 use Rattle.names.specs.declared.register.Registered.the-variants as R
 
@@ -77,18 +76,13 @@ abbrev pub registered : Registered → List ℕ → Answer (List ℕ)
 registered R.Done w = ok w
 registered (R.Refused n r) w = refused n r
 
--- ## The pass
+-- they were registered or refused, and the words below the tables are as they were
+pub record Puts (s w : List ℕ) (seen : Seen) (r : ℕ) (ps : List Entry) (q : Registered) (w′ : List ℕ) : Type 0 where
+  pub says : registerIn s w seen r ps ≡ registered q w′
+  pub kept : Kept 5904 w w′
+
+-- ## All items
 
 -- the items that were registered stand in the tables
 pub record Tables (s w : List ℕ) (xs : Items Identifier) : Type 0 where
   pub each : (k : Space) → space k xs ≡ tableOf k s w
-
-pub record Stands (s w w′ : List ℕ) : Type 0 where
-  pub items : Items Identifier
-  pub says : register sameBytes [] (fieldsIn s) ≡ ok items
-  pub tables : Tables s w′ items
-  pub kept : Kept 5897 w w′
-
-unfoldable pub Registers : Bytes → List ℕ → Registered → List ℕ → Type 0
-Registers s w R.Done w′ = Stands s w w′
-Registers s w (R.Refused n r) w′ = (register sameBytes [] (fieldsIn s) ≡ refused n r) × (length w′ ≡ length w)

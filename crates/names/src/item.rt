@@ -15,7 +15,7 @@ ghost use Rattle.definition.specs.Names as Names;
 ghost use Rattle.token.specs.Views.{idOf, spaceOf};
 ghost use Rattle.sources.specs.Views.{countOf};
 ghost use Rattle.space.specs.Area.{names};
-ghost use Rattle.names.specs.Register.{base, Fit, registerIn, registered, brought, sourceItems, nameless};
+ghost use Rattle.names.specs.Register.{base, Fit, Puts, brought, sourceItems, nameless};
 
 // An identifier that is there already.
 pub fn is_taken(s: &[u8], work: &[u32], base: usize, count: usize, id: Part) -> bool
@@ -42,7 +42,7 @@ pub fn table_base(k: Space) -> usize
 // The next item of a space.
 fn register_item(s: &[u8], work: &mut [u32], seen: Seen, k: Space, id: Part, rec: u32) -> Registered
     requires { ⌜ (length (now s) ≤ 65536) × (16384 ≤ length (now work)) × (countOf seen (spaceOf k) < 256) ⌝ }
-    ensures { λ r. ⌜ registerIn (now (s .entry)) (now (work .entry)) seen rec ((spaceOf k, id) ∷ []) ≡ registered r (now (work .exit)) ⌝ }
+    ensures { λ r. ⌜ Puts (now (s .entry)) (now (work .entry)) seen rec ((spaceOf k, id) ∷ []) r (now (work .exit)) ⌝ }
 {
     let base = table_base(k);
     let count = sources::seen::count_of(seen, k) as usize;
@@ -71,7 +71,7 @@ fn register_with(
     rec: u32,
 ) -> Registered
     requires { ⌜ (length (now s) ≤ 65536) × (16384 ≤ length (now work)) × Fit seen ((spaceOf segment, nameless) ∷ (spaceOf k, id) ∷ []) ⌝ }
-    ensures { λ r. ⌜ registerIn (now (s .entry)) (now (work .entry)) seen rec ((spaceOf segment, nameless) ∷ (spaceOf k, id) ∷ []) ≡ registered r (now (work .exit)) ⌝ }
+    ensures { λ r. ⌜ Puts (now (s .entry)) (now (work .entry)) seen rec ((spaceOf segment, nameless) ∷ (spaceOf k, id) ∷ []) r (now (work .exit)) ⌝ }
 {
     match register_item(s, work, seen, segment, nameless(), rec) {
         Registered::Done => {
@@ -91,7 +91,7 @@ fn register_source(
     rec: u32,
 ) -> Registered
     requires { ⌜ (length (now s) ≤ 65536) × (16384 ≤ length (now work)) × Fit seen (sourceItems id x) ⌝ }
-    ensures { λ r. ⌜ registerIn (now (s .entry)) (now (work .entry)) seen rec (sourceItems id x) ≡ registered r (now (work .exit)) ⌝ }
+    ensures { λ r. ⌜ Puts (now (s .entry)) (now (work .entry)) seen rec (sourceItems id x) r (now (work .exit)) ⌝ }
 {
     match x {
         Source::Own(o) => register_item(s, work, seen, stream::counting::own_space(o), id, rec),
@@ -110,7 +110,7 @@ fn register_source(
 
 pub fn register_field(s: &[u8], work: &mut [u32], seen: Seen, f: Field, rec: u32) -> Registered
     requires { ⌜ (length (now s) ≤ 65536) × (16384 ≤ length (now work)) × Fit seen (brought f) ⌝ }
-    ensures { λ r. ⌜ registerIn (now (s .entry)) (now (work .entry)) seen rec (brought f) ≡ registered r (now (work .exit)) ⌝ }
+    ensures { λ r. ⌜ Puts (now (s .entry)) (now (work .entry)) seen rec (brought f) r (now (work .exit)) ⌝ }
 {
     match f {
         Field::Type {

@@ -1,6 +1,7 @@
-// Registration (the crate's names.rs): every item of the module in the name table of its index space.
+// Registration (the crate's names.rs): the items of a field, each in the name table of its index space.
 pub mod item;
 pub mod register;
 
+pub use item::register_field;
 pub use register::Registered;
-pub use register::register_all;
+pub use register::put_counts;

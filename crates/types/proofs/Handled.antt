@@ -34,18 +34,18 @@ intern-append ts ((r, t) ∷ us) vs =
     same-after (takeOrAdd r t ts (typeAt t ts)) (λ all. intern all (us ++ vs)) (λ all. intern all us >>= λ more. intern more vs) (λ all. intern-append all us vs)
     ∙ sym (assoc (takeOrAdd r t ts (typeAt t ts)) (λ all. intern all us) (λ more. intern more vs))
 
-intern-on : (ts all : List FuncType) (us vs : Uses) → intern ts us ≡ ok all → intern ts (us ++ vs) ≡ intern all vs
+pub intern-on : (ts all : List FuncType) (us vs : Uses) → intern ts us ≡ ok all → intern ts (us ++ vs) ≡ intern all vs
 unfolding _>>=_
 intern-on ts all us vs e = intern-append ts us vs ∙ rw e
 
-intern-stops : (ts : List FuncType) (us vs : Uses) (n q : ℕ) → intern ts us ≡ refused n q → intern ts (us ++ vs) ≡ refused n q
+pub intern-stops : (ts : List FuncType) (us vs : Uses) (n q : ℕ) → intern ts us ≡ refused n q → intern ts (us ++ vs) ≡ refused n q
 unfolding _>>=_
 intern-stops ts us vs n q e = intern-append ts us vs ∙ rw e
 
 -- ## Numbers stay
 
 -- more types at the end, and other words only at records from `m` on
-known-kept : (m high : ℕ) (w w′ : List ℕ) (ts all : List FuncType) (us : Uses) → m ≤ high → Keeps ts all → ((i : ℕ) → i < m → getD w′ (1800 + i) 0 ≡ getD w (1800 + i) 0)
+pub known-kept : (m high : ℕ) (w w′ : List ℕ) (ts all : List FuncType) (us : Uses) → m ≤ high → Keeps ts all → ((i : ℕ) → i < m → getD w′ (1800 + i) 0 ≡ getD w (1800 + i) 0)
     → Known m w ts us → Known high w′ all us
 unfolding Known typeAt
 known-kept m high w w′ ts all [] h k f x = tt
@@ -53,7 +53,7 @@ known-kept m high w w′ ts all ((r, t) ∷ us) h k f x =
     let l = x .0 in
     (omega arith, rw (k .is, f r l) (first-kept (sameType t) ts (k .added) (getD w (1800 + r) 0) (x .1)), known-kept m high w w′ ts all us h k f (x .2))
 
-known-append : (high : ℕ) (w : List ℕ) (ts : List FuncType) (us vs : Uses) → Known high w ts us → Known high w ts vs → Known high w ts (us ++ vs)
+pub known-append : (high : ℕ) (w : List ℕ) (ts : List FuncType) (us vs : Uses) → Known high w ts us → Known high w ts vs → Known high w ts (us ++ vs)
 unfolding Known
 known-append high w ts [] vs x y = y
 known-append high w ts ((r, t) ∷ us) vs x y = (x .0, x .1, known-append high w ts us vs (x .2) y)
@@ -61,14 +61,14 @@ known-append high w ts ((r, t) ∷ us) vs x y = (x .0, x .1, known-append high w
 keeps-same : (ts : List FuncType) → Keeps ts ts
 keeps-same ts = record { added = []; is = sym (append-nil ts) }
 
-known-wide : (m high : ℕ) (w : List ℕ) (ts : List FuncType) (us : Uses) → m ≤ high → Known m w ts us → Known high w ts us
+pub known-wide : (m high : ℕ) (w : List ℕ) (ts : List FuncType) (us : Uses) → m ≤ high → Known m w ts us → Known high w ts us
 known-wide m high w ts us h x = known-kept m high w w ts ts us h (keeps-same ts) (λ i l. refl) x
 
 -- ## None, and one after the other
 
 pub handled-none : (low high : ℕ) (s w : List ℕ) (k : ℕ) → k ≤ 256 → Handled low high s [] w k w k
 unfolding intern Known
-handled-none low high s w k h = record { types = refl; few = h; known = tt; kept = kept-same 520 w; before = λ i l. refl }
+handled-none low high s w k h = record { types = refl; few = h; known = tt; kept = kept-same 520 w; before = λ i l. refl; above = λ i l. refl }
 
 pub handles-none : (low high : ℕ) (s w : List ℕ) (k : ℕ) → k ≤ 256 → Handles low high s [] w k (U.Types k) w
 unfolding Handles
@@ -83,10 +83,11 @@ module _ (low high m m′ : ℕ) (s : Bytes) (us vs : Uses) (w : List ℕ) (k : 
         (known-kept m high w₁ w₂ (typeTable k₁ s w₁ 520) (typeTable k₂ s w₂ 520) us h (intern-keeps _ vs _ (b .types)) (λ i e. b .before i (omega arith)) (a .known)) (b .known);
     kept = kept-then (a .kept) (b .kept);
     before = λ i e. b .before i (omega arith) ∙ a .before i e;
+    above = λ i e. b .above i e ∙ a .above i e;
   }
 
   pub stopped-then : (w₂ : List ℕ) (n q : ℕ) → Stopped s vs w₁ k₁ n q w₂ → Stopped s (us ++ vs) w k n q w₂
-  stopped-then w₂ n q b = record { says = intern-on _ _ us vs (a .types) ∙ b .says; long = b .long ∙ a .kept .long }
+  stopped-then w₂ n q b = record { says = intern-on _ _ us vs (a .types) ∙ b .says; kept = kept-then (a .kept) (b .kept) }
 
   pub handled-wide : m ≤ high → Handled low high s us w k w₁ k₁
   handled-wide h = record {
@@ -95,11 +96,12 @@ module _ (low high m m′ : ℕ) (s : Bytes) (us vs : Uses) (w : List ℕ) (k : 
     known = known-wide m high w₁ (typeTable k₁ s w₁ 520) us h (a .known);
     kept = a .kept;
     before = a .before;
+    above = a .above;
   }
 
 -- the first refusal is the one that is given
 pub stopped-first : (s : Bytes) (us vs : Uses) (w : List ℕ) (k n q : ℕ) (w′ : List ℕ) → Stopped s us w k n q w′ → Stopped s (us ++ vs) w k n q w′
-stopped-first s us vs w k n q w′ a = record { says = intern-stops _ us vs n q (a .says); long = a .long }
+stopped-first s us vs w k n q w′ a = record { says = intern-stops _ us vs n q (a .says); kept = a .kept }
 
 -- ## What an answer tells
 

@@ -17,7 +17,7 @@ use Rattle.instr.specs.Views.{instrIs}
 use Rattle.instr.specs.declared.Instr.{Instr}
 use Rattle.instr.specs.declared.Instr.the-variants as N
 use Rattle.space.specs.Kept.{Kept}
-use Rattle.space.proofs.Kept.{kept-set, kept-then, kept-less}
+use Rattle.space.proofs.Kept.{kept-same, kept-set, kept-then, kept-less}
 use Rattle.signatures.specs.Table.{typeTable, Taken, Denied, Interns}
 use Rattle.signatures.specs.declared.table.Interned.{Interned}
 use Rattle.signatures.specs.declared.table.Interned.the-variants as I
@@ -49,10 +49,14 @@ module _ (s w : List ℕ) (count : ℕ) (t : TypeUse) (rec : ℕ) (q : Interned)
         known = (omega arith, rw (e, same, word) (a .number), tt);
         kept = rw e (kept-then (kept-less 520 (520 + 5 * count) (omega arith) (a .inside .kept)) (kept-less 520 1800 (omega arith) below));
         before = λ i g. rw e (getD-set-other w₁ (1800 + rec) (1800 + i) n 0 (λ z. omega arith) ∙ above (a .inside .above) i);
+        above = λ i g. rw e (getD-set-other w₁ (1800 + rec) i n 0 (λ z. omega arith) ∙ names (a .inside .above) i g);
       }
     where
       above : drop 1800 w₁ ≡ drop 1800 w → (i : ℕ) → getD w₁ (1800 + i) 0 ≡ getD w (1800 + i) 0
       above z i = sym (getD-drop 1800 w₁ i 0) ∙ ap (λ (v : List ℕ). getD v i 0) z ∙ getD-drop 1800 w i 0
+
+      names : drop 1800 w₁ ≡ drop 1800 w → (i : ℕ) → 5897 ≤ i → getD w₁ i 0 ≡ getD w i 0
+      names z i g = let j : 1800 + (i - 1800) ≡ i = omega arith in rw j at (above z (i - 1800))
 
   denied : (n r : ℕ) → q ≡ I.Refused n r → Denied s w count t rec n r w₁
   unfolding Interns
@@ -62,7 +66,7 @@ module _ (s w : List ℕ) (count : ℕ) (t : TypeUse) (rec : ℕ) (q : Interned)
   unfolding Handles intern _>>=_
   take-refused n r d =
       let a = denied n r d in
-      record { says = ap (λ (z : Answer (List FuncType)). z >>= λ all. ok all) (a .says); long = ap length (a .area) }
+      record { says = ap (λ (z : Answer (List FuncType)). z >>= λ all. ok all) (a .says); kept = rw (a .area) (kept-same 520 w) }
 
 pub ruleset takes = (take-number, take-refused)
 

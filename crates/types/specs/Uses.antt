@@ -4,7 +4,7 @@ use mathlib.Core.Path.{_≡_}
 use mathlib.Core.Bool.{Bool, false}
 use mathlib.Core.List.{List, [], _∷_, _++_}
 use mathlib.Core.Option.{Option, some}
-use lib.ListN.{length, getD}
+use lib.ListN.{getD}
 use Rattle.definition.specs.Basic.{if_then_else_, ok, refused}
 use Rattle.definition.specs.Syntax as Syntax
 use Rattle.definition.specs.Syntax.{Bytes, Identifier, FuncType}
@@ -74,18 +74,19 @@ unfoldable pub Known : ℕ → List ℕ → List FuncType → Uses → Type 0
 Known high w ts [] = Unit {0}
 Known high w ts ((r, t) ∷ us) = (r < high) × (typeAt t ts ≡ some (getD w (1800 + r) 0)) × Known high w ts us
 
--- `us` were taken or added: `k` types became `k′`. The words of records before `low` are as they were
+-- `us` were taken or added: `k` types became `k′`. The words of records before `low` are as they were, and so are those of the names
 pub record Handled (low high : ℕ) (s : Bytes) (us : Uses) (w : List ℕ) (k : ℕ) (w′ : List ℕ) (k′ : ℕ) : Type 0 where
   pub types : intern (typeTable k s w 520) us ≡ ok (typeTable k′ s w′ 520)
   pub few : k′ ≤ 256
   pub known : Known high w′ (typeTable k′ s w′ 520) us
   pub kept : Kept 520 w w′
   pub before : (i : ℕ) → i < low → getD w′ (1800 + i) 0 ≡ getD w (1800 + i) 0
+  pub above : (i : ℕ) → 5897 ≤ i → getD w′ i 0 ≡ getD w i 0
 
 -- one of them was refused
 pub record Stopped (s : Bytes) (us : Uses) (w : List ℕ) (k n q : ℕ) (w′ : List ℕ) : Type 0 where
   pub says : intern (typeTable k s w 520) us ≡ refused n q
-  pub long : length w′ ≡ length w
+  pub kept : Kept 520 w w′
 
 unfoldable pub Handles : ℕ → ℕ → Bytes → Uses → List ℕ → ℕ → Used → List ℕ → Type 0
 Handles low high s us w k (U.Types k′) w′ = Handled low high s us w k w′ k′

@@ -1,4 +1,5 @@
-use Rattle.names.proofs.Items.{item-table, item-entry, item-place, item-taken, item-put}
+use Rattle.names.proofs.Items.{item-table, item-entry, item-place}
+use Rattle.names.proofs.Puts.{item-taken, item-put}
 use borrow.Author.Needs.{needs}
 use Rattle.names.proofs.item.register_item.Statement.{statement}
 use Rattle.names.proofs.item.register_item.Tie as tie

@@ -1,4 +1,5 @@
-use Rattle.names.proofs.Items.{fits, first-done, first-refused}
+use Rattle.names.proofs.Items.{fits}
+use Rattle.names.proofs.Puts.{first-done, first-refused}
 use borrow.Author.Needs.{needs}
 use Rattle.names.proofs.item.register_with.Statement.{statement}
 use Rattle.names.proofs.item.register_with.Tie as tie
