@@ -20,7 +20,7 @@ use Rattle.instr.specs.declared.Instr.{Instr}
 use Rattle.instr.specs.declared.Instr.the-variants as N
 use Rattle.instr.specs.declared.BodyAt.{BodyAt}
 use Rattle.instr.specs.declared.BodyAt.the-variants as B
-use Rattle.walk.specs.Walk.{onBody, bodyFrom, afterBody}
+use Rattle.walk.specs.Walk.{onBody, bodyFrom, afterBody, usesIn}
 use Rattle.types.specs.Uses.{nested, Nests, Skips, Handled, Handles}
 use Rattle.types.specs.declared.taken.Used.{Used}
 use Rattle.types.specs.declared.taken.Used.the-variants as U
@@ -186,11 +186,11 @@ module _ (s : Bytes) (us : Uses) (w : List ℕ) (k at rec : ℕ) (q : Used) (w�
       (omega arith) (omega arith) (after-low (4096 - (rec + 1)) 0 (rec + 1) s at) b
 
   -- nothing has to be read
-  pub func-skips : (k₁ : ℕ) (looks : Bool) → q ≡ U.Types k₁ → looks ≡ false → Skips looks (bodyUses (rec + 1) (bodyFrom (4096 - (rec + 1)) 0 s at))
+  pub func-skips : (k₁ own : ℕ) (looks : Bool) → q ≡ U.Types k₁ → looks ≡ usesIn w own → looks ≡ false → Skips w own (bodyUses (rec + 1) (bodyFrom (4096 - (rec + 1)) 0 s at))
       → Handles rec (afterBody (4096 - (rec + 1)) 0 (rec + 1) s at .rec) s (us ++ bodyUses (rec + 1) (bodyFrom (4096 - (rec + 1)) 0 s at)) w k (U.Types k₁) w₁
   unfolding Handles
-  func-skips k₁ looks d e x =
-      let b = x .unused e in
+  func-skips k₁ own looks d y e x =
+      let b = x .unused (sym y ∙ e) in
       rw (b, append-nil us) (handled-wide rec _ (rec + 1) 0 s us [] w k w₁ k₁ (handles-types rec (rec + 1) s us w k q w₁ told k₁ d)
       (after-low (4096 - (rec + 1)) 0 (rec + 1) s at))
 

@@ -1,7 +1,6 @@
 -- Laws of the uses of a field.
 use Prim.Native.Nat.{ℕ, _+_, _-_, _≤_}
 use mathlib.Core.Path.{_≡_, refl, sym, _∙_, ap}
-use mathlib.Core.Bool.{Bool}
 use mathlib.Core.List.{List, [], _∷_, _++_, map, append-nil, append-assoc}
 use mathlib.Core.Option.{Option}
 use Rattle.definition.specs.Syntax as Syntax
@@ -133,19 +132,19 @@ module _ (rec : ℕ) (s : Bytes) (w : List ℕ) (k : ℕ) where
 
 -- ## Whether there is a body to look at
 
-module _ (looks : Bool) (s : Bytes) (at rec : ℕ) where
-  pub skips-own : (o : Own) (t : TypeUse) (ls : _) → o ≡ O.Func t ls → Skips looks (bodyUses (rec + 1) (bodyIn (ownBody (ownOf s o)) (rec + 1) s at))
-      → Skips looks (bodyUses (rec + 1) (bodyFrom (4096 - (rec + 1)) 0 s at))
+module _ (w : List ℕ) (own : ℕ) (s : Bytes) (at rec : ℕ) where
+  pub skips-own : (o : Own) (t : TypeUse) (ls : _) → o ≡ O.Func t ls → Skips w own (bodyUses (rec + 1) (bodyIn (ownBody (ownOf s o)) (rec + 1) s at))
+      → Skips w own (bodyUses (rec + 1) (bodyFrom (4096 - (rec + 1)) 0 s at))
   unfolding ownBody
   skips-own o t ls d h = rw d at h
 
-  pub skips-source : (x : Source) (o : Own) → x ≡ S.Own o → Skips looks (bodyUses (rec + 1) (bodyIn (sourceBody (sourceOf s x)) (rec + 1) s at))
-      → Skips looks (bodyUses (rec + 1) (bodyIn (ownBody (ownOf s o)) (rec + 1) s at))
+  pub skips-source : (x : Source) (o : Own) → x ≡ S.Own o → Skips w own (bodyUses (rec + 1) (bodyIn (sourceBody (sourceOf s x)) (rec + 1) s at))
+      → Skips w own (bodyUses (rec + 1) (bodyIn (ownBody (ownOf s o)) (rec + 1) s at))
   unfolding sourceBody
   skips-source x o d h = rw d at h
 
-  pub skips-field : (f : Field) (i : _) (es : _) (x : Source) → f ≡ F.Item i es x → Skips looks (bodyUses (rec + 1) (bodyIn (fieldBody (fieldOf s f)) (rec + 1) s at))
-      → Skips looks (bodyUses (rec + 1) (bodyIn (sourceBody (sourceOf s x)) (rec + 1) s at))
+  pub skips-field : (f : Field) (i : _) (es : _) (x : Source) → f ≡ F.Item i es x → Skips w own (bodyUses (rec + 1) (bodyIn (fieldBody (fieldOf s f)) (rec + 1) s at))
+      → Skips w own (bodyUses (rec + 1) (bodyIn (sourceBody (sourceOf s x)) (rec + 1) s at))
   unfolding fieldBody
   skips-field f i es x d h = rw d at h
 

@@ -58,7 +58,7 @@ unfolding Known
 known-append high w ts [] vs x y = y
 known-append high w ts ((r, t) ∷ us) vs x y = (x .0, x .1, known-append high w ts us vs (x .2) y)
 
-keeps-same : (ts : List FuncType) → Keeps ts ts
+pub keeps-same : (ts : List FuncType) → Keeps ts ts
 keeps-same ts = record { added = []; is = sym (append-nil ts) }
 
 pub known-wide : (m high : ℕ) (w : List ℕ) (ts : List FuncType) (us : Uses) → m ≤ high → Known m w ts us → Known high w ts us

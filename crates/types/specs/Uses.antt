@@ -1,7 +1,7 @@
 -- What the pass makes of type uses, one after the other.
 use Prim.Native.Nat.{ℕ, _+_, _-_, _≤_, _<_}
 use mathlib.Core.Path.{_≡_}
-use mathlib.Core.Bool.{Bool, false}
+use mathlib.Core.Bool.{false}
 use mathlib.Core.List.{List, [], _∷_, _++_}
 use mathlib.Core.Option.{Option, some}
 use lib.ListN.{getD}
@@ -14,7 +14,7 @@ use Rattle.instr.specs.declared.Instr.{Instr}
 use Rattle.instr.specs.declared.Instr.the-variants as I
 use Rattle.space.specs.Kept.{Kept}
 use Rattle.signatures.specs.Table.{typeTable}
-use Rattle.walk.specs.Walk.{bodyIn, afterField}
+use Rattle.walk.specs.Walk.{bodyIn, afterField, usesIn}
 use Rattle.types.specs.declared.taken.Used.{Used}
 use Rattle.types.specs.declared.taken.Used.the-variants as U
 
@@ -46,9 +46,9 @@ usesField r (Syntax.dataR i m d) s here = []
 abbrev pub endAfter : Option ℕ → ℕ → Bytes → ℕ → ℕ
 endAfter b r s here = afterField b (r + 1) s here .rec
 
--- a body that need not be looked at has no uses
-pub record Skips (looks : Bool) (us : Uses) : Type 0 where
-  pub unused : looks ≡ false → us ≡ []
+-- the body of an own function has no uses, where the work area says so
+pub record Skips (w : List ℕ) (own : ℕ) (us : Uses) : Type 0 where
+  pub unused : usesIn w own ≡ false → us ≡ []
 
 -- ## Open blocks
 

@@ -63,19 +63,20 @@ fn use_body(s: &[u8], work: &mut [u32], count: u32, at: usize, rec: u32) -> Used
     Used::Types(k)
 }
 
-// A function's own use before its body, which begins at `at`. The body is read only where `looks` says that it may have uses.
+// A function's own use before its body, which begins at `at`. The body of the `own`-th function is read only where it may have uses.
 pub fn use_func(
     s: &[u8],
     work: &mut [u32],
     count: u32,
     t: TypeUse,
-    looks: bool,
+    own: u32,
     at: usize,
     rec: u32,
 ) -> Used
-    requires { ⌜ (length (now s) ≤ 65536) × (16384 ≤ length (now work)) × (count ≤ 256) × (rec < 4096) × Skips looks (Types.bodyUses (rec + 1) (bodyFrom (4096 - (rec + 1)) 0 (now s) at)) ⌝ }
+    requires { ⌜ (length (now s) ≤ 65536) × (16384 ≤ length (now work)) × (count ≤ 256) × (rec < 4096) × Skips (now work) own (Types.bodyUses (rec + 1) (bodyFrom (4096 - (rec + 1)) 0 (now s) at)) ⌝ }
     ensures { λ r. ⌜ Handles rec (afterBody (4096 - (rec + 1)) 0 (rec + 1) (now (s .entry)) at .rec) (now (s .entry)) (Types.usedAt rec (Types.useOf (useOf (now (s .entry)) t)) ++ Types.bodyUses (rec + 1) (bodyFrom (4096 - (rec + 1)) 0 (now (s .entry)) at)) (now (work .entry)) count r (now (work .exit)) ⌝ }
 {
+    let looks = walk::body_uses(work, own);
     match use_type(s, work, count, t, rec) {
         Used::Types(k) => {
             if looks {

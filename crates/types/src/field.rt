@@ -28,13 +28,13 @@ fn use_extern(s: &[u8], work: &mut [u32], count: u32, x: Extern, rec: u32) -> Us
     }
 }
 
-// The module's own item; the body of a function begins at `at`, and has uses only where `looks` is true.
-fn use_own(s: &[u8], work: &mut [u32], count: u32, o: Own, looks: bool, at: usize, rec: u32) -> Used
-    requires { ⌜ (length (now s) ≤ 65536) × (16384 ≤ length (now work)) × (count ≤ 256) × (rec < 4096) × Skips looks (Types.bodyUses (rec + 1) (bodyIn (Read.ownBody (ownOf (now s) o)) (rec + 1) (now s) at)) ⌝ }
+// The module's own item; the body of a function begins at `at`, and `own` functions came before it.
+fn use_own(s: &[u8], work: &mut [u32], count: u32, o: Own, own: u32, at: usize, rec: u32) -> Used
+    requires { ⌜ (length (now s) ≤ 65536) × (16384 ≤ length (now work)) × (count ≤ 256) × (rec < 4096) × Skips (now work) own (Types.bodyUses (rec + 1) (bodyIn (Read.ownBody (ownOf (now s) o)) (rec + 1) (now s) at)) ⌝ }
     ensures { λ r. ⌜ Handles rec (endAfter (Read.ownBody (ownOf (now (s .entry)) o)) rec (now (s .entry)) at) (now (s .entry)) (usesOwn rec (ownOf (now (s .entry)) o) (now (s .entry)) at) (now (work .entry)) count r (now (work .exit)) ⌝ }
 {
     match o {
-        Own::Func(t, _) => use_func(s, work, count, t, looks, at, rec),
+        Own::Func(t, _) => use_func(s, work, count, t, own, at, rec),
         Own::Table(_) => Used::Types(count),
         Own::Mem(_) => Used::Types(count),
         Own::Global(_, _) => Used::Types(count),
@@ -47,32 +47,32 @@ fn use_source(
     work: &mut [u32],
     count: u32,
     x: Source,
-    looks: bool,
+    own: u32,
     at: usize,
     rec: u32,
 ) -> Used
-    requires { ⌜ (length (now s) ≤ 65536) × (16384 ≤ length (now work)) × (count ≤ 256) × (rec < 4096) × Skips looks (Types.bodyUses (rec + 1) (bodyIn (Read.sourceBody (sourceOf (now s) x)) (rec + 1) (now s) at)) ⌝ }
+    requires { ⌜ (length (now s) ≤ 65536) × (16384 ≤ length (now work)) × (count ≤ 256) × (rec < 4096) × Skips (now work) own (Types.bodyUses (rec + 1) (bodyIn (Read.sourceBody (sourceOf (now s) x)) (rec + 1) (now s) at)) ⌝ }
     ensures { λ r. ⌜ Handles rec (endAfter (Read.sourceBody (sourceOf (now (s .entry)) x)) rec (now (s .entry)) at) (now (s .entry)) (usesSource rec (sourceOf (now (s .entry)) x) (now (s .entry)) at) (now (work .entry)) count r (now (work .exit)) ⌝ }
 {
     match x {
-        Source::Own(o) => use_own(s, work, count, o, looks, at, rec),
+        Source::Own(o) => use_own(s, work, count, o, own, at, rec),
         Source::Imported(_, e) => use_extern(s, work, count, e, rec),
         Source::TableOf(_, _) => Used::Types(count),
         Source::MemOf(_, _) => Used::Types(count),
     }
 }
 
-// A field and, of an own function, the body that begins at `at`, where that has uses.
+// A field and, of an own function, the body that begins at `at`, where that may have uses; `own` functions came before.
 pub fn use_field(
     s: &[u8],
     work: &mut [u32],
     count: u32,
     f: Field,
-    looks: bool,
+    own: u32,
     at: usize,
     rec: u32,
 ) -> Used
-    requires { ⌜ (length (now s) ≤ 65536) × (16384 ≤ length (now work)) × (count ≤ 256) × (rec < 4096) × Skips looks (Types.bodyUses (rec + 1) (bodyIn (Read.fieldBody (fieldOf (now s) f)) (rec + 1) (now s) at)) ⌝ }
+    requires { ⌜ (length (now s) ≤ 65536) × (16384 ≤ length (now work)) × (count ≤ 256) × (rec < 4096) × Skips (now work) own (Types.bodyUses (rec + 1) (bodyIn (Read.fieldBody (fieldOf (now s) f)) (rec + 1) (now s) at)) ⌝ }
     ensures { λ r. ⌜ Handles rec (endAfter (Read.fieldBody (fieldOf (now (s .entry)) f)) rec (now (s .entry)) at) (now (s .entry)) (usesField rec (fieldOf (now (s .entry)) f) (now (s .entry)) at) (now (work .entry)) count r (now (work .exit)) ⌝ }
 {
     match f {
@@ -90,7 +90,7 @@ pub fn use_field(
             id: _,
             exports: _,
             source,
-        } => use_source(s, work, count, source, looks, at, rec),
+        } => use_source(s, work, count, source, own, at, rec),
         Field::Export {
             name: _,
             space: _,

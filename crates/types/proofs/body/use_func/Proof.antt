@@ -4,6 +4,9 @@ use borrow.Author.Needs.{needs}
 use Rattle.types.proofs.body.use_func.Statement.{statement}
 use Rattle.types.proofs.body.use_func.Tie as tie
 
+body-uses-requires : tie.Need-body-uses-requires
+body-uses-requires c κs = search needs
+
 use-type-requires : tie.Need-use-type-requires
 use-type-requires c κs = search needs
 
@@ -41,6 +44,7 @@ pub use-func-spec : {M : Type 1} → statement M
 use-func-spec =
     tie.close
     (tie.spec
+    body-uses-requires
     use-type-requires
     enum-known-k
     add-use-body
