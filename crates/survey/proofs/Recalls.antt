@@ -1,7 +1,7 @@
 -- Laws of the numbers that interning left at the records of uses.
 use Prim.Native.Nat.{ℕ, _+_, _≤_}
 use mathlib.Core.Path.{_≡_, sym, _∙_, ap}
-use mathlib.Core.List.{List, [], _∷_, _++_}
+use mathlib.Core.List.{List, [], _∷_}
 use lib.ListN.{length, getD}
 use native.Mathlib.Omega.{arith}
 use Rattle.definition.specs.Basic.{someOr}
@@ -9,25 +9,14 @@ use Rattle.definition.specs.Syntax.{FuncType}
 use Rattle.definition.specs.Types.{Uses, typeNumber}
 use Rattle.space.specs.Kept.{Kept}
 use Rattle.space.proofs.Kept.{kept-word}
 use Rattle.types.specs.Uses.{Known}
-use Rattle.types.specs.Pass.{Recalled}
+use Rattle.survey.specs.Survey.{Recalled}
 
 -- what is known of each use
 pub known-recalled : (w : List ℕ) (ts : List FuncType) (us : Uses) → Known 4096 w ts us → Recalled w ts us
 unfolding Known Recalled typeNumber
 known-recalled w ts [] x = tt
 known-recalled w ts ((r, t) ∷ us) x = (x .0, sym (ap (someOr (length ts)) (x .1)), known-recalled w ts us (x .2))
-
--- of two parts, each
-pub recalled-first : (w : List ℕ) (ts : List FuncType) (us vs : Uses) → Recalled w ts (us ++ vs) → Recalled w ts us
-unfolding Recalled
-recalled-first w ts [] vs x = tt
-recalled-first w ts ((r, t) ∷ us) vs x = (x .0, x .1, recalled-first w ts us vs (x .2))
-
-pub recalled-rest : (w : List ℕ) (ts : List FuncType) (us vs : Uses) → Recalled w ts (us ++ vs) → Recalled w ts vs
-unfolding Recalled
-recalled-rest w ts [] vs x = x
-recalled-rest w ts ((r, t) ∷ us) vs x = recalled-rest w ts us vs (x .2)
 
 -- words after them do not matter
 pub recalled-kept : (n : ℕ) {w w′ : List ℕ} (ts : List FuncType) (us : Uses) → 5896 ≤ n → Kept n w w′ → Recalled w ts us → Recalled w′ ts us
@@ -36,8 +25,3 @@ recalled-kept n ts [] h k x = tt
 recalled-kept n {w} {w′} ts ((r, t) ∷ us) h k x =
     let l = x .0 in
     (l, kept-word k (1800 + r) (omega arith) ∙ x .1, recalled-kept n {w = w} {w′ = w′} ts us h k (x .2))
-
--- one use's number
-pub recalled-here : (w : List ℕ) (ts : List FuncType) (r : ℕ) (t : FuncType) (us : Uses) → Recalled w ts ((r, t) ∷ us) → getD w (1800 + r) 0 ≡ typeNumber t ts
-unfolding Recalled
-recalled-here w ts r t us x = x .1

@@ -1,52 +1,122 @@
--- What the interning pass leaves: the table of types, how many there are, and the number of each use at its record.
+-- What the walk over all fields leaves: the order of imports, the table of types and the number of each use at its record, and the names.
 use Prim.Native.Nat.{ℕ, _+_, _≤_, _<_}
 use mathlib.Core.Path.{_≡_}
+use mathlib.Core.Bool.{Bool}
 use mathlib.Core.List.{List, [], _∷_}
+use mathlib.Core.Option.{Option, none, some}
 use lib.ListN.{length, getD}
-use Rattle.definition.specs.Basic.{Answer, ok, refused, _>>=_}
+use Rattle.definition.specs.Basic.{if_then_else_, Answer, ok, refused, _>>=_, sameBytes}
 use Rattle.definition.specs.Syntax.{Bytes, Identifier, FuncType}
-use Rattle.definition.specs.Deinline.{Numbered, importOrder}
-use Rattle.definition.specs.Types.{Uses, uses, declared, typeNumber, intern, allTypes}
+use Rattle.definition.specs.Read.{fieldBody}
+use Rattle.definition.specs.Deinline.{Numbered, importsFrom, importOrder}
+use Rattle.definition.specs.Types.{Uses, uses, typeNumber, intern, allTypes}
+use Rattle.definition.specs.Names.{Items, register}
+use Rattle.fields.specs.Views.{fieldOf}
+use Rattle.fields.specs.declared.field.Field.{Field}
 use Rattle.space.specs.Kept.{Kept}
 use Rattle.signatures.specs.Table.{typeTable, typesIn}
-use Rattle.walk.specs.Walk.{fieldsIn}
-use Rattle.types.specs.Uses.{Stopped}
-use Rattle.types.specs.declared.pass.Typed.{Typed}
-use Rattle.types.specs.declared.pass.Typed.the-variants as T
+use Rattle.walk.specs.Walk.{fieldsAhead, fieldsIn, Ahead}
+use Rattle.walk.specs.declared.Cursor.{Cursor}
+use Rattle.order.specs.Order.{isLate, lateAfter}
+use Rattle.order.specs.declared.Standing.{Standing}
+use Rattle.types.specs.Uses.{usesField, endAfter, Handled, Stopped}
+use Rattle.types.specs.declared.taken.Used.{Used}
+use Rattle.types.specs.declared.taken.Used.the-variants as U
+use Rattle.names.specs.Register.{brought, Puts, Tables}
+use Rattle.names.specs.declared.register.Registered.{Registered}
+use Rattle.names.specs.declared.register.Registered.the-variants as R
+use Rattle.survey.specs.declared.late.Lateness.{Lateness}
+use Rattle.survey.specs.declared.late.Lateness.the-variants as L
+use Rattle.survey.specs.declared.How.{How}
+use Rattle.survey.specs.declared.How.the-variants as H
+use Rattle.survey.specs.declared.Took.{Took}
+use Rattle.survey.specs.declared.Took.the-variants as T
+use Rattle.survey.specs.declared.Surveyed.{Surveyed}
+use Rattle.survey.specs.declared.Surveyed.the-variants as Y
 
 -- each use is of one of 4,096 records, and its number stands in the word of its record
 unfoldable pub Recalled : List ℕ → List FuncType → Uses → Type 0
 Recalled w ts [] = Unit {0}
 Recalled w ts ((r, t) ∷ us) = (r < 4096) × (getD w (1800 + r) 0 ≡ typeNumber t ts) × Recalled w ts us
 
--- the uses added to `d` declared types
-pub record InternedAll (s : Bytes) (w : List ℕ) (d n : ℕ) (w′ : List ℕ) : Type 0 where
-  pub number : n ≡ d
-  pub types : intern (typeTable d s w 520) (uses (fieldsIn s)) ≡ ok (typesIn s w′)
-  pub recalled : Recalled w′ (typesIn s w′) (uses (fieldsIn s))
-  pub few : getD w′ 5896 0 ≤ 256
-  pub kept : Kept 520 w w′
-
-unfoldable pub InternsAll : Bytes → List ℕ → ℕ → Typed → List ℕ → Type 0
-InternsAll s w d (T.Types n) w′ = InternedAll s w d n w′
-InternsAll s w d (T.Refused n q) w′ = Stopped s (uses (fieldsIn s)) w d n q w′
-
 -- the order of imports, over the whole stream, and then the types
 unfoldable pub typesAfterOrder : Numbered Identifier → Answer (List FuncType)
 typesAfterOrder fs = importOrder fs >>= λ _. allTypes fs
 
--- all types are in the work area; the first `n` are the declared ones
-pub record HasTypes (s : Bytes) (w : List ℕ) (n : ℕ) (w′ : List ℕ) : Type 0 where
+-- all types and names are in the work area
+pub record Stands (s w w′ : List ℕ) : Type 0 where
   pub all : typesAfterOrder (fieldsIn s) ≡ ok (typesIn s w′)
-  pub declares : n ≡ length (declared (fieldsIn s))
   pub recalled : Recalled w′ (typesIn s w′) (uses (fieldsIn s))
   pub few : getD w′ 5896 0 ≤ 256
+  pub items : Items Identifier
+  pub says : register sameBytes [] (fieldsIn s) ≡ ok items
+  pub tables : Tables s w′ items
   pub kept : Kept 520 w w′
 
-pub record NoTypes (s : Bytes) (w : List ℕ) (n q : ℕ) (w′ : List ℕ) : Type 0 where
-  pub says : typesAfterOrder (fieldsIn s) ≡ refused n q
+-- the order, the types or, after them, the names were refused
+pub record Falls (s w : List ℕ) (n q : ℕ) (w′ : List ℕ) : Type 0 where
+  pub says : (typesAfterOrder (fieldsIn s) >>= λ _. register sameBytes [] (fieldsIn s)) ≡ refused n q
   pub long : length w′ ≡ length w
 
-unfoldable pub TypesDone : Bytes → List ℕ → Typed → List ℕ → Type 0
-TypesDone s w (T.Types n) w′ = HasTypes s w n w′
-TypesDone s w (T.Refused n q) w′ = NoTypes s w n q w′
+unfoldable pub Surveys : Bytes → List ℕ → Surveyed → List ℕ → Type 0
+Surveys s w Y.Done w′ = Stands s w w′
+Surveys s w (Y.Refused n q) w′ = Falls s w n q w′
+
+-- ## The order of imports
+
+-- too late, or whether imports after a field are
+abbrev pub lateness : Bool → Standing → Option Bool
+lateness late x = if isLate late x then none else some (lateAfter late x)
+
+abbrev pub fineOf : Lateness → Option Bool
+fineOf L.Late = none
+fineOf (L.Fine late) = some late
+
+-- ## One field
+
+-- its uses were handled, and then its items registered or refused
+pub record Both (s w : List ℕ) (c : Cursor) (f : Field) (here k k′ : ℕ) (b : Registered) (w′ : List ℕ) : Type 0 where
+  pub between : List ℕ
+  pub used : Handled (c .rec) (endAfter (fieldBody (fieldOf s f)) (c .rec) s here) s (usesField (c .rec) (fieldOf s f) s here) w k between k′
+  pub put : Puts s between (c .seen) (c .rec) (brought f) b w′
+
+unfoldable pub Takes : Bytes → List ℕ → Cursor → Field → ℕ → ℕ → Took → List ℕ → Type 0
+Takes s w c f here k (T.Types k′) w′ = Both s w c f here k k′ R.Done w′
+Takes s w c f here k (T.Use n q) w′ = Stopped s (usesField (c .rec) (fieldOf s f) s here) w k n q w′
+Takes s w c f here k (T.Name n q k′) w′ = Both s w c f here k k′ (R.Refused n q) w′
+
+-- ## Where something was refused
+
+-- the types and then the names: what is told unless an import comes too late
+unfoldable pub typesThenNames : Numbered Identifier → Answer (Items Identifier)
+typesThenNames fs = allTypes fs >>= λ _. register sameBytes [] fs
+
+-- a use was refused before a field
+pub record UseRefused (s w : List ℕ) (c : Cursor) (late : Bool) (n q : ℕ) (w′ : List ℕ) : Type 0 where
+  pub ahead : Ahead s w′ c
+  pub order : importOrder (fieldsIn s) ≡ importsFrom late (fieldsAhead c s)
+  pub says : typesThenNames (fieldsIn s) ≡ refused n q
+  pub kept : Kept 520 w w′
+
+-- a name was
+pub record NameRefused (s w : List ℕ) (c : Cursor) (late : Bool) (k n q : ℕ) (w′ : List ℕ) : Type 0 where
+  pub ahead : Ahead s w′ c
+  pub order : importOrder (fieldsIn s) ≡ importsFrom late (fieldsAhead c s)
+  pub few : k ≤ 256
+  pub types : allTypes (fieldsIn s) ≡ intern (typeTable k s w′ 520) (uses (fieldsAhead c s))
+  pub says : register sameBytes [] (fieldsIn s) ≡ refused n q
+  pub kept : Kept 520 w w′
+
+unfoldable pub Reaches : Bytes → List ℕ → How → Cursor → Bool → ℕ → List ℕ → Type 0
+Reaches s w (H.Told a) c late k w′ = Surveys s w a w′
+Reaches s w (H.Use n q) c late k w′ = UseRefused s w c late n q w′
+Reaches s w (H.Name n q) c late k w′ = NameRefused s w c late k n q w′
+
+-- what all types come to
+abbrev pub typed : Bytes → Used → List ℕ → Answer (List FuncType)
+typed s (U.Types k) w = ok (typeTable k s w 520)
+typed s (U.Refused n q) w = refused n q
+
+pub record Ends (s w : List ℕ) (r : Used) (w′ : List ℕ) : Type 0 where
+  pub says : allTypes (fieldsIn s) ≡ typed s r w′
+  pub kept : Kept 520 w w′

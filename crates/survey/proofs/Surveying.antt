@@ -1,0 +1,415 @@
+-- Laws of the walk over all fields, and of what is told where something is refused.
+use Prim.Native.Nat.{ℕ, _+_, _≤_, min}
+use mathlib.Core.Path.{_≡_, refl, _∙_, ap}
+use mathlib.Core.Bool.{Bool, true, false}
+use mathlib.Core.List.{List, []}
+use mathlib.Core.Option.{none, some}
+use lib.ListN.{length, getD, set}
+use lib.Seq.{sets, getD-set-same, getD-set-other}
+use native.Mathlib.Omega.{arith}
+use Rattle.definition.specs.Basic.{if_then_else_, ok, refused, _>>=_, sameBytes}
+use Rattle.definition.specs.Syntax.{Bytes}
+use Rattle.definition.specs.Read.{fieldBody}
+use Rattle.definition.specs.Deinline.{importsFrom, importOrder}
+use Rattle.definition.specs.Types.{bodyUses, uses, declared, intern, allTypes}
+use Rattle.definition.specs.Names.{register}
+use Rattle.fields.specs.Views.{fieldOf}
+use Rattle.fields.specs.declared.field.Field.{Field}
+use Rattle.space.specs.Kept.{Kept}
+use Rattle.space.proofs.Kept.{kept-same, kept-set, kept-then, kept-less, kept-word}
+use Rattle.signatures.specs.Table.{typeTable, typesIn}
+use Rattle.signatures.proofs.Types.{table-kept}
+use Rattle.walk.specs.Walk.{bodyIn, begin, visitIn, visitOf, fieldsAhead, fieldsIn, Ahead}
+use Rattle.walk.specs.declared.Cursor.{Cursor}
+use Rattle.walk.specs.declared.Met.{Met}
+use Rattle.walk.specs.declared.What.the-variants as W
+use Rattle.walk.proofs.Steps.{visit-ahead, ahead-kept}
+use Rattle.order.specs.Order.{standing, isLate, lateAfter}
+use Rattle.order.specs.declared.Standing.{Standing}
+use Rattle.order.proofs.Passing.{Ordering, ordering-begin, ordering-done, ordering-late, ordering-again}
+use Rattle.types.specs.Uses.{Skips, usesField, endAfter, Handles}
+use Rattle.types.specs.declared.taken.Used.{Used}
+use Rattle.types.specs.declared.taken.Used.the-variants as U
+use Rattle.types.proofs.Handled.{handles-types, handles-stopped}
+use Rattle.names.specs.Register.{brought, Puts}
+use Rattle.names.specs.declared.register.Registered.{Registered}
+use Rattle.names.specs.declared.register.Registered.the-variants as R
+use Rattle.names.proofs.Passing.{Registering, registering-begin, registering-above, registering-again, registering-stops, registering-done, counted-tables, counted-kept}
+use Rattle.survey.specs.Survey.{typesAfterOrder, typesThenNames, lateness, fineOf, Both, Takes, UseRefused, NameRefused, Reaches, Surveys, Ends}
+use Rattle.survey.specs.declared.How.{How}
+use Rattle.survey.specs.declared.How.the-variants as H
+use Rattle.survey.specs.declared.late.Lateness.{Lateness}
+use Rattle.survey.specs.declared.late.Lateness.the-variants as L
+use Rattle.survey.specs.declared.Took.{Took}
+use Rattle.survey.specs.declared.Took.the-variants as T
+use Rattle.survey.specs.declared.Surveyed.{Surveyed}
+use Rattle.survey.specs.declared.Surveyed.the-variants as Y
+use Rattle.survey.proofs.Interning.{Interning, Knowing, interning-begin, interning-kept, interning-done, interning-refused, interning-again, knowing-begin, knowing-kept, knowing-done, knowing-again, field-skips, refused-kept, used-few, used-kept, used-above}
+use Rattle.survey.proofs.Recalls.{known-recalled, recalled-kept}
+
+-- ## What is refused
+
+-- an import came too late
+falls-late : (s w : List ℕ) (n q : ℕ) (w′ : List ℕ) → importOrder (fieldsIn s) ≡ refused n q → length w′ ≡ length w → Surveys s w (Y.Refused n q) w′
+unfolding Surveys typesAfterOrder _>>=_
+falls-late s w n q w′ e l = record { says = rw e; long = l }
+
+-- none did, and the types or the names were refused
+falls-next : (s w : List ℕ) (n q : ℕ) (w′ : List ℕ) → importOrder (fieldsIn s) ≡ ok tt → typesThenNames (fieldsIn s) ≡ refused n q → length w′ ≡ length w → Surveys s w (Y.Refused n q) w′
+unfolding Surveys typesAfterOrder typesThenNames _>>=_
+falls-next s w n q w′ e f l = record { says = rw e f; long = l }
+
+-- the types were refused, or only the names
+types-fall : (s : Bytes) (n q : ℕ) → allTypes (fieldsIn s) ≡ refused n q → typesThenNames (fieldsIn s) ≡ refused n q
+unfolding typesThenNames _>>=_
+types-fall s n q e = rw e
+
+names-fall : (s k w : _) (n q : ℕ) → allTypes (fieldsIn s) ≡ ok (typeTable k s w 520) → register sameBytes [] (fieldsIn s) ≡ refused n q → typesThenNames (fieldsIn s) ≡ refused n q
+unfolding typesThenNames _>>=_
+names-fall s k w n q e f = rw e f
+
+-- an answer from words that came of others
+surveys-since : (s w₀ w : List ℕ) (a : Surveyed) (w′ : List ℕ) → Kept 520 w₀ w → Surveys s w a w′ → Surveys s w₀ a w′
+unfolding Surveys
+surveys-since s w₀ w Y.Done w′ k x = record {
+  all = x .all;
+  recalled = x .recalled;
+  few = x .few;
+  items = x .items;
+  says = x .says;
+  tables = x .tables;
+  kept = kept-then k (x .kept);
+}
+surveys-since s w₀ w (Y.Refused n q) w′ k x = record { says = x .says; long = x .long ∙ k .long }
+
+-- ## Whether an import comes too late
+
+module _ (late : Bool) (x : Standing) (t : Lateness) (e : lateness late x ≡ fineOf t) where
+  is-late : t ≡ L.Late → isLate late x ≡ true
+  is-late y = go (isLate late x) (e ∙ ap fineOf y)
+    where
+      go : (b : Bool) → (if b then none else some (lateAfter late x)) ≡ none → b ≡ true
+      go true d = refl
+      go false d = let z : _≡_ {A = ℕ} 0 1 = cc in absurd (omega arith)
+
+  is-fine : (u : Bool) → t ≡ L.Fine u → (isLate late x ≡ false) × (u ≡ lateAfter late x)
+  is-fine u y = go (isLate late x) (e ∙ ap fineOf y)
+    where
+      go : (b : Bool) → (if b then none else some (lateAfter late x)) ≡ some u → (b ≡ false) × (u ≡ lateAfter late x)
+      go true d = let z : _≡_ {A = ℕ} 0 1 = cc in absurd (omega arith)
+      go false d = (refl, cc)
+
+-- a test that was made
+pub late-now : (late : Bool) (x : Standing) (b : Bool) → b ≡ isLate late x → b ≡ true → lateness late x ≡ fineOf L.Late
+late-now late x b e y = rw (← e, y)
+
+pub late-later : (late : Bool) (x : Standing) (b u : Bool) → b ≡ isLate late x → b ≡ false → u ≡ lateAfter late x → lateness late x ≡ fineOf (L.Fine u)
+late-later late x b u e y z = rw (← e, y, z)
+
+-- ## On for the order of imports alone
+
+pub record Passing (s w : List ℕ) (c : Cursor) (late : Bool) : Type 0 where
+  pub order : Ordering s c late
+  pub ahead : Ahead s w c
+
+pub passing-begin : (s w : List ℕ) (c : Cursor) (late : Bool) → Ahead s w c → importOrder (fieldsIn s) ≡ importsFrom late (fieldsAhead c s) → Passing s w c late
+passing-begin s w c late a e = record { order = record { same = e }; ahead = a }
+
+module _ (s w : List ℕ) (c : Cursor) (late : Bool) (v : Passing s w c late) (m : Met) (told : visitIn (c .left) c s ≡ visitOf s m) where
+  pub passing-done : (n q : ℕ) → m .what ≡ W.Done → typesThenNames (fieldsIn s) ≡ refused n q → Surveys s w (Y.Refused n q) w
+  passing-done n q is e = falls-next s w n q w (ordering-done s c late (v .order) m told is) e refl
+
+  module _ (f : Field) (here : ℕ) (is : m .what ≡ W.Field f here) (x : Standing) (d : x ≡ standing f) (t : Lateness) (e : lateness late x ≡ fineOf t) where
+    pub passing-late : t ≡ L.Late → Surveys s w (Y.Refused 11 (c .rec)) w
+    passing-late y = falls-late s w 11 (c .rec) w (ordering-late s c late (v .order) m told f here is x d (isLate late x) refl (is-late late x t e y)) refl
+
+    pub passing-again : (u : Bool) → t ≡ L.Fine u → Passing s w (m .next) u
+    passing-again u y = let z = is-fine late x t e u y in record { order = ordering-again s c late (v .order) m told f here is x d (isLate late x) refl u (z .0) (z .1); ahead = visit-ahead s c m told f here is w (v .ahead) }
+
+-- ## On for the uses alone
+
+pub record Using (s w₀ w : List ℕ) (c : Cursor) (k : ℕ) : Type 0 where
+  pub interning : Interning s w c k
+  pub ahead : Ahead s w c
+  pub few : k ≤ 256
+  pub kept : Kept 520 w₀ w
+  pub long : length w ≡ length w₀
+
+pub using-begin : (s w : List ℕ) (c : Cursor) (k : ℕ) → Ahead s w c → k ≤ 256 → allTypes (fieldsIn s) ≡ intern (typeTable k s w 520) (uses (fieldsAhead c s)) → Using s w w c k
+using-begin s w c k a h e = record { interning = record { same = e }; ahead = a; few = h; kept = kept-same 520 w; long = refl }
+
+module _ (s w₀ w : List ℕ) (c : Cursor) (k : ℕ) (v : Using s w₀ w c k) (m : Met) (told : visitIn (c .left) c s ≡ visitOf s m) where
+  pub using-done : m .what ≡ W.Done → Ends s w₀ (U.Types k) w
+  using-done is = record { says = interning-done s c m told w k is (v .interning); kept = v .kept }
+
+  module _ (f : Field) (here : ℕ) (is : m .what ≡ W.Field f here) where
+    pub using-skips : Skips w (c .own) (bodyUses (c .rec + 1) (bodyIn (fieldBody (fieldOf s f)) (c .rec + 1) s here))
+    using-skips = field-skips s c m told f here is w (v .ahead)
+
+    module _ (q : Used) (w′ : List ℕ) (used : Handles (c .rec) (endAfter (fieldBody (fieldOf s f)) (c .rec) s here) s (usesField (c .rec) (fieldOf s f) s here) w k q w′) where
+      pub using-refused : (n p : ℕ) → q ≡ U.Refused n p → Ends s w₀ (U.Refused n p) w′
+      using-refused n p e = record { says = interning-refused s c m told f here is w k q w′ used (v .interning) n p e; kept = kept-then (v .kept) (refused-kept s c m told f here is w k q w′ used n p e) }
+
+      pub using-again : (k′ : ℕ) → q ≡ U.Types k′ → Using s w₀ w′ (m .next) k′
+      using-again k′ e =
+          let h = used-kept s c m told f here is w k q w′ used k′ e in
+          record {
+            interning = interning-again s c m told f here is w k q w′ used k′ e (v .interning);
+            ahead = ahead-kept s w w′ (m .next) h (visit-ahead s c m told f here is w (v .ahead));
+            few = used-few s c m told f here is w k q w′ used k′ e;
+            kept = kept-then (v .kept) h;
+            long = h .long ∙ v .long;
+          }
+
+-- what the uses ahead came to
+module _ (s w : List ℕ) (q : Used) (w′ : List ℕ) (a : Ends s w q w′) where
+  pub ends-ahead : (c : Cursor) → Ahead s w c → Ahead s w′ c
+  ends-ahead c h = ahead-kept s w w′ c (a .kept) h
+
+  pub ends-names : (k n p : ℕ) → q ≡ U.Types k → register sameBytes [] (fieldsIn s) ≡ refused n p → typesThenNames (fieldsIn s) ≡ refused n p
+  ends-names k n p e f = names-fall s k w′ n p (rw e at (a .says)) f
+
+  pub ends-types : (n p : ℕ) → q ≡ U.Refused n p → typesThenNames (fieldsIn s) ≡ refused n p
+  ends-types n p e = types-fall s n p (rw e at (a .says))
+
+  pub ends-told : (r : Surveyed) (w₂ : List ℕ) → Surveys s w′ r w₂ → Surveys s w r w₂
+  ends-told r w₂ x = surveys-since s w w′ r w₂ (a .kept) x
+
+-- ## One field
+
+module _ (s w : List ℕ) (c : Cursor) (f : Field) (here k : ℕ) (q : Used) (w₁ : List ℕ)
+    (used : Handles (c .rec) (endAfter (fieldBody (fieldOf s f)) (c .rec) s here) s (usesField (c .rec) (fieldOf s f) s here) w k q w₁) where
+  pub take-stops : (n p : ℕ) → q ≡ U.Refused n p → Takes s w c f here k (T.Use n p) w₁
+  unfolding Takes
+  take-stops n p e = handles-stopped _ _ s _ w k q w₁ used n p e
+
+  module _ (k′ : ℕ) (b : Registered) (w₂ : List ℕ) (e : q ≡ U.Types k′) (put : Puts s w₁ (c .seen) (c .rec) (brought f) b w₂) where
+    took-both : Both s w c f here k k′ b w₂
+    took-both = record { between = w₁; used = handles-types _ _ s _ w k q w₁ used k′ e; put = put }
+
+    pub take-done : b ≡ R.Done → Takes s w c f here k (T.Types k′) w₂
+    unfolding Takes
+    take-done d = let y = took-both in rw d at y
+
+    pub take-refused : (n p : ℕ) → b ≡ R.Refused n p → Takes s w c f here k (T.Name n p k′) w₂
+    unfolding Takes
+    take-refused n p d = let y = took-both in rw d at y
+
+-- ## The walk
+
+-- the order, the types and the names up to a field
+pub record Found (s w₀ w : List ℕ) (c : Cursor) (late : Bool) (k : ℕ) : Type 0 where
+  pub order : Ordering s c late
+  pub interning : Interning s w c k
+  pub knowing : Knowing s w c k
+  pub registering : Registering s w c
+  pub kept : Kept 520 w₀ w
+
+-- shut, so that a search does not go through it
+unfoldable pub Shut : List ℕ → List ℕ → List ℕ → Cursor → Bool → ℕ → Type 0
+Shut s w₀ w c late k = Found s w₀ w c late k
+
+pub record Surveying (s w₀ w : List ℕ) (c : Cursor) (late : Bool) (k : ℕ) : Type 0 where
+  pub found : Shut s w₀ w c late k
+  pub ahead : Ahead s w c
+  pub few : k ≤ 256
+  pub long : length w ≡ length w₀
+  pub room : 16384 ≤ length w
+  pub stream : length s ≤ 65536
+
+pub surveying-begin : (s w : List ℕ) (c : Cursor) (k : ℕ) → c ≡ begin → length s ≤ 65536 → 16384 ≤ length w → k ≤ 256 → Ahead s w begin → typeTable k s w 520 ≡ declared (fieldsIn s) → Surveying s w w c false k
+unfolding Shut
+surveying-begin s w c k e b r h a t = record {
+  found = record {
+    order = ordering-begin s c e;
+    interning = interning-begin s w k c e t;
+    knowing = knowing-begin s w k c e;
+    registering = registering-begin s w c e;
+    kept = kept-same 520 w;
+  };
+  ahead = rw e a;
+  few = h;
+  long = refl;
+  room = r;
+  stream = b;
+}
+
+opened : {s w₀ w : List ℕ} {c : Cursor} {late : Bool} {k : ℕ} → Surveying s w₀ w c late k → Found s w₀ w c late k
+unfolding Shut
+opened v = v .found
+
+module _ (s w₀ w : List ℕ) (c : Cursor) (late : Bool) (k : ℕ) (v : Surveying s w₀ w c late k) (m : Met) (told : visitIn (c .left) c s ≡ visitOf s m) where
+  -- no field is left: the totals are put
+  pub surveying-done : (w₁ w₂ : List ℕ) (c′ : Cursor) (u : Bool) (j : ℕ) → m .what ≡ W.Done → w₁ ≡ set w 5896 k → w₂ ≡ sets w₁ 5897 (c .seen .counts) → Reaches s w₀ (H.Told Y.Done) c′ u j w₂
+  unfolding Reaches Surveys typesAfterOrder typesIn _>>=_
+  surveying-done w₁ w₂ c′ u j is d e =
+      let all = interning-done s c m told w k is (opened v .interning) in
+      let o = ordering-done s c late (opened v .order) m told is in
+      let a : Kept 5896 w w₁ = rw d (kept-set 5896 5896 k w (omega arith)) in
+      let far : 16384 ≤ length w₁ = omega (arith, a .long, v .room) in
+      let g : Registering s w₁ c = registering-above s w w₁ c (λ i l. rw d (getD-set-other w 5896 i k 0 (λ z. omega arith))) (opened v .registering) in
+      let b : Kept 5897 w₁ w₂ = counted-kept s w₁ c g far w₂ e in
+      let both : Kept 5896 w w₂ = kept-then a (kept-less 5896 5897 (omega arith) b) in
+      let word : getD w₂ 5896 0 ≡ k = kept-word b 5896 (omega arith) ∙ rw d (getD-set-same w 5896 k 0 (omega (arith, v .room))) in
+      let few : min k 256 ≡ k = omega (arith, v .few) in
+      let table : typeTable k s w₂ 520 ≡ typeTable k s w 520 = table-kept k s 520 5896 (omega (arith, v .few)) both in
+      record {
+        all = rw (o, word, few, table) all;
+        recalled = rw (word, few, table) (recalled-kept 5896 (typeTable k s w 520) (uses (fieldsIn s)) (omega arith) both
+            (known-recalled w (typeTable k s w 520) (uses (fieldsIn s)) (knowing-done s c m told w k is (opened v .knowing))));
+        few = rw word (v .few);
+        items = g .items;
+        says = registering-done s w₁ c g m told is;
+        tables = counted-tables s w₁ c g far w₂ e;
+        kept = kept-then (opened v .kept) (kept-less 520 5896 (omega arith) both);
+      }
+
+  module _ (f : Field) (here : ℕ) (is : m .what ≡ W.Field f here) where
+    pub surveying-skips : Skips w (c .own) (bodyUses (c .rec + 1) (bodyIn (fieldBody (fieldOf s f)) (c .rec + 1) s here))
+    surveying-skips = field-skips s c m told f here is w (v .ahead)
+
+    module _ (x : Standing) (d : x ≡ standing f) (t : Lateness) (e : lateness late x ≡ fineOf t) where
+      pub surveying-late : (c′ : Cursor) (u : Bool) (j : ℕ) → t ≡ L.Late → Reaches s w₀ (H.Told (Y.Refused 11 (c .rec))) c′ u j w
+      unfolding Reaches
+      surveying-late c′ u j y = falls-late s w₀ 11 (c .rec) w (ordering-late s c late (opened v .order) m told f here is x d (isLate late x) refl (is-late late x t e y)) (v .long)
+
+      -- no import was too late up to the next field
+      pub surveying-order : (u : Bool) → t ≡ L.Fine u → Ordering s (m .next) u
+      surveying-order u y = let z = is-fine late x t e u y in ordering-again s c late (opened v .order) m told f here is x d (isLate late x) refl u (z .0) (z .1)
+
+    -- the uses were handled, and the items registered or not
+    module _ (k′ : ℕ) (b : Registered) (w₂ : List ℕ) (y : Both s w c f here k k′ b w₂) where
+      abbrev w₁ : List ℕ
+      w₁ = y .between
+
+      handled : Handles (c .rec) (endAfter (fieldBody (fieldOf s f)) (c .rec) s here) s (usesField (c .rec) (fieldOf s f) s here) w k (U.Types k′) w₁
+      unfolding Handles
+      handled = y .used
+
+      far : 16384 ≤ length w₁
+      far = omega (arith, y .used .kept .long, v .room)
+
+      registers : Registering s w₁ c
+      registers = registering-above s w w₁ c (used-above s c m told f here is w k (U.Types k′) w₁ handled k′ refl) (opened v .registering)
+
+      both : Kept 520 w w₂
+      both = kept-then (y .used .kept) (kept-less 520 5904 (omega arith) (y .put .kept))
+
+      goes-ahead : Ahead s w₂ (m .next)
+      goes-ahead = ahead-kept s w w₂ (m .next) both (visit-ahead s c m told f here is w (v .ahead))
+
+      interns : Interning s w₂ (m .next) k′
+      interns = interning-kept s w₁ w₂ (m .next) k′ (y .used .few) (y .put .kept) (interning-again s c m told f here is w k (U.Types k′) w₁ handled k′ refl (opened v .interning))
+
+      stops : (n p : ℕ) → b ≡ R.Refused n p → register sameBytes [] (fieldsIn s) ≡ refused n p
+      stops n p e = registering-stops s c m told f here is w₁ registers b w₂ (y .put) far n p e
+
+      goes-on : (u : Bool) → b ≡ R.Done → Ordering s (m .next) u → Surveying s w₀ w₂ (m .next) u k′
+      unfolding Shut
+      goes-on u e o = record {
+        found = record {
+          order = o;
+          interning = interns;
+          knowing = knowing-kept s w₁ w₂ (m .next) k′ (y .used .few) (y .put .kept) (knowing-again s c m told f here is w k (U.Types k′) w₁ handled k′ refl (opened v .knowing));
+          registering = registering-again s c m told f here is w₁ registers b w₂ (y .put) far e;
+          kept = kept-then (opened v .kept) both;
+        };
+        ahead = goes-ahead;
+        few = y .used .few;
+        long = both .long ∙ v .long;
+        room = omega (arith, both .long, v .room);
+        stream = v .stream;
+      }
+
+    module _ (q : Took) (w₂ : List ℕ) (took : Takes s w c f here k q w₂) where
+      -- on to the next field
+      pub surveying-again : (k′ : ℕ) (u : Bool) → q ≡ T.Types k′ → Ordering s (m .next) u → Surveying s w₀ w₂ (m .next) u k′
+      unfolding Takes
+      surveying-again k′ u e o = goes-on k′ R.Done w₂ (rw e at took) u refl o
+
+-- a use was refused
+module _ (q : Took) (n p : ℕ) (e : q ≡ T.Use n p) (s w : List ℕ) (c : Cursor) (f : Field) (here k : ℕ) (w₁ : List ℕ) (took : Takes s w c f here k q w₁)
+    (m : Met) (is : m .what ≡ W.Field f here) (told : visitIn (c .left) c s ≡ visitOf s m) (w₀ : List ℕ) (late : Bool) (v : Surveying s w₀ w c late k) where
+  used : Handles (c .rec) (endAfter (fieldBody (fieldOf s f)) (c .rec) s here) s (usesField (c .rec) (fieldOf s f) s here) w k (U.Refused n p) w₁
+  unfolding Handles Takes
+  used = rw e at took
+
+  kept-on : Kept 520 w w₁
+  kept-on = refused-kept s c m told f here is w k (U.Refused n p) w₁ used n p refl
+
+  pub surveying-refused : (u : Bool) (j : ℕ) → Ordering s (m .next) u → Reaches s w₀ (H.Use n p) (m .next) u j w₁
+  unfolding Reaches
+  surveying-refused u j o = record {
+    ahead = ahead-kept s w w₁ (m .next) kept-on (visit-ahead s c m told f here is w (v .ahead));
+    order = o .same;
+    says = types-fall s n p (interning-refused s c m told f here is w k (U.Refused n p) w₁ used (opened v .interning) n p refl);
+    kept = kept-then (opened v .kept) kept-on;
+  }
+
+-- a name was there already
+module _ (q : Took) (n p k′ : ℕ) (e : q ≡ T.Name n p k′) (s w : List ℕ) (c : Cursor) (f : Field) (here k : ℕ) (w₁ : List ℕ) (took : Takes s w c f here k q w₁)
+    (m : Met) (is : m .what ≡ W.Field f here) (told : visitIn (c .left) c s ≡ visitOf s m) (w₀ : List ℕ) (late : Bool) (v : Surveying s w₀ w c late k) where
+  named : Both s w c f here k k′ (R.Refused n p) w₁
+  unfolding Takes
+  named = rw e at took
+
+  pub surveying-taken : (u : Bool) → Ordering s (m .next) u → Reaches s w₀ (H.Name n p) (m .next) u k′ w₁
+  unfolding Reaches
+  surveying-taken u o = record {
+    ahead = goes-ahead s w₀ w c late k v m told f here is k′ (R.Refused n p) w₁ named;
+    order = o .same;
+    few = named .used .few;
+    types = interns s w₀ w c late k v m told f here is k′ (R.Refused n p) w₁ named .same;
+    says = stops s w₀ w c late k v m told f here is k′ (R.Refused n p) w₁ named n p refl;
+    kept = kept-then (opened v .kept) (both s w₀ w c late k v m told f here is k′ (R.Refused n p) w₁ named);
+  }
+
+-- ## What is told then
+
+module _ (s w : List ℕ) (q : How) (c : Cursor) (late : Bool) (k : ℕ) (w₁ : List ℕ) (told : Reaches s w q c late k w₁) where
+  pub told-so : (a : Surveyed) → q ≡ H.Told a → Surveys s w a w₁
+  unfolding Reaches
+  told-so a e = rw e at told
+
+  module _ (n p : ℕ) (e : q ≡ H.Use n p) where
+    use-refused : UseRefused s w c late n p w₁
+    unfolding Reaches
+    use-refused = rw e at told
+
+    pub use-ahead : Ahead s w₁ c
+    use-ahead = use-refused .ahead
+
+    pub use-order : importOrder (fieldsIn s) ≡ importsFrom late (fieldsAhead c s)
+    use-order = use-refused .order
+
+    pub use-says : typesThenNames (fieldsIn s) ≡ refused n p
+    use-says = use-refused .says
+
+    pub use-told : (a : Surveyed) (w₂ : List ℕ) → Surveys s w₁ a w₂ → Surveys s w a w₂
+    use-told a w₂ y = surveys-since s w w₁ a w₂ (use-refused .kept) y
+
+  module _ (n p : ℕ) (e : q ≡ H.Name n p) where
+    name-refused : NameRefused s w c late k n p w₁
+    unfolding Reaches
+    name-refused = rw e at told
+
+    pub name-room : 16384 ≤ length w → 16384 ≤ length w₁
+    name-room h = omega (arith, name-refused .kept .long)
+
+    pub name-few : k ≤ 256
+    name-few = name-refused .few
+
+    pub name-ahead : Ahead s w₁ c
+    name-ahead = name-refused .ahead
+
+    pub name-order : importOrder (fieldsIn s) ≡ importsFrom late (fieldsAhead c s)
+    name-order = name-refused .order
+
+    pub name-types : allTypes (fieldsIn s) ≡ intern (typeTable k s w₁ 520) (uses (fieldsAhead c s))
+    name-types = name-refused .types
+
+    pub name-says : register sameBytes [] (fieldsIn s) ≡ refused n p
+    name-says = name-refused .says
+
+    pub name-told : (a : Surveyed) (w₂ : List ℕ) → Surveys s w₁ a w₂ → Surveys s w a w₂
+    name-told a w₂ y = surveys-since s w w₁ a w₂ (name-refused .kept) y

@@ -1,0 +1,155 @@
+// One walk over all fields: the order of imports, the uses of types, and the items with their names.
+pub mod late;
+pub mod refused;
+
+use fields::Field;
+use late::Lateness;
+use late::late_after;
+use names::Registered;
+use refused::late_first;
+use refused::types_first;
+use types::Used;
+use walk::Cursor;
+use walk::What;
+ghost use mathlib.Core.Path.{_≡_};
+ghost use Prim.Native.Nat.{_+_, _≤_, _<_};
+ghost use lib.ListN.{length, set};
+ghost use Rattle.definition.specs.Read as Read;
+ghost use Rattle.definition.specs.Types as Types;
+ghost use Rattle.fields.specs.Views.{fieldOf};
+ghost use Rattle.signatures.specs.Table.{typeTable};
+ghost use Rattle.walk.specs.Walk.{bodyIn, Ahead, begin, fieldsIn};
+ghost use Rattle.types.specs.Uses.{Skips};
+ghost use Rattle.names.specs.Register.{brought, Fit};
+ghost use Rattle.survey.specs.Survey.{Takes, Reaches, Surveys};
+
+// A refusal's number and record, if there is one.
+pub enum Surveyed {
+    Done,
+    Refused(u8, u32),
+}
+
+// What is told, or the number and the record of a use's or a name's refusal, before which an earlier rule may come.
+enum How {
+    Told(Surveyed),
+    Use(u8, u32),
+    Name(u8, u32),
+}
+
+// How a walk ended; where it would go on, whether imports are too late there, and how many types there are.
+struct Ended {
+    how: How,
+    next: Cursor,
+    late: bool,
+    types: u32,
+}
+
+// How many types there are after a field, or the number and the record of a use's refusal, or those of a name's and the types.
+enum Took {
+    Types(u32),
+    Use(u8, u32),
+    Name(u8, u32, u32),
+}
+
+// The uses of a field, and then its items.
+fn take_field(s: &[u8], work: &mut [u32], c: Cursor, f: Field, here: usize, count: u32) -> Took
+    requires { ⌜ (length (now s) ≤ 65536) × (16384 ≤ length (now work)) × (count ≤ 256) × (c .rec < 4096) × Skips (now work) (c .own) (Types.bodyUses (c .rec + 1) (bodyIn (Read.fieldBody (fieldOf (now s) f)) (c .rec + 1) (now s) here)) × Fit (c .seen) (brought f) ⌝ }
+    ensures { λ r. ⌜ Takes (now (s .entry)) (now (work .entry)) c f here count r (now (work .exit)) ⌝ }
+{
+    match types::use_field(s, work, count, f, c.own, here, c.rec) {
+        Used::Types(k) => match names::register_field(s, work, c.seen, f, c.rec) {
+            Registered::Done => Took::Types(k),
+            Registered::Refused(n, r) => Took::Name(n, r, k),
+        },
+        Used::Refused(n, r) => Took::Use(n, r),
+    }
+}
+
+// How many types there are.
+fn put_total(work: &mut [u32], n: u32)
+    requires { ⌜ 16384 ≤ length (now work) ⌝ }
+    ensures { λ _. ⌜ now (work .exit) ≡ set (now (work .entry)) 5896 n ⌝ }
+{
+    work[5896] = n;
+}
+
+// The walk, up to its end or to the first refusal.
+fn survey_fields(s: &[u8], work: &mut [u32], declared: u32) -> Ended
+    requires { ⌜ (length (now s) ≤ 65536) × (16384 ≤ length (now work)) × (declared ≤ 256) × Ahead (now s) (now work) begin × (typeTable declared (now s) (now work) 520 ≡ Types.declared (fieldsIn (now s))) ⌝ }
+    ensures { λ r. ⌜ Reaches (now (s .entry)) (now (work .entry)) (r .how) (r .next) (r .late) (r .types) (now (work .exit)) ⌝ }
+{
+    let mut c = walk::start();
+    let mut late = false;
+    let mut count = declared;
+    loop {
+        let m = walk::visit(s, work, c);
+        let what = m.what;
+        match what {
+            What::Field(f, here) => {
+                match late_after(late, order::field_standing(f)) {
+                    Lateness::Fine(l) => {
+                        late = l;
+                    }
+                    Lateness::Late => {
+                        return Ended {
+                            how: How::Told(Surveyed::Refused(11, c.rec)),
+                            next: c,
+                            late,
+                            types: count,
+                        };
+                    }
+                }
+                match take_field(s, work, c, f, here, count) {
+                    Took::Types(k) => {
+                        count = k;
+                        c = m.next;
+                    }
+                    Took::Use(n, r) => {
+                        let next = m.next;
+                        return Ended {
+                            how: How::Use(n, r),
+                            next,
+                            late,
+                            types: count,
+                        };
+                    }
+                    Took::Name(n, r, k) => {
+                        let next = m.next;
+                        return Ended {
+                            how: How::Name(n, r),
+                            next,
+                            late,
+                            types: k,
+                        };
+                    }
+                }
+            }
+            What::Done => {
+                put_total(work, count);
+                names::put_counts(work, c.seen);
+                return Ended {
+                    how: How::Told(Surveyed::Done),
+                    next: c,
+                    late,
+                    types: count,
+                };
+            }
+        }
+    }
+}
+
+// The types of uses after the declared ones, and all names. Word 5896 says how many types there are then, and the word of each record
+// that has a use without an index that use's number. The order of imports comes first over the whole stream, then the types, then the
+// names: where one of the later rules refuses, the fields ahead are asked for an earlier one.
+pub fn survey_all(s: &[u8], work: &mut [u32], declared: u32) -> Surveyed
+    requires { ⌜ (length (now s) ≤ 65536) × (16384 ≤ length (now work)) × (declared ≤ 256) × Ahead (now s) (now work) begin × (typeTable declared (now s) (now work) 520 ≡ Types.declared (fieldsIn (now s))) ⌝ }
+    ensures { λ r. ⌜ Surveys (now (s .entry)) (now (work .entry)) r (now (work .exit)) ⌝ }
+{
+    let x = survey_fields(s, work, declared);
+    let how = x.how;
+    match how {
+        How::Told(a) => a,
+        How::Use(n, r) => late_first(s, work, x.next, x.late, n, r),
+        How::Name(n, r) => types_first(s, work, x.next, x.late, x.types, n, r),
+    }
+}
