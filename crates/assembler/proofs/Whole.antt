@@ -11,7 +11,7 @@ use Rattle.definition.specs.Syntax.{Bytes, Identifier, Rec, Item, FuncType}
 use Rattle.definition.specs.Read.{read}
 use Rattle.definition.specs.Deinline.{Numbered, importOrder, deinline}
 use Rattle.definition.specs.Types.{Uses, uses, allTypes, declared}
-use Rattle.definition.specs.Names.{Scope, space}
+use Rattle.definition.specs.Names.{Items, Scope, space, register}
 use Rattle.definition.specs.Binary.{module′}
 use Rattle.definition.specs.Assemble.{scope, itemsIn, items, resolved, fitting, Maker, moduleIn, namedModuleIn}
 use Rattle.definition.specs.Assemble.{refusal, say, sayRead, assembleBy, outputAfter, workAfter, Outcome, outcome, callBy, call, callNames}
@@ -20,22 +20,18 @@ use Rattle.laws.specs.Steps.{total}
 use Rattle.stream.specs.Pass.{reading, counted, Reads}
 use Rattle.stream.specs.declared.pass.Count.{Count}
 use Rattle.stream.specs.declared.pass.Count.the-variants as C
-use Rattle.space.specs.Kept.{Kept}
-use Rattle.space.proofs.Kept.{kept-less}
-use Rattle.signatures.specs.Table.{typesIn}
+use Rattle.signatures.specs.Table.{typeTable, typesIn}
+use Rattle.signatures.proofs.Types.{table-length}
 use Rattle.walk.specs.Walk.{begin, fieldsIn, Ahead}
 use Rattle.walk.proofs.Steps.{ahead-kept}
 use Rattle.walk.proofs.Join.{fields-in}
 use Rattle.walk.proofs.Begin.{reads-accepted, Accepted}
-use Rattle.types.specs.Pass as Pass
-use Rattle.types.specs.Pass.{typesAfterOrder, TypesDone, HasTypes}
-use Rattle.types.specs.declared.pass.Typed.{Typed}
-use Rattle.types.specs.declared.pass.Typed.the-variants as T
-use Rattle.names.specs.Register.{Registers, Stands}
-use Rattle.names.specs.declared.register.Registered.{Registered}
-use Rattle.names.specs.declared.register.Registered.the-variants as R
+use Rattle.types.specs.Declaring.{DeclaredAll}
+use Rattle.survey.specs.Survey as Survey
+use Rattle.survey.specs.Survey.{typesAfterOrder, Stands, Surveys}
+use Rattle.survey.specs.declared.Surveyed.{Surveyed}
+use Rattle.survey.specs.declared.Surveyed.the-variants as S
 use Rattle.scope.specs.Scope.{scopeIn, Recalled}
-use Rattle.scope.proofs.Frames.{types-kept, recalled-kept}
 use Rattle.sections.specs.Tally.{tallies, noTally}
 use Rattle.sections.specs.declared.tally.Tally.{Tally}
 use Rattle.sections.specs.declared.tally.Verdict.{Verdict}
@@ -48,73 +44,62 @@ use Rattle.assembler.specs.declared.Said.{Said}
 use Rattle.assembler.specs.declared.Passed.{Passed}
 use Rattle.assembler.proofs.Stages.{refuses, passes-on}
 
--- ## Registration
-
-module _ (s w : List ℕ) (q : Registered) (w₁ : List ℕ) (h : Registers s w q w₁) where
-  stands : q ≡ R.Done → Stands s w w₁
-  unfolding Registers
-  stands e = rw e at h
-
-  module _ (e : q ≡ R.Done) where
-    pub register-long : 16384 ≤ length w → 16384 ≤ length w₁
-    register-long a = rw (stands e .kept .long) a
-
-    pub register-ahead : Ahead s w begin → Ahead s w₁ begin
-    register-ahead a = ahead-kept s w w₁ begin (kept-less 520 5897 (omega arith) (stands e .kept)) a
-
-    types : typesIn s w₁ ≡ typesIn s w
-    types = types-kept s w w₁ 5897 (stands e .kept) (omega arith)
-
-    pub register-recalled : (us : Uses) → Recalled w (typesIn s w) us → Recalled w₁ (typesIn s w₁) us
-    register-recalled us a = rw types (recalled-kept w (typesIn s w) w₁ 5897 us (stands e .kept) (omega arith) a)
-
-    scope-is : _≡_ {A = Scope Identifier} (record { eq = sameBytes; names = λ k. space k (stands e .items); allTypes = typesIn s w }) (scopeIn s w₁)
-    unfolding scopeIn
-    scope-is = λ i. record { eq = sameBytes; names = λ k. stands e .tables .each k i; allTypes = sym types i }
-
-    pub register-done : (count : ℕ) (p : Passed) (w₂ b : List ℕ) → Passes (fromNames (fieldsIn s) (scopeIn s w₁)) count s w₁ p w₂ b
-        → Passes (fromTypes (fieldsIn s) (typesIn s w)) count s w p w₂ b
-    unfolding fromTypes _>>=_
-    register-done count p w₂ b y = let a = stands e .says in passes-on _ _ count s w w₁ p w₂ b (rw (a, scope-is) refl) (stands e .kept .long) y
-
-  pub register-not : (count : ℕ) (p : Passed) (b : List ℕ) (n r : ℕ) → q ≡ R.Refused n r → p .verdict ≡ V′.Refused n r → Passes (fromTypes (fieldsIn s) (typesIn s w)) count s w p w₁ b
-  unfolding fromTypes _>>=_ Registers
-  register-not count p b n r e v = (let g = rw e at h in let a = g .0 in refuses _ count s w p w₁ b n r (rw a refl) v (g .1))
-
--- ## The order of imports, and the types
+-- ## The order of imports, the types of uses, and the names
 
 -- each use has its number, by the words of both crates
-recalled-as : (w : List ℕ) (ts : List FuncType) (us : Uses) → Pass.Recalled w ts us → Recalled w ts us
-unfolding Pass.Recalled Recalled
+recalled-as : (w : List ℕ) (ts : List FuncType) (us : Uses) → Survey.Recalled w ts us → Recalled w ts us
+unfolding Survey.Recalled Recalled
 recalled-as w ts [] h = tt
 recalled-as w ts ((r, t) ∷ us) h = (h .0, h .1, recalled-as w ts us (h .2))
 
-module _ (s w : List ℕ) (q : Typed) (w₁ : List ℕ) (h : TypesDone s w q w₁) where
-  module _ (n : ℕ) (e : q ≡ T.Types n) where
-    has : HasTypes s w n w₁
-    unfolding TypesDone
-    has = rw e at h
+-- what refuses the types or the names refuses what follows them
+falls-then : (a : Answer (List FuncType)) (b : Answer (Items Identifier)) (k : List FuncType → Items Identifier → Answer Found) (n r : ℕ) → (a >>= λ _. b) ≡ refused n r → (a >>= λ ts. b >>= k ts) ≡ refused n r
+unfolding _>>=_
+falls-then (ok ts) (ok xs) k n r e = let z : _≡_ {A = ℕ} 0 1 = cc in absurd (omega arith)
+falls-then (ok ts) (refused m q) k n r e = let x : m ≡ n = cc in let y : q ≡ r = cc in rw (x, y) refl
+falls-then (refused m q) b k n r e = let x : m ≡ n = cc in let y : q ≡ r = cc in rw (x, y) refl
 
-    pub types-long : 16384 ≤ length w → 16384 ≤ length w₁
-    types-long a = rw (has .kept .long) a
+module _ (s w : List ℕ) (q : Surveyed) (w₁ : List ℕ) (h : Surveys s w q w₁) where
+  module _ (e : q ≡ S.Done) where
+    stands : Stands s w w₁
+    unfolding Surveys
+    stands = rw e at h
 
-    pub types-ahead : Ahead s w begin → Ahead s w₁ begin
-    types-ahead a = ahead-kept s w w₁ begin (has .kept) a
+    pub survey-long : 16384 ≤ length w → 16384 ≤ length w₁
+    survey-long a = rw (stands .kept .long) a
 
-    pub types-recalled : Recalled w₁ (typesIn s w₁) (uses (fieldsIn s))
-    types-recalled = recalled-as w₁ (typesIn s w₁) (uses (fieldsIn s)) (has .recalled)
+    pub survey-ahead : Ahead s w begin → Ahead s w₁ begin
+    survey-ahead a = ahead-kept s w w₁ begin (stands .kept) a
 
-    pub types-declared : n ≡ length (declared (fieldsIn s))
-    types-declared = has .declares
+    pub survey-recalled : Recalled w₁ (typesIn s w₁) (uses (fieldsIn s))
+    survey-recalled = recalled-as w₁ (typesIn s w₁) (uses (fieldsIn s)) (stands .recalled)
 
-    pub types-done : (count : ℕ) (p : Passed) (w₂ b : List ℕ) → Passes (fromTypes (fieldsIn s) (typesIn s w₁)) count s w₁ p w₂ b
-        → Passes (fromFields (fieldsIn s)) count s w p w₂ b
-    unfolding fromFields _>>=_
-    types-done count p w₂ b y = let a = has .all in passes-on _ _ count s w w₁ p w₂ b (rw a refl) (has .kept .long) y
+    scope-is : _≡_ {A = Scope Identifier} (record { eq = sameBytes; names = λ k. space k (stands .items); allTypes = typesIn s w₁ }) (scopeIn s w₁)
+    unfolding scopeIn
+    scope-is = λ i. record { eq = sameBytes; names = λ k. stands .tables .each k i; allTypes = typesIn s w₁ }
 
-  pub types-not : (count : ℕ) (p : Passed) (b : List ℕ) (n r : ℕ) → q ≡ T.Refused n r → p .verdict ≡ V′.Refused n r → Passes (fromFields (fieldsIn s)) count s w p w₁ b
-  unfolding fromFields _>>=_ TypesDone
-  types-not count p b n r e v = (let g = rw e at h in let a = g .says in refuses _ count s w p w₁ b n r (rw a refl) v (g .long))
+    pub survey-done : (count : ℕ) (p : Passed) (w₂ b : List ℕ) → Passes (fromNames (fieldsIn s) (scopeIn s w₁)) count s w₁ p w₂ b → Passes (fromFields (fieldsIn s)) count s w p w₂ b
+    unfolding fromFields fromTypes _>>=_
+    survey-done count p w₂ b y = let t = stands .all in let a = stands .says in passes-on _ _ count s w w₁ p w₂ b (rw (t, a, scope-is) refl) (stands .kept .long) y
+
+  pub survey-not : (count : ℕ) (p : Passed) (b : List ℕ) (n r : ℕ) → q ≡ S.Refused n r → p .verdict ≡ V′.Refused n r → Passes (fromFields (fieldsIn s)) count s w p w₁ b
+  unfolding fromFields fromTypes Surveys
+  survey-not count p b n r e v =
+      (let g = rw e at h in
+      refuses _ count s w p w₁ b n r (falls-then (typesAfterOrder (fieldsIn s)) (register sameBytes [] (fieldsIn s)) _ n r (g .says)) v (g .long))
+
+-- ## The declared types
+
+-- as many as are in the table
+pub table-count : (s w : List ℕ) (d : ℕ) → typeTable d s w 520 ≡ declared (fieldsIn s) → d ≡ length (declared (fieldsIn s))
+table-count s w d e = sym (table-length d s w 520) ∙ ap length e
+
+module _ (s w : List ℕ) (d : ℕ) (w₁ : List ℕ) (h : DeclaredAll s w d w₁) where
+  pub declared-long : 16384 ≤ length w → 16384 ≤ length w₁
+  declared-long a = rw (h .kept .long) a
+
+  pub declared-ahead : Ahead s w begin → Ahead s w₁ begin
+  declared-ahead a = ahead-kept s w w₁ begin (h .kept) a
 
 -- ## The records
 

@@ -13,7 +13,7 @@ use Rattle.definition.specs.NameSection.{nameSection}
 use Rattle.definition.specs.Assemble as Assemble
 use Rattle.definition.specs.Assemble.{itemsIn, fitting, Maker, moduleIn, namedModuleIn, refusal, say, assembleBy, outputAfter}
 use Rattle.walk.specs.Walk.{fieldsIn}
-use Rattle.types.specs.Pass.{typesAfterOrder}
+use Rattle.survey.specs.Survey.{typesAfterOrder}
 use Rattle.scope.specs.Scope.{scopeIn}
 use Rattle.sections.specs.Tally.{tallies, noTally}
 use Rattle.sections.specs.declared.tally.Verdict.{Verdict}

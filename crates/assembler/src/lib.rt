@@ -2,25 +2,24 @@
 pub mod export;
 
 use module::module_len;
-use names::Registered;
 use sections::Tally;
 use sections::Verdict;
 use stream::Count;
-use types::Typed;
+use survey::Surveyed;
 ghost use mathlib.Core.Path.{_≡_};
 ghost use mathlib.Core.List.{_++_};
 ghost use Prim.Native.Nat.{_≤_};
-ghost use lib.ListN.{length};
+ghost use lib.ListN.{length, getD};
 ghost use Rattle.definition.specs.Types as Types;
 ghost use Rattle.definition.specs.Binary as Binary;
 ghost use Rattle.definition.specs.Assemble as Assemble;
-ghost use Rattle.signatures.specs.Table.{typesIn};
+ghost use Rattle.signatures.specs.Table.{typeTable, typesIn};
 ghost use Rattle.walk.specs.Walk.{Ahead, begin, fieldsIn};
 ghost use Rattle.scope.specs.Scope.{scopeIn, Recalled};
 ghost use Rattle.sections.specs.Tally.{tallies, noTally};
 ghost use Rattle.module.specs.Write.{Writable, Held, allEntries, moduleItems};
 ghost use Rattle.name_section.specs.Section.{namesIn};
-ghost use Rattle.assembler.specs.Run.{Passes, Prepares, noRoom, Does, Runs, fromNames, fromTypes, fromFields, makes, outcomeOf};
+ghost use Rattle.assembler.specs.Run.{Passes, Prepares, noRoom, Does, Runs, fromNames, fromFields, makes, outcomeOf};
 
 // A number, a record, and how many bytes were written.
 pub struct Said {
@@ -76,26 +75,24 @@ fn resolve(s: &[u8], work: &mut [u32], kept: &mut [u8], count: u32, declared: u3
     }
 }
 
-// Every item in its table; then the fields.
-fn register(s: &[u8], work: &mut [u32], kept: &mut [u8], count: u32, declared: u32) -> Passed
-    requires { ⌜ (length (now s) ≤ 65536) × (16384 ≤ length (now work)) × Ahead (now s) (now work) begin × Recalled (now work) (typesIn (now s) (now work)) (Types.uses (fieldsIn (now s))) × (declared ≡ length (Types.declared (fieldsIn (now s)))) ⌝ }
-    ensures { λ r. ⌜ Passes (fromTypes (fieldsIn (now (s .entry))) (typesIn (now (s .entry)) (now (work .entry)))) count (now (s .entry)) (now (work .entry)) r (now (work .exit)) (now (kept .exit)) ⌝ }
+// The order of imports, the types of uses and the names, in one walk; then the fields.
+fn intern(s: &[u8], work: &mut [u32], kept: &mut [u8], count: u32, declared: u32) -> Passed
+    requires { ⌜ (length (now s) ≤ 65536) × (16384 ≤ length (now work)) × (declared ≤ 256) × Ahead (now s) (now work) begin × (typeTable declared (now s) (now work) 520 ≡ Types.declared (fieldsIn (now s))) ⌝ }
+    ensures { λ r. ⌜ Passes (fromFields (fieldsIn (now (s .entry)))) count (now (s .entry)) (now (work .entry)) r (now (work .exit)) (now (kept .exit)) ⌝ }
 {
-    match names::register_all(s, work) {
-        Registered::Done => resolve(s, work, kept, count, declared),
-        Registered::Refused(n, q) => refuse(n, q),
+    match survey::survey_all(s, work, declared) {
+        Surveyed::Done => resolve(s, work, kept, count, declared),
+        Surveyed::Refused(n, q) => refuse(n, q),
     }
 }
 
-// The order of imports and the types; then the names.
-fn intern(s: &[u8], work: &mut [u32], kept: &mut [u8], count: u32) -> Passed
-    requires { ⌜ (length (now s) ≤ 65536) × (16384 ≤ length (now work)) × Ahead (now s) (now work) begin ⌝ }
+// The declared types; then what uses and names there are.
+fn declare(s: &[u8], work: &mut [u32], kept: &mut [u8], count: u32) -> Passed
+    requires { ⌜ (length (now s) ≤ 65536) × (16384 ≤ length (now work)) × Ahead (now s) (now work) begin × (getD (now work) 4 0 ≡ length (Types.declared (fieldsIn (now s)))) ⌝ }
     ensures { λ r. ⌜ Passes (fromFields (fieldsIn (now (s .entry)))) count (now (s .entry)) (now (work .entry)) r (now (work .exit)) (now (kept .exit)) ⌝ }
 {
-    match types::all_types(s, work) {
-        Typed::Types(declared) => register(s, work, kept, count, declared),
-        Typed::Refused(n, q) => refuse(n, q),
-    }
+    let declared = types::declare_all(s, work);
+    intern(s, work, kept, count, declared)
 }
 
 // The records; then the passes over their fields.
@@ -103,7 +100,7 @@ fn prepare(s: &[u8], work: &mut [u32], kept: &mut [u8]) -> Passed
     ensures { λ r. ⌜ Prepares (now (s .entry)) (now (work .entry)) r (now (work .exit)) (now (kept .exit)) ⌝ }
 {
     match stream::read_all(s, work) {
-        Count::Records(count) => intern(s, work, kept, count),
+        Count::Records(count) => declare(s, work, kept, count),
         Count::Refused(n, q) => refuse(n, q),
     }
 }

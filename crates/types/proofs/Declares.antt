@@ -1,9 +1,7 @@
 -- Laws of the walk over declared types.
 use Prim.Native.Nat.{ℕ, _+_, _-_, _*_, _≤_, _<_}
 use mathlib.Core.Path.{_≡_, refl, sym, _∙_, ap}
-use mathlib.Core.Bool.{Bool, true, false}
 use mathlib.Core.List.{List, [], _∷_, _++_, map, append-nil, append-assoc}
-use mathlib.Core.Option.{Option}
 use lib.ListN.{length, getD, length-set, length-append}
 use lib.Seq.{getD-set-same, getD-set-other}
 use borrow.Author.Tests.{ltb-true, lt-ltb}
@@ -14,7 +12,7 @@ use Rattle.definition.specs.Reader.{got}
 use Rattle.definition.specs.Token.{valType, string}
 use Rattle.definition.specs.Records.{fieldRec}
 use Rattle.definition.specs.Spaces.{externSpace, ownSpace, sourceSpace, segments, brings}
-use Rattle.definition.specs.Deinline.{Numbered, sourceFields, fieldsOf}
+use Rattle.definition.specs.Deinline.{Numbered, fieldsOf}
 use Rattle.definition.specs.Types.{declaredBy, declared}
 use Rattle.typeuse.specs.Views.{listOf}
 use Rattle.typeuse.specs.declared.List as Code
@@ -34,11 +32,8 @@ use Rattle.walk.specs.declared.Cursor.{Cursor}
 use Rattle.walk.specs.declared.Met.{Met}
 use Rattle.walk.specs.declared.What.the-variants as W
 use Rattle.walk.proofs.Steps.{visit-done, visit-read, visit-next, visit-fields, visit-ahead, ahead-kept}
-use Rattle.order.specs.Order.{standing, isLate, lateAfter}
-use Rattle.order.specs.declared.Standing.{Standing}
-use Rattle.order.proofs.Passing.{Ordering, ordering-begin, ordering-done, ordering-late, ordering-again}
-use Rattle.types.specs.Declaring.{listed, declaredIn, HasRoom, Declares, DeclaresAll}
-use Rattle.types.specs.declared.taken.Used.the-variants as U
+use Rattle.walk.proofs.Counted.{declared-append, item-declares}
+use Rattle.types.specs.Declaring.{listed, declaredIn, HasRoom, Declares, DeclaredAll}
 use Rattle.types.proofs.Room.{type-room}
 
 -- ## One field
@@ -74,25 +69,6 @@ module _ (s w : List ℕ) (count : ℕ) (f : Field) where
 pub ruleset declares = (declare-type, declare-import, declare-item, declare-export, declare-start, declare-elem, declare-data)
 
 -- ## The fields of a record
-
-declared-append : (fs gs : Numbered Identifier) → declared (fs ++ gs) ≡ declared fs ++ declared gs
-unfolding declared
-declared-append [] gs = refl
-declared-append ((r, f) ∷ fs) gs = ap (λ (l : List FuncType). declaredBy f ++ l) (declared-append fs gs) ∙ sym (append-assoc (declaredBy f) (declared fs) (declared gs))
-
-module _ (r : ℕ) (i : Option Identifier) (b : List (Instr Identifier)) where
-  source-declares : (n : ℕ) (x : Source Identifier) → declared (map (λ z. (r, z)) (sourceFields i n x b)) ≡ []
-  unfolding declared declaredBy sourceFields
-  source-declares n (Syntax.own o) = refl
-  source-declares n (Syntax.imported m d) = refl
-  source-declares n (Syntax.tableOf w xs) = refl
-  source-declares n (Syntax.memOf w d) = refl
-
-  item-declares : (k : Space) (n : ℕ) (es : List Bytes) (x : Source Identifier)
-      → declared (map (λ z. (r, z)) (map (λ e. Syntax.exportF e k (Syntax.number n)) es ++ sourceFields i n x b)) ≡ []
-  unfolding declared declaredBy
-  item-declares k n [] x = source-declares n x
-  item-declares k n (e ∷ es) x = item-declares k n es x
 
 field-declares : (s : Bytes) (r : ℕ) (next : Space → ℕ) (f : Field) (b : List (Instr Identifier)) → declared (map (λ z. (r, z)) (fieldsOf next (fieldOf s f) b)) ≡ declaredIn s f
 unfolding declared declaredBy fieldsOf signatureOf typesOf
@@ -160,8 +136,7 @@ few-after s count (F.Data i m d) h l = omega arith
 -- ## The loop
 
 -- the types so far, and those that are ahead
-pub record Declaring (s : Bytes) (w₀ w : List ℕ) (c : Cursor) (late : Bool) (count : ℕ) : Type 0 where
-  pub order : Ordering s c late
+pub record Declaring (s : Bytes) (w₀ w : List ℕ) (c : Cursor) (count : ℕ) : Type 0 where
   pub same : typeTable count s w 520 ++ declared (fieldsAhead c s) ≡ declared (fieldsIn s)
   pub number : count ≡ countOf (c .seen) types
   pub seven : length (c .seen .counts) ≡ 7
@@ -170,53 +145,55 @@ pub record Declaring (s : Bytes) (w₀ w : List ℕ) (c : Cursor) (late : Bool) 
   pub ahead : Ahead s w c
   pub long : length w ≡ length w₀
 
-pub declaring-begin : (s w : List ℕ) (c : Cursor) → c ≡ begin → Ahead s w begin → Declaring s w w c false 0
+pub declaring-begin : (s w : List ℕ) (c : Cursor) → c ≡ begin → Ahead s w begin → Declaring s w w c 0
 unfolding typeTable fieldsIn begin
-declaring-begin s w c e a = record {
-  order = ordering-begin s c e;
-  same = rw e;
-  number = rw e;
-  seven = rw e;
-  few = omega arith;
-  kept = kept-same 520 w;
-  ahead = rw e a;
-  long = refl;
-}
+declaring-begin s w c e a = record { same = rw e; number = rw e; seven = rw e; few = omega arith; kept = kept-same 520 w; ahead = rw e a; long = refl }
 
-module _ (s : Bytes) (w₀ w : List ℕ) (c : Cursor) (late : Bool) (count : ℕ) (v : Declaring s w₀ w c late count) (m : Met) (told : visitIn (c .left) c s ≡ visitOf s m) where
-  pub declaring-done : m .what ≡ W.Done → DeclaresAll s w₀ (U.Types count) w
-  unfolding DeclaresAll declared
-  declaring-done d = record {
-    order = ordering-done s c late (v .order) m told d;
-    types = sym (append-nil (typeTable count s w 520)) ∙ ap (λ (l : Numbered Identifier). typeTable count s w 520 ++ declared l) (sym (visit-done s c m told d)) ∙ v .same;
+module _ (s : Bytes) (w₀ w : List ℕ) (c : Cursor) (count : ℕ) (v : Declaring s w₀ w c count) where
+  -- nothing that is ahead declares a type
+  done : declared (fieldsAhead c s) ≡ [] → DeclaredAll s w₀ count w
+  done e = record {
+    types = sym (append-nil (typeTable count s w 520)) ∙ ap (λ (l : List FuncType). typeTable count s w 520 ++ l) (sym e) ∙ v .same;
     few = v .few;
     kept = v .kept;
   }
 
-  module _ (f : Field) (here : ℕ) (is : m .what ≡ W.Field f here) where
-    pub has-room : HasRoom count f
-    unfolding roomOf
-    has-room = go f (visit-read s c m told f here is)
-      where
-        go : (f : Field) → fieldRec (roomOf (c .seen)) s (c .at) ≡ got (fieldOf s f) here → HasRoom count f
-        go (F.Type i ps rs) e =
-            let n = v .number in
-            rw n (ltb-true (countOf (c .seen) types) 256 (type-room (roomOf (c .seen)) s (c .at) (idOf s i) (record { params = listOf valType s ps; results = listOf valType s rs }) here e))
-        go (F.Import n i x) e = tt
-        go (F.Item i es x) e = tt
-        go (F.Export n k x) e = tt
-        go (F.Start x) e = tt
-        go (F.Elem i j xs) e = tt
-        go (F.Data i j d) e = tt
+  -- all that were counted are there
+  pub declaring-found : (total : ℕ) → total ≡ getD w₀ 4 0 → getD w₀ 4 0 ≡ length (declared (fieldsIn s)) → total ≤ count → DeclaredAll s w₀ count w
+  declaring-found total e f h =
+      let a = length-append (typeTable count s w 520) (declared (fieldsAhead c s)) in
+      let b = ap length (v .same) in
+      let t = table-length count s w 520 in
+      done (nothing-left (declared (fieldsAhead c s)) (omega arith))
+    where
+      nothing-left : (ts : List FuncType) → length ts ≡ 0 → ts ≡ []
+      nothing-left [] h = refl
+      nothing-left (t ∷ ts) h = absurd (omega arith)
 
-    module _ (x : Standing) (d : x ≡ standing f) (t : Bool) (e : t ≡ isLate late x) where
-      pub declaring-late : t ≡ true → DeclaresAll s w₀ (U.Refused 11 (c .rec)) w
-      unfolding DeclaresAll
-      declaring-late y = record { says = ordering-late s c late (v .order) m told f here is x d t e y; long = v .long }
+  module _ (m : Met) (told : visitIn (c .left) c s ≡ visitOf s m) where
+    pub declaring-done : m .what ≡ W.Done → DeclaredAll s w₀ count w
+    unfolding declared
+    declaring-done d = done (ap (λ (l : Numbered Identifier). declared l) (visit-done s c m told d))
 
-      pub declaring-again : (u : Bool) (n : ℕ) (w′ : List ℕ) → t ≡ false → u ≡ lateAfter late x → Declares s w count f n w′ → Declaring s w₀ w′ (m .next) u n
+    module _ (f : Field) (here : ℕ) (is : m .what ≡ W.Field f here) where
+      pub has-room : HasRoom count f
+      unfolding roomOf
+      has-room = go f (visit-read s c m told f here is)
+        where
+          go : (f : Field) → fieldRec (roomOf (c .seen)) s (c .at) ≡ got (fieldOf s f) here → HasRoom count f
+          go (F.Type i ps rs) e =
+              let n = v .number in
+              rw n (ltb-true (countOf (c .seen) types) 256 (type-room (roomOf (c .seen)) s (c .at) (idOf s i) (record { params = listOf valType s ps; results = listOf valType s rs }) here e))
+          go (F.Import n i x) e = tt
+          go (F.Item i es x) e = tt
+          go (F.Export n k x) e = tt
+          go (F.Start x) e = tt
+          go (F.Elem i j xs) e = tt
+          go (F.Data i j d) e = tt
+
+      pub declaring-again : (n : ℕ) (w′ : List ℕ) → Declares s w count f n w′ → Declaring s w₀ w′ (m .next) n
       unfolding fieldsHere cursorAfter seenWith
-      declaring-again u n w′ y z a =
+      declaring-again n w′ a =
           let room = has-room in
           let num = v .number in
           let long : n ≡ count + length (declaredIn s f) =
@@ -226,7 +203,6 @@ module _ (s : Bytes) (w₀ w : List ℕ) (c : Cursor) (late : Bool) (count : ℕ
           ap declared (visit-fields s c m told f here is) ∙ declared-append _ (fieldsAhead (m .next) s)
           ∙ ap (λ (l : List FuncType). l ++ declared (fieldsAhead (m .next) s)) (field-declares s (c .rec) (countOf (c .seen)) f _) in
           record {
-            order = ordering-again s c late (v .order) m told f here is x d t e u y z;
             same = ap (λ (l : List FuncType). l ++ declared (fieldsAhead (m .next) s)) (a .types) ∙ append-assoc (typeTable count s w 520) (declaredIn s f) (declared (fieldsAhead (m .next) s))
                 ∙ ap (λ (l : List FuncType). typeTable count s w 520 ++ l) (sym split) ∙ v .same;
             number = long ∙ ap (λ z. z + length (declaredIn s f)) num ∙ sym (field-count s (c .seen) f (v .seven) (rw num at room)) ∙ ap (λ (z : Cursor). countOf (z .seen) types) (sym next);

@@ -1,12 +1,9 @@
--- What the pass makes of declared types, and of the order of imports.
+-- What the pass makes of declared types.
 use Prim.Native.Nat.{ℕ, _≤_, _<_}
 use mathlib.Core.Path.{_≡_}
 use mathlib.Core.Bool.{false}
 use mathlib.Core.List.{List, [], _∷_, _++_}
-use lib.ListN.{length}
-use Rattle.definition.specs.Basic.{ok, refused}
 use Rattle.definition.specs.Syntax.{Bytes, FuncType}
-use Rattle.definition.specs.Deinline.{importOrder}
 use Rattle.definition.specs.Types.{declared}
 use Rattle.typeuse.specs.declared.List as Code
 use Rattle.fields.specs.declared.field.Field.{Field}
@@ -15,8 +12,6 @@ use Rattle.space.specs.Kept.{Kept}
 use Rattle.signatures.specs.Table.{signatureOf, typeTable}
 use Rattle.signatures.specs.declared.entry.Signature.{Signature}
 use Rattle.walk.specs.Walk.{fieldsIn}
-use Rattle.types.specs.declared.taken.Used.{Used}
-use Rattle.types.specs.declared.taken.Used.the-variants as U
 
 -- no identifiers stand before the parameters of a declared type
 abbrev pub listed : Code.List → Code.List → Signature
@@ -47,18 +42,8 @@ pub record Declares (s : Bytes) (w : List ℕ) (count : ℕ) (f : Field) (n : �
   pub types : typeTable n s w′ 520 ≡ typeTable count s w 520 ++ declaredIn s f
   pub kept : Kept 520 w w′
 
--- no import came too late, and all declared types are in the table
+-- all declared types are in the table
 pub record DeclaredAll (s : Bytes) (w : List ℕ) (n : ℕ) (w′ : List ℕ) : Type 0 where
-  pub order : importOrder (fieldsIn s) ≡ ok tt
   pub types : typeTable n s w′ 520 ≡ declared (fieldsIn s)
   pub few : n ≤ 256
   pub kept : Kept 520 w w′
-
--- an import came too late
-pub record Late (s : Bytes) (w : List ℕ) (n q : ℕ) (w′ : List ℕ) : Type 0 where
-  pub says : importOrder (fieldsIn s) ≡ refused n q
-  pub long : length w′ ≡ length w
-
-unfoldable pub DeclaresAll : Bytes → List ℕ → Used → List ℕ → Type 0
-DeclaresAll s w (U.Types n) w′ = DeclaredAll s w n w′
-DeclaresAll s w (U.Refused n q) w′ = Late s w n q w′

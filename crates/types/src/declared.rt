@@ -1,14 +1,15 @@
 // The declared types, wherever they stand.
-use crate::taken::Used;
 use fields::Field;
 use signatures::Signature;
 use typeuse::List;
 use walk::What;
+ghost use mathlib.Core.Path.{_≡_};
 ghost use Prim.Native.Nat.{_+_, _≤_, _<_};
-ghost use lib.ListN.{length};
+ghost use lib.ListN.{length, getD};
+ghost use Rattle.definition.specs.Types as Types;
 ghost use Rattle.signatures.specs.Table.{Adds};
-ghost use Rattle.walk.specs.Walk.{Ahead, begin};
-ghost use Rattle.types.specs.Declaring.{HasRoom, Declares, DeclaresAll, listed};
+ghost use Rattle.walk.specs.Walk.{Ahead, begin, fieldsIn};
+ghost use Rattle.types.specs.Declaring.{HasRoom, Declares, DeclaredAll, listed};
 
 // A type stands after the others.
 fn add_declared(s: &[u8], work: &mut [u32], count: u32, params: List, results: List)
@@ -66,30 +67,26 @@ fn declare(s: &[u8], work: &mut [u32], count: u32, f: Field) -> u32
     }
 }
 
-// All of them, in their order. The same walk finds the first import that comes too late.
-pub fn declare_all(s: &[u8], work: &mut [u32]) -> Used
-    requires { ⌜ (length (now s) ≤ 65536) × (16384 ≤ length (now work)) × Ahead (now s) (now work) begin ⌝ }
-    ensures { λ r. ⌜ DeclaresAll (now (s .entry)) (now (work .entry)) r (now (work .exit)) ⌝ }
+// All of them, in their order. Reading has left how many there are, and the walk ends with the last of them.
+pub fn declare_all(s: &[u8], work: &mut [u32]) -> u32
+    requires { ⌜ (length (now s) ≤ 65536) × (16384 ≤ length (now work)) × Ahead (now s) (now work) begin × (getD (now work) 4 0 ≡ length (Types.declared (fieldsIn (now s)))) ⌝ }
+    ensures { λ r. ⌜ DeclaredAll (now (s .entry)) (now (work .entry)) r (now (work .exit)) ⌝ }
 {
+    let total = space::word(work, 4);
     let mut c = walk::start();
-    let mut late = false;
     let mut count: u32 = 0;
-    loop {
+    while count < total {
         let m = walk::visit(s, work, c);
         let what = m.what;
         match what {
             What::Field(f, _) => {
-                let x = order::field_standing(f);
-                if order::is_late(late, x) {
-                    return Used::Refused(11, c.rec);
-                }
-                late = order::late_after(late, x);
                 count = declare(s, work, count, f);
                 c = m.next;
             }
             What::Done => {
-                return Used::Types(count);
+                return count;
             }
         }
     }
+    count
 }

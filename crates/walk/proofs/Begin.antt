@@ -43,7 +43,7 @@ begins-with es more h = let e : 512 ≡ length es + (512 - length es) = omega ar
 -- ## The start of a walk
 
 -- the area that reading an accepted stream leaves
-area-is : (s : Bytes) (w : List ℕ) (rs : List (Rec Identifier)) → read s ≡ ok rs
+pub area-is : (s : Bytes) (w : List ℕ) (rs : List (Rec Identifier)) → read s ≡ ok rs
     → areaAfter (passed s) w ≡ sets (sets w 8 (endsFrom 4096 begin s)) 0 (countWords (passed s .seen))
 unfolding areaAfter endWords
 area-is s w rs e =
@@ -85,15 +85,15 @@ pub record Accepted (s : Bytes) : Type 0 where
   pub is : read s ≡ ok recs
 
 -- within the ceilings of the stream and of the area, it leaves the area of the pass
-record Left (s : Bytes) (w w′ : List ℕ) : Type 0 where
-  recs : List (Rec Identifier)
-  is : read s ≡ ok recs
-  long : 16384 ≤ length w
-  short : length s ≤ 65536
-  leaves : w′ ≡ areaAfter (passed s) w
+pub record Left (s : Bytes) (w w′ : List ℕ) : Type 0 where
+  pub recs : List (Rec Identifier)
+  pub is : read s ≡ ok recs
+  pub long : 16384 ≤ length w
+  pub short : length s ≤ 65536
+  pub leaves : w′ ≡ areaAfter (passed s) w
 
 module _ (s : Bytes) (w w′ : List ℕ) (r : Count) (v : Reads s w r w′) (n : ℕ) (is : r ≡ C.Records n) where
-  left : Left s w w′
+  pub left : Left s w w′
   unfolding reading readingArea
   left = go (ltb 65536 (length s)) refl (ltb (length w) 16384) refl (v .says ∙ ap counted is) (v .leaves)
     where

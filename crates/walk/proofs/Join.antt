@@ -61,7 +61,7 @@ module _ (r : ℕ) (seen : Read.Seen) (s : Bytes) (here : ℕ) (rs : List (Rec I
 -- ## Bodies
 
 -- no field stands in a body
-no-field : (k : ℕ) (s : Bytes) (at : ℕ) (f : FieldRec Identifier) (q : ℕ) → bodyRec k s at ≡ got (field f) q → ⊥
+pub no-field : (k : ℕ) (s : Bytes) (at : ℕ) (f : FieldRec Identifier) (q : ℕ) → bodyRec k s at ≡ got (field f) q → ⊥
 unfolding bodyRec
 no-field k s at f q e = let c = came (byte s at) e in go (eqb (c .value) 0xFF) (c .value) (c .next) (c .rest)
   where

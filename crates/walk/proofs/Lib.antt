@@ -3,3 +3,4 @@ pub mod Gives
 pub mod Steps
 pub mod Join
 pub mod Begin
+pub mod Counted

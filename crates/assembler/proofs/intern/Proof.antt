@@ -1,16 +1,16 @@
-use Rattle.assembler.proofs.Whole.{types-long, types-ahead, types-recalled, types-declared, types-done, types-not}
+use Rattle.assembler.proofs.Whole.{survey-long, survey-ahead, survey-recalled, survey-done, survey-not, table-count}
 use borrow.Author.Needs.{needs}
 use Rattle.assembler.proofs.intern.Statement.{statement}
 use Rattle.assembler.proofs.intern.Tie as tie
 
-all-types-requires : tie.Need-all-types-requires
-all-types-requires c κs = search needs
+survey-all-requires : tie.Need-survey-all-requires
+survey-all-requires c κs = search needs
 
-enum-known-declared : tie.Need-enum-known-declared
-enum-known-declared c = search needs
+enum-told : tie.Need-enum-told
+enum-told c = search needs
 
-register-requires : tie.Need-register-requires
-register-requires c κs = (search needs, search types-long, search types-ahead, search types-recalled, search types-declared)
+resolve-requires : tie.Need-resolve-requires
+resolve-requires c κs = (search needs, search survey-long, search survey-ahead, search survey-recalled, search table-count)
 
 enum-known-n : tie.Need-enum-known-n
 enum-known-n c = search needs
@@ -25,21 +25,21 @@ same-length-2 : tie.Need-same-length-2
 same-length-2 c = search needs
 
 returns : tie.Need-returns
-returns c = search types-done
+returns c = search survey-done
 
 same-length-3 : tie.Need-same-length-3
 same-length-3 c = search needs
 
 returns-2 : tie.Need-returns-2
-returns-2 c = search types-not
+returns-2 c = search survey-not
 
 pub intern-spec : {M : Type 1} → statement M
 intern-spec =
     tie.close
     (tie.spec
-    all-types-requires
-    enum-known-declared
-    register-requires
+    survey-all-requires
+    enum-told
+    resolve-requires
     enum-known-n
     refuse-requires
     same-length

@@ -1,5 +1,6 @@
 use Rattle.assembler.proofs.Whole.{prepare-done, prepare-not}
 use Rattle.walk.proofs.Begin.{reads-short, reads-long, reads-ahead}
+use Rattle.walk.proofs.Counted.{reads-declared}
 use borrow.Author.Needs.{needs}
 use Rattle.assembler.proofs.prepare.Statement.{statement}
 use Rattle.assembler.proofs.prepare.Tie as tie
@@ -10,8 +11,8 @@ read-all-requires c κs = search needs
 enum-known-count : tie.Need-enum-known-count
 enum-known-count c = search needs
 
-intern-requires : tie.Need-intern-requires
-intern-requires c κs = (search reads-short, search reads-long, search reads-ahead)
+declare-requires : tie.Need-declare-requires
+declare-requires c κs = (search reads-short, search reads-long, search reads-ahead, search reads-declared)
 
 enum-known-n : tie.Need-enum-known-n
 enum-known-n c = search needs
@@ -40,7 +41,7 @@ prepare-spec =
     (tie.spec
     read-all-requires
     enum-known-count
-    intern-requires
+    declare-requires
     enum-known-n
     refuse-requires
     same-length

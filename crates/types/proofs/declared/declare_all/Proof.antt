@@ -1,14 +1,17 @@
-use borrow.Author.Needs.{needs}
 use Rattle.walk.proofs.Steps.{visit-less}
-use Rattle.types.proofs.Declares.{Declaring, declaring-begin, declaring-late, declaring-done, declaring-again, has-room}
+use Rattle.types.proofs.Declares.{Declaring, declaring-begin, declaring-found, declaring-done, declaring-again, has-room}
+use borrow.Author.Needs.{needs}
 use Rattle.types.proofs.declared.declare_all.Statement.{statement}
 use Rattle.types.proofs.declared.declare_all.Tie as tie
 
 abbrev Inv-loop : tie.InvT-loop
-Inv-loop s work₀ c₀ late₀ count₀ work c late count = Declaring s work₀ work c late count
+Inv-loop s work₀ total c₀ count₀ work c count = Declaring s work₀ work c count
 
 abbrev μ-loop : tie.MeasureT-loop
-μ-loop s work₀ c₀ late₀ count₀ work c late count = c .left
+μ-loop s work₀ total c₀ count₀ work c count = c .left
+
+word-requires : tie.Need-word-requires Inv-loop μ-loop
+word-requires c κs = search needs
 
 start-requires : tie.Need-start-requires Inv-loop μ-loop
 start-requires c κs = search needs
@@ -22,21 +25,6 @@ visit-requires c κs = search needs
 enum-known-what : tie.Need-enum-known-what Inv-loop μ-loop
 enum-known-what c = search needs
 
-field-standing-requires : tie.Need-field-standing-requires Inv-loop μ-loop
-field-standing-requires c κs = search needs
-
-is-late-requires : tie.Need-is-late-requires Inv-loop μ-loop
-is-late-requires c κs = search needs
-
-same-length : tie.Need-same-length Inv-loop μ-loop
-same-length c = search needs
-
-returns : tie.Need-returns Inv-loop μ-loop
-returns c = search declaring-late
-
-late-after-requires : tie.Need-late-after-requires Inv-loop μ-loop
-late-after-requires c κs = search needs
-
 declare-requires : tie.Need-declare-requires Inv-loop μ-loop
 declare-requires c κs = search (has-room, needs)
 
@@ -49,11 +37,17 @@ loop-again c = search declaring-again
 enum-told : tie.Need-enum-told Inv-loop μ-loop
 enum-told c = search needs
 
+same-length : tie.Need-same-length Inv-loop μ-loop
+same-length c = search needs
+
+returns : tie.Need-returns Inv-loop μ-loop
+returns c = search declaring-done
+
 same-length-2 : tie.Need-same-length-2 Inv-loop μ-loop
 same-length-2 c = search needs
 
 returns-2 : tie.Need-returns-2 Inv-loop μ-loop
-returns-2 c = search declaring-done
+returns-2 c = search (declaring-found, needs)
 
 pub declare-all-spec : {M : Type 1} → statement M
 declare-all-spec =
@@ -61,18 +55,16 @@ declare-all-spec =
     (tie.spec
     Inv-loop
     μ-loop
+    word-requires
     start-requires
     loop-holds
     visit-requires
     enum-known-what
-    field-standing-requires
-    is-late-requires
-    same-length
-    returns
-    late-after-requires
     declare-requires
     loop-less
     loop-again
     enum-told
+    same-length
+    returns
     same-length-2
     returns-2)
