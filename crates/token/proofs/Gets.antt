@@ -183,9 +183,14 @@ module _ (s : Bytes) (at : ℕ) (r : ByteAt) (e : byte s at ≡ byteAt r) where
     unfolding present given
     present-gets g = gets-rest _ (byte s at) g b next (e ∙ ap byteAt d)
 
-    pub optional-gets : Gets (optional s at) → (b ≡ 0 → ⊥) → Gets (given b s next)
+    present-step : present s at ≡ given b s next
+    unfolding present given
+    present-step = rw (e, d)
+
+    -- an optional index that is there is present
+    pub optional-gets : Gets (optional s at) → (b ≡ 0 → ⊥) → Gets (present s at)
     unfolding optional given
-    optional-gets g f = rw (ne-eqb b 0 f) at (gets-rest _ (byte s at) g b next (e ∙ ap byteAt d))
+    optional-gets g f = rw present-step (rw (ne-eqb b 0 f) at (gets-rest _ (byte s at) g b next (e ∙ ap byteAt d)))
 
     module _ (x : Step (Syntax.Index Identifier)) where
       pub present-is : given b s next ≡ x → present s at ≡ x
@@ -196,9 +201,9 @@ module _ (s : Bytes) (at : ℕ) (r : ByteAt) (e : byte s at ≡ byteAt r) where
       unfolding optional
       optional-absent f p = rw (e, d, f) p
 
-      pub optional-is : (b ≡ 0 → ⊥) → given b s next ≡ x → optional s at ≡ x
+      pub optional-is : (b ≡ 0 → ⊥) → present s at ≡ x → optional s at ≡ x
       unfolding optional given
-      optional-is f p = rw (e, d, ne-eqb b 0 f) p
+      optional-is f p = rw (e, d, ne-eqb b 0 f) (sym present-step ∙ p)
 
   module _ (k : ℕ) (d : r ≡ B.Fault k) where
     pub present-refused : present s at ≡ fault k

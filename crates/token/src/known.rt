@@ -90,7 +90,7 @@ pub fn known_optional(s: &[u8], at: usize) -> IndexAt
             if b == 0 {
                 return IndexAt::Got(Index::Absent, next);
             }
-            known_given(s, next, b)
+            known_present(s, at)
         }
         ByteAt::Fault(e) => IndexAt::Fault(e),
     }

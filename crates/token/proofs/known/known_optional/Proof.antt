@@ -12,8 +12,8 @@ enum-known-b c = search needs
 returns : tie.Need-returns
 returns c = search known-indices
 
-known-given-requires : tie.Need-known-given-requires
-known-given-requires c κs = search known-indices
+known-present-requires : tie.Need-known-present-requires
+known-present-requires c κs = search known-indices
 
 enum-known-e : tie.Need-enum-known-e
 enum-known-e c = search needs
@@ -31,7 +31,7 @@ known-optional-spec =
     read-byte-requires
     enum-known-b
     returns
-    known-given-requires
+    known-present-requires
     enum-known-e
     returns-2
     returns-3)
