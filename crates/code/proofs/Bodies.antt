@@ -31,7 +31,7 @@ use Rattle.space.specs.Area.{labels}
 use Rattle.space.specs.Kept.{Kept}
 use Rattle.space.proofs.Kept.{kept-same, kept-then, kept-less}
 use Rattle.signatures.specs.Table.{typesIn}
-use Rattle.walk.specs.Walk.{onBody, bodyFrom}
+use Rattle.walk.specs.Walk.{onBody, bodyFrom, wholeBody}
 use Rattle.scope.specs.Scope.{scopeIn, Recalled, localsIn, FewLocals, labelsIn}
 use Rattle.scope.specs.declared.Locals.{Locals}
 use Rattle.scope.proofs.Frames.{scope-kept, locals-kept, recalled-left, recalled-right, recalled-scope}
@@ -39,7 +39,7 @@ use Rattle.binary.specs.declared.Emitted.the-variants as E
 use Rattle.binary.proofs.Emitting.{wrote, halts}
 use Rattle.entries.proofs.Elements.{after, concat-snoc}
 use Rattle.code.specs.Turns.{recordOf, plainRecord, readUses, Stepped, Ended, Halted, Turned, AnyLocals}
-use Rattle.code.specs.Body.{EmitsBody}
+use Rattle.code.specs.Body.{Resolvable, EmitsBody}
 use Rattle.code.specs.declared.turn.Turn.{Turn}
 use Rattle.code.specs.declared.turn.Turn.the-variants as T
 use Rattle.code.proofs.Turns.{turned-fault}
@@ -51,6 +51,12 @@ body-cons : (s : List ℕ) (k rec here : ℕ) (x : Syntax.Instr Identifier) (nex
     → bodyFrom (4096 - rec) k s here ≡ x ∷ bodyFrom (4096 - (rec + 1)) (openAfter x k) s next
 unfolding bodyFrom
 body-cons s k rec here x next h e = let m : 4096 - rec ≡ suc (4096 - (rec + 1)) = omega arith in rw (m, e)
+
+-- after it a whole body is whole
+whole-cons : (s : List ℕ) (k rec here : ℕ) (x : Syntax.Instr Identifier) (next : ℕ) → rec < 4096 → bodyRec k s here ≡ got (instr x) next
+    → wholeBody (4096 - rec) k s here ≡ true → wholeBody (4096 - (rec + 1)) (openAfter x k) s next ≡ true
+unfolding wholeBody
+whole-cons s k rec here x next h e v = let m : 4096 - rec ≡ suc (4096 - (rec + 1)) = omega arith in rw (m, e) at v
 
 -- the end's byte is no opcode
 end-formless : formOf 0xFF ≡ none
@@ -83,23 +89,23 @@ module _ (s w : List ℕ) (l : Locals) (k rec here : ℕ) (q : ByteAt) (told : b
       formed-reads = rw (told, d, not-end b g (eqb b 0xFF) refl (says ∙ e), says, e)
 
       -- what the instruction needs of the work area
-      formed-uses : rec < 4096 → Recalled w (typesIn s w) (bodyUses rec (bodyFrom (4096 - rec) k s here)) → Recalled w (typesIn s w) (readUses rec (instruction k b g s a))
+      formed-uses : rec < 4096 → Resolvable s w rec k here → Recalled w (typesIn s w) (readUses rec (instruction k b g s a))
       formed-uses h r = go (instruction k b g s a) formed-reads
         where
           go : (m : Step (Syntax.Instr Identifier)) → bodyRec k s here ≡ recordOf m → Recalled w (typesIn s w) (readUses rec m)
           go (got x next) z =
               recalled-left w (typesIn s w) (usedAt rec (instrUses x)) (bodyUses (rec + 1) (bodyFrom (4096 - (rec + 1)) (openAfter x k) s next))
-              (unfold bodyUses in rw (body-cons s k rec here x next h z) at r)
+              (let u = r .recalled in unfold bodyUses in rw (body-cons s k rec here x next h z) at u)
           go (fault n) z = unfold Recalled in tt
 
       formed-turn : (old : List ℕ) (at : ℕ) (r : Turn) (w′ new : List ℕ) → Turned s w (localsIn s w l) k rec (recordOf (instruction k b g s a)) old at r w′ new
           → Turned s w (localsIn s w l) k rec (bodyRec k s here) old at r w′ new
       formed-turn old at r w′ new t = rw formed-reads t
 
-    pub opening-uses : f ≡ F.Opening → rec < 4096 → Recalled w (typesIn s w) (bodyUses rec (bodyFrom (4096 - rec) k s here)) → Recalled w (typesIn s w) (readUses rec (instruction k b opening s a))
+    pub opening-uses : f ≡ F.Opening → rec < 4096 → Resolvable s w rec k here → Recalled w (typesIn s w) (readUses rec (instruction k b opening s a))
     opening-uses e h r = formed-uses opening (ap formIs e) h r
 
-    pub calling-uses : f ≡ F.Calling → rec < 4096 → Recalled w (typesIn s w) (bodyUses rec (bodyFrom (4096 - rec) k s here)) → Recalled w (typesIn s w) (readUses rec (instruction k 0x11 calling s a))
+    pub calling-uses : f ≡ F.Calling → rec < 4096 → Resolvable s w rec k here → Recalled w (typesIn s w) (readUses rec (instruction k 0x11 calling s a))
     unfolding instruction
     calling-uses e h r = formed-uses calling (ap formIs e) h r
 
@@ -157,7 +163,7 @@ pub record Going (s w₀ : List ℕ) (l : Locals) (rec place : ℕ) (old : List 
   pub done : List Op
   pub so-far : Put old at (concatMap Binary.instruction done) o out
   pub same : body (scopeIn s w₀) (localsIn s w₀ l) [] rec (bodyFrom (4096 - rec) 0 s place) ≡ (body (scopeIn s w₀) (localsIn s w₀ l) (labelsIn s w k) r (bodyFrom (4096 - r) k s here) >>= after done)
-  pub recalled : Recalled w (typesIn s w) (bodyUses r (bodyFrom (4096 - r) k s here))
+  pub resolvable : Resolvable s w r k here
   pub few : k ≤ 128
   pub low : r ≤ 4096
   pub kept : Kept 11920 w₀ w
@@ -165,13 +171,13 @@ pub record Going (s w₀ : List ℕ) (l : Locals) (rec place : ℕ) (old : List 
   pub room : length out ≡ length old
 
 pub going-begin : (s w : List ℕ) (l : Locals) (rec place : ℕ) (old : List ℕ) (at : ℕ) → length old * 1 < 2 ^ 63 → rec ≤ 4096
-    → Recalled w (typesIn s w) (bodyUses rec (bodyFrom (4096 - rec) 0 s place)) → Going s w l rec place old at w old at place rec 0
+    → Resolvable s w rec 0 place → Going s w l rec place old at w old at place rec 0
 unfolding concatMap labelsIn labels
 going-begin s w l rec place old at h g r = record {
   done = [];
   so-far = put-none at (omega arith);
   same = all-after (body (scopeIn s w) (localsIn s w l) [] rec (bodyFrom (4096 - rec) 0 s place));
-  recalled = r;
+  resolvable = r;
   few = omega arith;
   low = g;
   kept = kept-same 11920 w;
@@ -219,8 +225,11 @@ module _ {s w₀ : List ℕ} {l : Locals} {rec place : ℕ} {old : List ℕ} {at
           done = v .done ++ (x .op ∷ []);
           so-far = put-is (put-then (v .so-far) (x .put)) (sym (concat-snoc Binary.instruction (v .done) (x .op)));
           same = rw (x .blocks) (v .same ∙ m);
-          recalled = recalled-scope s w w′ (bodyUses (r + 1) (bodyFrom (4096 - (r + 1)) j s next)) n
-              (recalled-right w (typesIn s w) (usedAt r (instrUses (x .read))) (bodyUses (r + 1) (bodyFrom (4096 - (r + 1)) j s next)) (rw c at (v .recalled)));
+          resolvable = record {
+            recalled = recalled-scope s w w′ (bodyUses (r + 1) (bodyFrom (4096 - (r + 1)) j s next)) n
+                (recalled-right w (typesIn s w) (usedAt r (instrUses (x .read))) (bodyUses (r + 1) (bodyFrom (4096 - (r + 1)) j s next)) (rw c at (v .resolvable .recalled)));
+            whole = rw (x .depth) (whole-cons s k r here (x .read) next h (x .reads) (v .resolvable .whole));
+          };
           few = x .few;
           low = omega arith;
           kept = kept-then (v .kept) (x .kept);

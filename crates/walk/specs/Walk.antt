@@ -1,7 +1,7 @@
 -- The fields of a stream as the later passes meet them: total, whatever the stream is. On an accepted stream they are the definition's.
 use Prim.Native.Nat.{ℕ, zero, suc, _+_, _-_, _*_, _≤_}
 use mathlib.Core.Path.{_≡_}
-use mathlib.Core.Bool.{Bool, _||_}
+use mathlib.Core.Bool.{Bool, true, false, _||_}
 use mathlib.Core.List.{List, [], _∷_, _++_, map}
 use mathlib.Core.Option.{Option, none, some}
 use lib.Dec.{leb}
@@ -48,6 +48,11 @@ afterBody zero k r s here = record { at = here; rec = r }
 afterBody (suc left) k r s here =
     onBody (bodyRec k s here) (λ x next. afterBody left (openAfter x k) (r + 1) s next) (λ next. record { at = next; rec = r + 1 })
     (record { at = here; rec = r })
+
+-- does a body read to its end, without a fault?
+unfoldable pub wholeBody : ℕ → ℕ → Bytes → ℕ → Bool
+wholeBody zero k s here = false
+wholeBody (suc left) k s here = onBody (bodyRec k s here) (λ x next. wholeBody left (openAfter x k) s next) (λ next. true) false
 
 -- the body of a field that has one; `r` is the record of its first instruction
 abbrev pub bodyIn : Option ℕ → ℕ → Bytes → ℕ → List (Syntax.Instr Identifier)
