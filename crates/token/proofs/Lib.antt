@@ -3,3 +3,4 @@ pub mod Runs
 pub mod Parts
 pub mod Idchars
 pub mod Skips
+pub mod Gets

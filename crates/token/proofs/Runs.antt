@@ -81,7 +81,7 @@ byte-single = record { one = λ s at b q. go s at b q (ltb at (length s)) refl }
     go s at b q true d e = (ltb-true _ _ d, cc, cc)
     go s at b q false d e = let z : _≡_ {A = ℕ} 0 1 = cc in absurd (omega arith)
 
-class-single : (n : ℕ) (test : ℕ → Bool) → Single (byteOf n test)
+pub class-single : (n : ℕ) (test : ℕ → Bool) → Single (byteOf n test)
 class-single n test = record { one = λ s at b q e. go s at b q e }
   where
     go : (s : Bytes) (at b q : ℕ) → byteOf n test s at ≡ got b q → (at < length s) × (b ≡ getD s at 0) × (q ≡ at + 1)

@@ -31,7 +31,7 @@ pub enum IndexAt {
     Fault(u8),
 }
 
-fn number_index(s: &[u8], at: usize) -> IndexAt
+pub fn number_index(s: &[u8], at: usize) -> IndexAt
     ensures { λ r. ⌜ Token.numberIndex (now (s .entry)) at ≡ indexAt (now (s .entry)) r ⌝ }
 {
     match leb::read_u32(s, at) {

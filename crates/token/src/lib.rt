@@ -1,6 +1,7 @@
 // The smallest parts of a record: bytes, identifiers, strings, data, indices. A reader answers with places of the stream.
 pub mod byte;
 pub mod index;
+pub mod known;
 pub mod text;
 
 pub use byte::ByteAt;
@@ -15,6 +16,12 @@ pub use index::pass_present;
 pub use index::pass_u32;
 pub use index::read_optional;
 pub use index::read_present;
+pub use known::known_identifier;
+pub use known::known_name;
+pub use known::known_optional;
+pub use known::known_present;
+pub use known::known_string;
+pub use known::skip_identifier;
 pub use text::Part;
 pub use text::PartAt;
 pub use text::bytes_of;

@@ -18,7 +18,7 @@ use Rattle.stream.specs.declared.pass.Count.the-variants as C
 use Rattle.stream.proofs.Model.{passed-says}
 use Rattle.walk.specs.Walk.{begin, endsFrom, Ahead}
 use Rattle.walk.specs.declared.Cursor.{Cursor}
-use Rattle.walk.proofs.Join.{ends-in, ends-few}
+use Rattle.walk.proofs.Join.{ends-in, ends-few, sound-in}
 
 -- ## Words of the area
 
@@ -74,6 +74,7 @@ ahead-begin s w rs e h =
         is = ap (λ z. drop 8 (take 520 z)) (area-is s w rs e) ∙ words-are s w h (endsFrom 4096 begin s) (countWords (passed s .seen)) (ends-few s rs e) (seven-counts s);
       };
       few = omega arith;
+      sound = sound-in s rs e;
     }
 
 -- ## What a caller of the reading pass has

@@ -30,10 +30,11 @@ use Rattle.stream.specs.Pass.{Passed, pass}
 use Rattle.stream.specs.Counting.{oneMore}
 use Rattle.stream.proofs.Model.{pass-end, pass-got}
 use Rattle.stream.proofs.Counts.{Holds, Counts, holds-more, counts-none, room-same}
-use Rattle.walk.specs.Walk.{bodyFrom, afterBody, bodyIn, afterField, bodies, counting, seenWith, begin, cursorAfter, Visited, visitAt, fieldsHere, fieldsFrom, fieldsAhead, fieldsIn, endOf, endHere, endsFrom}
+use Rattle.walk.specs.Walk.{bodyFrom, afterBody, wholeBody, bodyIn, afterField, bodies, counting, seenWith, begin, cursorAfter, wholeField, sound, Visited, visitAt, fieldsHere, fieldsFrom, fieldsAhead, fieldsIn, endOf, endHere, endsFrom}
 use Rattle.walk.specs.declared.Cursor.{Cursor}
 use Rattle.walk.specs.declared.Stop.{Stop}
 use Rattle.walk.proofs.Gives.{Roomy, RoomyField, roomy}
+use Rattle.walk.proofs.Steps.{sound-met}
 
 -- ## Records of a stream that is accepted
 
@@ -86,6 +87,7 @@ record After (left k r : ℕ) (seen : Read.Seen) (s : Bytes) (here : ℕ) (rs : 
   started : seen′ .started ≡ seen .started
   sum : later + stop .rec ≡ left + r
   fewer : later < left
+  whole : wholeBody left k s here ≡ true
   body : bodyFrom left k s here ≡ bodyOf rs
   fields : (seen : List Space) → deinlineFrom r seen rs ≡ deinlineFrom (stop .rec) seen rest
   passes : (used : Bool) (ends : List ℕ)
@@ -106,7 +108,7 @@ body-record k seen s here x next b e = ap (λ z. recordIn (room seen) z s here) 
 
 body-after : (left k r : ℕ) (seen : Read.Seen) (s : Bytes) (here : ℕ) (rs : List (Rec Identifier)) → seen .body ≡ some k
     → records left r seen s here ≡ ok rs → After left k r seen s here rs
-unfolding bodyFrom afterBody bodyOf deinlineFrom seenAfter bodyAfter itemsAfter startedAfter anyUse
+unfolding bodyFrom afterBody wholeBody bodyOf deinlineFrom seenAfter bodyAfter itemsAfter startedAfter anyUse
 body-after zero k r seen s here rs b e = go (decLe (length s) here)
   where
     go : Dec (length s ≤ here) → After zero k r seen s here rs
@@ -137,6 +139,7 @@ body-after (suc n) k r seen s here rs b e = go (decLe (length s) here) (λ k′ 
           started = v .started;
           sum = omega (arith, v .sum);
           fewer = omega (arith, v .fewer);
+          whole = rw d (v .whole);
           body = rw (d, i) (ap (λ z. x ∷ z) (v .body));
           fields = λ seen. rw i (v .fields seen);
           passes = λ used ends.
@@ -158,6 +161,7 @@ body-after (suc n) k r seen s here rs b e = go (decLe (length s) here) (λ k′ 
           started = refl;
           sum = omega arith;
           fewer = omega arith;
+          whole = rw d;
           body = rw (d, i);
           fields = λ seen. rw i;
           passes = λ used ends. pass-got r seen used ends s here (suc n) bodyEnd next h (omega arith) e ∙ rw (m, d, ← or-none used);
@@ -283,6 +287,7 @@ record Onward (c : Cursor) (f : FieldRec Identifier) (s : Bytes) (next n : ℕ) 
   rest′ : List (Rec Identifier)
   stands : Stands (cursorAfter c f s next) s later seen′ rest′
   fewer : later ≤ n
+  whole : wholeField (fieldBody f) (c .rec + 1) s next ≡ true
   body : bodyIn (fieldBody f) (c .rec + 1) s next ≡ bodyOf rest
   fields : deinlineFrom (c .rec + 1) (brings f ++ seen .items) rest ≡ deinlineFrom (cursorAfter c f s next .rec) (seen′ .items) rest′
   passes : (es : List ℕ) → pass n (c .rec + 1) (seenAfter seen (field f)) false es s next
@@ -307,6 +312,7 @@ module _ (c : Cursor) (f : FieldRec Identifier) (s : Bytes) (next n : ℕ) (seen
           funcs = k .few;
         };
         fewer = omega arith;
+        whole = ap (λ z. wholeField z (c .rec + 1) s next) b;
         body = ap (λ z. bodyIn z (c .rec + 1) s next) b ∙ sym (no-body n (c .rec + 1) (seenAfter seen (field f)) s next rest b g);
         fields = sym (ap (λ (z : Stop). deinlineFrom (z .rec) (brings f ++ seen .items) rest) q);
         passes = λ es.
@@ -336,6 +342,7 @@ module _ (c : Cursor) (f : FieldRec Identifier) (s : Bytes) (next n : ℕ) (seen
           funcs = rw i (k .few);
         };
         fewer = omega (arith, a .fewer);
+        whole = ap (λ z. wholeField z (c .rec + 1) s next) b ∙ ap (λ z. wholeBody z j s next) m ∙ a .whole;
         body = ap (λ z. bodyIn z (c .rec + 1) s next) b ∙ ap (λ z. bodyFrom z j s next) m ∙ a .body;
         fields =
             a .fields (brings f ++ seen .items)
@@ -360,11 +367,12 @@ module _ (c : Cursor) (f : FieldRec Identifier) (s : Bytes) (next n : ℕ) (seen
       go none b = onward-none b
       go (some j) b = onward-some j b (in-body j b)
 
--- the fields and the ends from a cursor on, and how many ends there are
+-- the fields and the ends from a cursor on, and how many ends there are; nothing is a fault
 record Joined (fuel : ℕ) (c : Cursor) (s : Bytes) (left : ℕ) (seen : Read.Seen) (rs : List (Rec Identifier)) : Type 0 where
   fields : fieldsFrom fuel c s ≡ deinlineFrom (c .rec) (seen .items) rs
   ends : (es : List ℕ) → pass left (c .rec) seen false es s (c .at) .ends ≡ es ++ endsFrom fuel c s
   few : length (endsFrom fuel c s) + 2 * count funcs (seen .items) ≤ 512
+  sound : sound fuel c s ≡ true
 
 -- at the stream's end nothing is visited
 visit-nothing : (c : Cursor) (s : Bytes) → length s ≤ c .at → visitAt c s ≡ none
@@ -372,6 +380,16 @@ unfolding visitAt
 visit-nothing c s h = rw (le-leb _ _ h) (go (leb 4096 (c .rec)))
   where
     go : (t : Bool) → _≡_ {A = Option Visited} (if t then none else none) none
+    go true = refl
+    go false = refl
+
+-- nor is anything a fault
+sound-nothing : (c : Cursor) (s : Bytes) (n : ℕ) → length s ≤ c .at → sound n c s ≡ true
+unfolding sound
+sound-nothing c s zero h = refl
+sound-nothing c s (suc n) h = rw (le-leb _ _ h) (go (leb 4096 (c .rec)))
+  where
+    go : (t : Bool) → (if t then true else true) ≡ true
     go true = refl
     go false = refl
 
@@ -400,10 +418,10 @@ joined-end fuel c s left seen rs h v = go fuel
     ends-same es = ap (λ (z : Passed). z .ends) (pass-end (c .rec) seen false es s (c .at) left h)
 
     go : (fuel : ℕ) → Joined fuel c s left seen rs
-    go zero = record { fields = rw none-left; ends = λ es. ends-same es ∙ sym (append-nil es); few = omega (arith, v .funcs) }
+    go zero = record { fields = rw none-left; ends = λ es. ends-same es ∙ sym (append-nil es); few = omega (arith, v .funcs); sound = sound-nothing c s zero h }
     go (suc m) =
         let d = visit-nothing c s h in
-        record { fields = rw (d, none-left); ends = λ es. ends-same es ∙ rw d (sym (append-nil es)); few = rw d (omega (arith, v .funcs)) }
+        record { fields = rw (d, none-left); ends = λ es. ends-same es ∙ rw d (sym (append-nil es)); few = rw d (omega (arith, v .funcs)); sound = sound-nothing c s (suc m) h }
 
 -- one field is read, and the rest is joined
 joined-field : (m : ℕ) (c : Cursor) (s : Bytes) (n : ℕ) (seen : Read.Seen) (rs rest : List (Rec Identifier)) (f : FieldRec Identifier) (next : ℕ)
@@ -430,6 +448,7 @@ joined-field m c s n seen rs rest f next v k d p i o j =
           ∙ append-assoc es x (endsFrom m (cursorAfter c f s next) s)
           ∙ rw d;
       few = rw d (omega (arith, l, e, j .few, o .more));
+      sound = sound-met s c _ d m ∙ rw (o .whole) (j .sound);
     }
 
 joined : (fuel : ℕ) (c : Cursor) (s : Bytes) (left : ℕ) (seen : Read.Seen) (rs : List (Rec Identifier)) → left ≤ fuel → Stands c s left seen rs
@@ -489,3 +508,7 @@ ends-in s rs e = joined-begin s rs e .ends []
 
 pub ends-few : (s : Bytes) (rs : List (Rec Identifier)) → read s ≡ ok rs → length (endsFrom 4096 begin s) ≤ 512
 ends-few s rs e = omega (arith, joined-begin s rs e .few)
+
+-- nothing in it is a fault
+pub sound-in : (s : Bytes) (rs : List (Rec Identifier)) → read s ≡ ok rs → sound 4096 begin s ≡ true
+sound-in s rs e = joined-begin s rs e .sound

@@ -1,13 +1,13 @@
 -- What a visit tells a caller. `told` is the visit's promise, and `is` is what a match on the answer gives.
 use mathlib.Core.Path.{_≡_, refl, ap, sym, _∙_}
 use Prim.Native.Nat.{ℕ, zero, suc, _+_, _-_, _*_, _≤_, _<_}
-use mathlib.Core.Bool.{Bool, true, false, not, _||_}
+use mathlib.Core.Bool.{Bool, true, false, not, _&&_, _||_, false≢true}
 use mathlib.Core.List.{List, [], _∷_, _++_}
 use mathlib.Core.Option.{Option, none, some}
 use lib.Dec.{leb}
 use lib.ListN.{length, take, drop}
 use lib.Seq.{drop-drop}
-use borrow.Author.Tests.{leb-false}
+use borrow.Author.Tests.{leb-false, lt-leb}
 use native.Mathlib.Omega.{arith}
 use Rattle.definition.specs.Basic.{if_then_else_}
 use Rattle.definition.specs.Syntax.{Bytes, Identifier, FieldRec, Instr, opens, elses, ends, indirect, plain}
@@ -30,7 +30,7 @@ use Rattle.fields.specs.declared.field.Field.{Field}
 use Rattle.fields.specs.declared.field.Field.the-variants as F
 use Rattle.stream.specs.Uses.{mayUse, anyUse, endWord}
 use Rattle.space.specs.Kept.{Kept}
-use Rattle.walk.specs.Walk.{onVisit, bodyIn, bodies, cursorAfter, Visited, visitStep, visitAt, visitIn, visitOf, metOf, fieldsHere, fieldsFrom, fieldsAhead, endOf, endHere, endsFrom, Ahead, usesIn}
+use Rattle.walk.specs.Walk.{onVisit, bodyIn, bodies, cursorAfter, wholeField, onField, sound, Visited, visitStep, visitAt, visitIn, visitOf, metOf, fieldsHere, fieldsFrom, fieldsAhead, endOf, endHere, endsFrom, Ahead, usesIn}
 use Rattle.walk.specs.declared.Cursor.{Cursor}
 use Rattle.walk.specs.declared.Met.{Met}
 use Rattle.walk.specs.declared.What.{What}
@@ -72,6 +72,41 @@ some-visit s c v e = go (c .left) e
     go : (left : ℕ) → visitIn left c s ≡ some v → (1 ≤ left) × (visitAt c s ≡ some v)
     go zero e = let z : _≡_ {A = ℕ} 0 1 = cc in absurd (omega arith)
     go (suc n) e = (omega arith, e)
+
+-- ## Nothing ahead is a fault
+
+and-true : (t u : Bool) → (t && u) ≡ true → (t ≡ true) × (u ≡ true)
+and-true true u e = (refl, e)
+and-true false u e = (e, absurd (false≢true e))
+
+-- where a field was met: its body, and what is ahead of the next cursor
+pub sound-met : (s : Bytes) (c : Cursor) (v : Visited) → visitAt c s ≡ some v → (n : ℕ)
+    → sound (suc n) c s ≡ (wholeField (fieldBody (v .field)) (c .rec + 1) s (v .head-end) && sound n (v .next) s)
+unfolding sound
+sound-met s c v e n =
+    let g = visited s c v e in
+    let d = g .reads in
+    let k = g .goes-on in
+    rw (lt-leb _ _ (g .few), lt-leb _ _ (g .inside), d, k)
+
+-- a step that reads
+pub record Gets {A : Type 0} (m : Step A) : Type 0 where
+  pub value : A
+  pub next : ℕ
+  pub is : m ≡ got value next
+
+-- a field is read at the cursor
+pub visit-sound : (s w : List ℕ) (c : Cursor) → Ahead s w c → 1 ≤ c .left → c .rec < 4096 → c .at < length s → Gets (fieldRec (roomOf (c .seen)) s (c .at))
+unfolding sound
+visit-sound s w c v l few inside = go (c .left) l (v .sound)
+  where
+    next : (b : Step (FieldRec Identifier)) → fieldRec (roomOf (c .seen)) s (c .at) ≡ b → (more : FieldRec Identifier → ℕ → Bool) → onField b more false ≡ true → Gets (fieldRec (roomOf (c .seen)) s (c .at))
+    next (got f here) e more d = record { value = f; next = here; is = e }
+    next (fault n) e more d = absurd (false≢true d)
+
+    go : (left : ℕ) → 1 ≤ left → sound left c s ≡ true → Gets (fieldRec (roomOf (c .seen)) s (c .at))
+    go zero h e = absurd (omega arith)
+    go (suc n) h e = next (fieldRec (roomOf (c .seen)) s (c .at)) refl _ (rw (lt-leb _ _ few, lt-leb _ _ inside) at e)
 
 -- ## Bodies that use no type
 
@@ -187,6 +222,22 @@ module _ (s : Bytes) (c : Cursor) (r : Met) (told : visitIn (c .left) c s ≡ vi
             (v .ends .is ∙ ap (λ z. z ++ v .ends .rest) g) in
             unused body (c .rec + 1) (unmarked (r .next .rec) (anyUse body) (ap (leb 8192) (sym (x .1)) ∙ e))
 
+    -- its body, and what is ahead of the next cursor
+    sound-parts : (w : List ℕ) → Ahead s w c → (wholeField (fieldBody (fieldOf s f)) (c .rec + 1) s here ≡ true) × (sound (r .next .left) (r .next) s ≡ true)
+    sound-parts w v = go (c .left) refl (at-met .0) (v .sound)
+      where
+        go : (left : ℕ) → c .left ≡ left → 1 ≤ left → sound left c s ≡ true
+            → (wholeField (fieldBody (fieldOf s f)) (c .rec + 1) s here ≡ true) × (sound (r .next .left) (r .next) s ≡ true)
+        go zero l h e = absurd (omega arith)
+        go (suc n) l h e =
+            let m : r .next .left ≡ n = omega (arith, left-less) in
+            let a = and-true _ (sound n (r .next) s) (sym (sound-met s c _ (at-met .1) n) ∙ e) in
+            (a .0, ap (λ k. sound k (r .next) s) m ∙ a .1)
+
+    -- the body of a field that has one reads to its end
+    pub visit-whole : (w : List ℕ) → Ahead s w c → wholeField (fieldBody (fieldOf s f)) (c .rec + 1) s here ≡ true
+    visit-whole w v = sound-parts w v .0
+
     own-is : r .next .own ≡ c .own + bodies (fieldBody (fieldOf s f))
     unfolding cursorAfter
     own-is = ap (λ (z : Cursor). z .own) (goes .goes-on)
@@ -202,6 +253,7 @@ module _ (s : Bytes) (c : Cursor) (r : Met) (told : visitIn (c .left) c s ≡ vi
             record {
               ends = record { rest = v .ends .rest; is = ap (λ n. drop n (take 520 w)) same ∙ v .ends .is ∙ ap (λ z. z ++ v .ends .rest) e };
               few = omega (arith, o, left-less, at-met .0, v .few);
+              sound = sound-parts w v .1;
             }
         go (some k) e o =
             let two : 8 + 2 * r .next .own ≡ 8 + 2 * c .own + 2 = omega arith in
@@ -211,10 +263,11 @@ module _ (s : Bytes) (c : Cursor) (r : Met) (told : visitIn (c .left) c s ≡ vi
                 is = ap (λ n. drop n (take 520 w)) two ∙ sym (drop-drop 2 (8 + 2 * c .own) (take 520 w)) ∙ ap (drop 2) (v .ends .is ∙ ap (λ z. z ++ v .ends .rest) e);
               };
               few = omega (arith, o, left-less, at-met .0, v .few);
+              sound = sound-parts w v .1;
             }
 
 -- ## The work area
 
 -- what is written beyond the ends of bodies leaves them
 pub ahead-kept : (s : Bytes) (w w′ : List ℕ) (c : Cursor) → Kept 520 w w′ → Ahead s w c → Ahead s w′ c
-ahead-kept s w w′ c k v = let e = k .low in record { ends = record { rest = v .ends .rest; is = rw e (v .ends .is) }; few = v .few }
+ahead-kept s w w′ c k v = let e = k .low in record { ends = record { rest = v .ends .rest; is = rw e (v .ends .is) }; few = v .few; sound = v .sound }

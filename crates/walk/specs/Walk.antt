@@ -1,7 +1,7 @@
 -- The fields of a stream as the later passes meet them: total, whatever the stream is. On an accepted stream they are the definition's.
 use Prim.Native.Nat.{ℕ, zero, suc, _+_, _-_, _*_, _≤_}
 use mathlib.Core.Path.{_≡_}
-use mathlib.Core.Bool.{Bool, true, false, _||_}
+use mathlib.Core.Bool.{Bool, true, false, _&&_, _||_}
 use mathlib.Core.List.{List, [], _∷_, _++_, map}
 use mathlib.Core.Option.{Option, none, some}
 use lib.Dec.{leb}
@@ -91,6 +91,25 @@ cursorAfter c f s here =
       seen = seenWith (c .seen) f;
     }
 
+-- does the body of a field that has one read to its end? `r` is the record of its first instruction
+abbrev pub wholeField : Option ℕ → ℕ → Bytes → ℕ → Bool
+wholeField none r s here = true
+wholeField (some k) r s here = wholeBody (4096 - r) k s here
+
+-- a field that was read, or none
+abbrev pub onField : {B : Type 0} → Step (FieldRec Identifier) → (FieldRec Identifier → ℕ → B) → B → B
+onField (got f here) more z = more f here
+onField (fault n) more z = z
+
+-- from a cursor on, `left` records of fields at most: is nothing a fault, in fields or in their bodies?
+unfoldable pub sound : ℕ → Cursor → Bytes → Bool
+sound zero c s = true
+sound (suc left) c s =
+    if leb 4096 (c .rec) then true else
+    if leb (length s) (c .at) then true else
+    onField (fieldRec (roomOf (c .seen)) s (c .at))
+    (λ f here. wholeField (fieldBody f) (c .rec + 1) s here && sound left (cursorAfter c f s here) s) false
+
 -- a field, the place after its head, and where the walk goes on
 pub record Visited : Type 0 where
   pub field : FieldRec Identifier
@@ -161,10 +180,11 @@ pub record Begins (xs ys : List ℕ) : Type 0 where
   pub rest : List ℕ
   pub is : ys ≡ xs ++ rest
 
--- the words 8 to 519 of the work area hold the ends that are still ahead
+-- the words 8 to 519 of the work area hold the ends that are still ahead, and nothing ahead is a fault
 pub record Ahead (s : Bytes) (w : List ℕ) (c : Cursor) : Type 0 where
   pub ends : Begins (endsFrom (c .left) c s) (drop (8 + 2 * c .own) (take 520 w))
   pub few : c .own + c .left ≤ 4096
+  pub sound : sound (c .left) c s ≡ true
 
 -- the record in the second word of an end
 unfoldable pub endRecord : ℕ → ℕ

@@ -1,0 +1,212 @@
+-- What is known to be readable: the parts of a reader that gets something, and where the bytes of a name or a string end.
+use mathlib.Core.Path.{_≡_, refl, ap, sym, _∙_}
+use mathlib.Core.Bool.{Bool, true, false}
+use mathlib.Core.Option.{none, some}
+use Prim.Native.Nat.{ℕ, zero, suc, _+_, _*_, _^_, _≤_, _<_}
+use native.Mathlib.Omega.{arith}
+use lib.ListN.{length}
+use lib.Dec.{eqb, leb}
+use mir.Syntax.{w64}
+use mir.Val.{Fits}
+use borrow.Author.Tests.{ne-eqb}
+use Rattle.definition.specs.Basic.{if_then_else_}
+use Rattle.definition.specs.Syntax as Syntax
+use Rattle.definition.specs.Syntax.{Bytes, Identifier, absent}
+use Rattle.definition.specs.Reader.{Step, got, fault, Reader, onward, require, byte, many}
+use Rattle.definition.specs.Token.{u32, upTo, idByte, identifier, identifier₁, stringByte, string, numberIndex, namedIndex, present, optional}
+use Rattle.laws.specs.Steps.{stops}
+use Rattle.laws.proofs.Backwards.{came, passed}
+use Rattle.laws.proofs.Groups.{u32-within}
+use Rattle.leb.specs.Views.{u32At}
+use Rattle.leb.specs.declared.read.U32.{U32}
+use Rattle.leb.specs.declared.read.U32.the-variants as U32
+use Rattle.token.specs.Views.{byteAt, part, given}
+use Rattle.token.specs.Known.{Gets}
+use Rattle.token.specs.declared.byte.ByteAt.{ByteAt}
+use Rattle.token.specs.declared.byte.ByteAt.the-variants as B
+use Rattle.token.proofs.Runs.{Single, id-single, string-single, many-part}
+
+-- ## One reader after another
+
+module _ {A B : Type 0} (k : A → ℕ → Step B) (m : Step A) (g : Gets (onward k m)) where
+  -- the first of them gets something
+  pub gets-first : Gets m
+  gets-first = let c = came m (g .is) in record { value = c .value; next = c .next; is = c .first }
+
+  -- and so does the rest, after what the first gives
+  pub gets-rest : (a : A) (n : ℕ) → m ≡ got a n → Gets (k a n)
+  gets-rest a n e = record { value = g .value; next = g .next; is = rw e at (g .is) }
+
+-- a test that was required has passed, and the rest gets something
+module _ {B : Type 0} (k : Unit {0} → ℕ → Step B) (n : ℕ) (t : Bool) (s : Bytes) (here : ℕ) (g : Gets (onward k (require n t s here))) where
+  pub gets-passed : t ≡ true
+  gets-passed = passed k n t s here (g .is) .0
+
+  pub gets-after : Gets (k tt here)
+  gets-after = record { value = g .value; next = g .next; is = passed k n t s here (g .is) .1 }
+
+-- ## A length, and so many bytes of a class
+
+-- a length that is known to be allowed is the number that is read, and the rest gets something after it
+module _ {B : Type 0} (k : ℕ → ℕ → Step B) (refusal ceiling : ℕ) (s : Bytes) (at n next : ℕ) (g : Gets (onward k (upTo refusal ceiling s at))) (e : u32 s at ≡ got n next) where
+  pub length-is : upTo refusal ceiling s at ≡ got n next
+  unfolding upTo
+  length-is =
+      let u : Gets (upTo refusal ceiling s at) = gets-first k (upTo refusal ceiling s at) g in
+      let t : leb n ceiling ≡ true = gets-passed _ refusal (leb n ceiling) s next (gets-rest _ (u32 s at) u n next e) in
+      rw (e, t)
+
+  pub length-then : Gets (k n next)
+  length-then = gets-rest k (upTo refusal ceiling s at) g n next length-is
+
+-- a run ends so many bytes on, within the stream
+run-ends : (p : Reader ℕ) → Single p → (n : ℕ) (s : Bytes) (at : ℕ) (xs : Bytes) (q : ℕ) → at ≤ length s → many n p s at ≡ got xs q → (q ≡ at + n) × (q ≤ length s)
+unfolding many
+run-ends p i zero s at xs q h e = let z : at ≡ q = cc in (omega arith, omega arith)
+run-ends p i (suc n) s at xs q h e =
+    let c = came (p s at) e in
+    let b = i .one s at (c .value) (c .next) (c .first) in
+    let d = came (many n p s (c .next)) (c .rest) in
+    let z : d .next ≡ q = cc (d .rest) in
+    let r = run-ends p i n s (c .next) (d .value) (d .next) (omega (arith, b .0, b .2)) (d .first) in
+    (omega (arith, r .0, b .2), omega (arith, r .1))
+
+module _ (p : Reader ℕ) (i : Single p) (n : ℕ) (s : Bytes) (at : ℕ) (h : at ≤ length s) (g : Gets (many n p s at)) where
+  -- its bytes are the part of the stream that starts here
+  pub run-known : many n p s at ≡ got (part s at n) (at + n)
+  run-known =
+      let e = run-ends p i n s at (g .value) (g .next) h (g .is) .0 in
+      many-part p i n s at (at + n) (ap stops (g .is) ∙ ap (got tt) e)
+
+  pub run-fits : length s * 1 < 2 ^ 63 → Fits w64 (at + n)
+  run-fits f = let r = run-ends p i n s at (g .value) (g .next) h (g .is) in record { fits = omega (arith, r .0, r .1) }
+
+-- ## Identifiers and strings
+
+module _ (s : Bytes) (at : ℕ) (r : U32) (e : u32 s at ≡ u32At r) where
+  module _ (n next : ℕ) (d : r ≡ U32.Got n next) where
+    read : u32 s at ≡ got n next
+    read = e ∙ ap u32At d
+
+    inside : next ≤ length s
+    inside = u32-within s at read .inside
+
+    module _ (g : Gets (identifier s at)) where
+      id-run : Gets (many n idByte s next)
+      unfolding identifier
+      id-run = gets-first _ (many n idByte s next) (length-then _ 5 64 s at n next g read)
+
+      pub id-known : identifier s at ≡ got (if eqb n 0 then none else some (part s next n)) (next + n)
+      unfolding identifier
+      id-known = rw (length-is _ 5 64 s at n next g read, run-known idByte id-single n s next inside id-run)
+
+      pub id-skipped : stops (identifier s at) ≡ got tt (next + n)
+      id-skipped = ap stops id-known
+
+      pub id-fits : length s * 1 < 2 ^ 63 → Fits w64 (next + n)
+      id-fits h = run-fits idByte id-single n s next inside id-run h
+
+    module _ (g : Gets (identifier₁ s at)) where
+      name-test : Gets (onward (λ _ q. many n idByte s q) (require 5 (leb 1 n) s next))
+      unfolding identifier₁
+      name-test = length-then _ 5 64 s at n next g read
+
+      name-run : Gets (many n idByte s next)
+      name-run = gets-after _ 5 (leb 1 n) s next name-test
+
+      pub name-known : identifier₁ s at ≡ got (part s next n) (next + n)
+      unfolding identifier₁
+      name-known = rw (length-is _ 5 64 s at n next g read, gets-passed _ 5 (leb 1 n) s next name-test, run-known idByte id-single n s next inside name-run)
+
+      pub name-fits : length s * 1 < 2 ^ 63 → Fits w64 (next + n)
+      name-fits h = run-fits idByte id-single n s next inside name-run h
+
+    module _ (g : Gets (string s at)) where
+      string-run : Gets (many n stringByte s next)
+      unfolding string
+      string-run = length-then _ 6 255 s at n next g read
+
+      pub string-known : string s at ≡ got (part s next n) (next + n)
+      unfolding string
+      string-known = rw (length-is _ 6 255 s at n next g read, run-known stringByte string-single n s next inside string-run)
+
+      pub string-fits : length s * 1 < 2 ^ 63 → Fits w64 (next + n)
+      string-fits h = run-fits stringByte string-single n s next inside string-run h
+
+  -- a length that is refused
+  module _ (k : ℕ) (d : r ≡ U32.Fault k) where
+    pub id-refused : identifier s at ≡ fault k
+    unfolding identifier upTo
+    id-refused = rw (e, d)
+
+    pub id-stopped : stops (identifier s at) ≡ fault k
+    id-stopped = ap stops id-refused
+
+    pub name-refused : identifier₁ s at ≡ fault k
+    unfolding identifier₁ upTo
+    name-refused = rw (e, d)
+
+    pub string-refused : string s at ≡ fault k
+    unfolding string upTo
+    string-refused = rw (e, d)
+
+pub ruleset known-names = (id-known, id-skipped, id-fits, id-refused, id-stopped, name-known, name-fits, name-refused, string-known, string-fits, string-refused)
+
+-- ## Indices
+
+module _ (b : ℕ) (s : Bytes) (at : ℕ) where
+  -- given as a number
+  pub given-number-is : (x : Step (Syntax.Index Identifier)) → b ≡ 1 → numberIndex s at ≡ x → given b s at ≡ x
+  unfolding given
+  given-number-is x d p = rw d p
+
+  -- what is known to be given, and not as a number, is given as a name
+  module _ (g : Gets (given b s at)) (f : b ≡ 1 → ⊥) where
+    by-name : given b s at ≡ namedIndex s at
+    unfolding given
+    by-name = rw (ne-eqb b 1 f) (go (eqb b 2) (rw (ne-eqb b 1 f) at (g .is)))
+      where
+        go : (t : Bool) → (if t then namedIndex else (λ _ _. fault 4)) s at ≡ got (g .value) (g .next) → (if t then namedIndex else (λ _ _. fault 4)) s at ≡ namedIndex s at
+        go true e = refl
+        go false e = let z : _≡_ {A = ℕ} 0 1 = cc in absurd (omega arith)
+
+    pub given-gets : Gets (identifier₁ s at)
+    unfolding namedIndex
+    given-gets = gets-first _ (identifier₁ s at) (record { value = g .value; next = g .next; is = sym by-name ∙ g .is })
+
+    pub given-name-is : (x : Step (Syntax.Index Identifier)) → namedIndex s at ≡ x → given b s at ≡ x
+    given-name-is x p = by-name ∙ p
+
+module _ (s : Bytes) (at : ℕ) (r : ByteAt) (e : byte s at ≡ byteAt r) where
+  module _ (b next : ℕ) (d : r ≡ B.Got b next) where
+    pub present-gets : Gets (present s at) → Gets (given b s next)
+    unfolding present given
+    present-gets g = gets-rest _ (byte s at) g b next (e ∙ ap byteAt d)
+
+    pub optional-gets : Gets (optional s at) → (b ≡ 0 → ⊥) → Gets (given b s next)
+    unfolding optional given
+    optional-gets g f = rw (ne-eqb b 0 f) at (gets-rest _ (byte s at) g b next (e ∙ ap byteAt d))
+
+    module _ (x : Step (Syntax.Index Identifier)) where
+      pub present-is : given b s next ≡ x → present s at ≡ x
+      unfolding present given
+      present-is p = rw (e, d) p
+
+      pub optional-absent : b ≡ 0 → got absent next ≡ x → optional s at ≡ x
+      unfolding optional
+      optional-absent f p = rw (e, d, f) p
+
+      pub optional-is : (b ≡ 0 → ⊥) → given b s next ≡ x → optional s at ≡ x
+      unfolding optional given
+      optional-is f p = rw (e, d, ne-eqb b 0 f) p
+
+  module _ (k : ℕ) (d : r ≡ B.Fault k) where
+    pub present-refused : present s at ≡ fault k
+    unfolding present
+    present-refused = rw (e, d)
+
+    pub optional-refused : optional s at ≡ fault k
+    unfolding optional
+    optional-refused = rw (e, d)
+
+pub ruleset known-indices = (refl, given-number-is, given-gets, given-name-is, present-gets, present-is, present-refused, optional-gets, optional-absent, optional-is, optional-refused)

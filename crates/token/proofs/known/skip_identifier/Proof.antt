@@ -1,0 +1,30 @@
+use Rattle.token.proofs.Gets.{known-names}
+use borrow.Author.Needs.{needs}
+use Rattle.token.proofs.known.skip_identifier.Statement.{statement}
+use Rattle.token.proofs.known.skip_identifier.Tie as tie
+
+read-u32-requires : tie.Need-read-u32-requires
+read-u32-requires c κs = search needs
+
+enum-known-len : tie.Need-enum-known-len
+enum-known-len c = search needs
+
+cast-t8 : tie.Need-cast-t8
+cast-t8 c = search needs
+
+add-t9 : tie.Need-add-t9
+add-t9 c = search known-names
+
+enum-known-e : tie.Need-enum-known-e
+enum-known-e c = search needs
+
+returns : tie.Need-returns
+returns c = search known-names
+
+returns-2 : tie.Need-returns-2
+returns-2 c = search known-names
+
+pub skip-identifier-spec : {M : Type 1} → statement M
+skip-identifier-spec =
+    tie.close
+    (tie.spec read-u32-requires enum-known-len cast-t8 add-t9 enum-known-e returns returns-2)
