@@ -17,6 +17,7 @@ use Rattle.definition.specs.Types as Types
 use Rattle.definition.specs.Types.{isShort, instrUses, usedAt, bodyUses}
 use Rattle.definition.specs.Read.{fieldBody}
 use Rattle.definition.specs.Token.{string, param}
+use Rattle.token.specs.Known.{Gets}
 use Rattle.token.specs.Views.{idOf}
 use Rattle.token.specs.declared.text.Part.{Part}
 use Rattle.typeuse.specs.Views.{listOf, useOf}
@@ -88,12 +89,6 @@ sound-met s c v e n =
     let d = g .reads in
     let k = g .goes-on in
     rw (lt-leb _ _ (g .few), lt-leb _ _ (g .inside), d, k)
-
--- a step that reads
-pub record Gets {A : Type 0} (m : Step A) : Type 0 where
-  pub value : A
-  pub next : ℕ
-  pub is : m ≡ got value next
 
 -- a field is read at the cursor
 pub visit-sound : (s w : List ℕ) (c : Cursor) → Ahead s w c → 1 ≤ c .left → c .rec < 4096 → c .at < length s → Gets (fieldRec (roomOf (c .seen)) s (c .at))
