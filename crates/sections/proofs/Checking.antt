@@ -121,7 +121,7 @@ module _ {a : Answer Entries} {t : Tally} {w : List ℕ} {old : Bytes} {r : Chec
 -- ## Ready after what was written
 
 pub ready-kept : (s w w′ : List ℕ) (r : ℕ) (e : Entry) → Kept 11536 w w′ → Ready s w r e → Ready s w′ r e
-ready-kept s w w′ r e k h = record { recalled = recalled-scope s w w′ (usesOf s r e) (kept-less 11280 11536 (omega arith) k) (h .recalled); few = h .few }
+ready-kept s w w′ r e k h = record { recalled = recalled-scope s w w′ (usesOf s r e) (kept-less 11280 11536 (omega arith) k) (h .recalled); whole = h .whole; few = h .few }
 
 -- ## An entry
 

@@ -24,7 +24,7 @@ use Rattle.walk.specs.Walk.{begin, visitIn, visitOf, fieldsHere, fieldsAhead, f
 use Rattle.walk.specs.declared.Cursor.{Cursor}
 use Rattle.walk.specs.declared.Met.{Met}
 use Rattle.walk.specs.declared.What.the-variants as W
-use Rattle.walk.proofs.Steps.{visit-done, visit-fields, visit-ahead, ahead-kept, visit-func-few}
+use Rattle.walk.proofs.Steps.{visit-done, visit-fields, visit-whole, visit-ahead, ahead-kept, visit-func-few}
 use Rattle.types.proofs.Fields.{uses-append}
 use Rattle.scope.specs.Scope.{scopeIn, Recalled}
 use Rattle.scope.proofs.Frames.{scope-kept, recalled-left, recalled-right, recalled-scope}
@@ -32,7 +32,7 @@ use Rattle.content.specs.Entry.{Entries, entriesOf, both, sectionNo, ownSpaceOf
 use Rattle.content.specs.declared.entry.Entry.{Entry}
 use Rattle.content.specs.declared.entry.Three.{Three}
 use Rattle.content.proofs.Fields.{entries-append, entries-here}
-use Rattle.content.proofs.Uses.{recalled-here, few-here}
+use Rattle.content.proofs.Uses.{recalled-here, few-here, whole-here}
 use Rattle.sections.specs.Tally.{tallies, noTally, tallyOf, Twelve, Keeps, Tallied, ReadyThree, ChecksIn}
 use Rattle.sections.specs.declared.tally.Tally.{Tally}
 use Rattle.sections.specs.declared.tally.Verdict.{Verdict}
@@ -150,11 +150,12 @@ module _ (s w₀ w : List ℕ) (old mid : Bytes) (c : Cursor) (t₀ t : Tally) (
       sweep-ready =
           let k = kept-less 11280 11536 (omega arith) (v .kept) in
           let a = recalled-here w₀ (typesIn s w₀) s c (m .next) f here sweep-uses in
+          let z = whole-here s (c .rec) (c .seen) f here (visit-whole s c m told f here is w (v .ahead)) in
           let b = few-here s (c .seen) f here (λ i es t ls e. visit-func-few s c m told f here is i es t ls e) in
           rw d (record {
-            first = record { recalled = recalled-scope s w₀ w _ k (a .first); few = b .first };
-            second = record { recalled = recalled-scope s w₀ w _ k (a .second); few = b .second };
-            third = record { recalled = recalled-scope s w₀ w _ k (a .third); few = b .third };
+            first = record { recalled = recalled-scope s w₀ w _ k (a .first); whole = z .first; few = b .first };
+            second = record { recalled = recalled-scope s w₀ w _ k (a .second); whole = z .second; few = b .second };
+            third = record { recalled = recalled-scope s w₀ w _ k (a .third); whole = z .third; few = b .third };
             alone = alone-here f (c .seen) here;
           })
 

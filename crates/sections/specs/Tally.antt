@@ -10,7 +10,7 @@ use Rattle.emit.specs.Put.{past, Put}
 use Rattle.space.specs.Kept.{Kept}
 use Rattle.signatures.specs.Table.{typesIn}
 use Rattle.scope.specs.Scope.{Recalled}
-use Rattle.content.specs.Entry.{Entries, sectionNo, usesOf, FewIn}
+use Rattle.content.specs.Entry.{Entries, sectionNo, usesOf, FewIn, WholeIn}
 use Rattle.content.specs.declared.entry.Entry.{Entry}
 use Rattle.content.specs.declared.entry.Three.{Three}
 use Rattle.sections.specs.Parts.{partIn}
@@ -72,9 +72,10 @@ Checks a t old r new = ChecksBy a t old (r .verdict) (r .tally) new
 
 -- ## What checking needs, and leaves
 
--- an entry's type uses have their numbers, and a function few enough parameters and locals
+-- an entry's type uses have their numbers; a function's body reads to its end, and it has few enough parameters and locals
 pub record Ready (s w : List ℕ) (r : ℕ) (e : Entry) : Type 0 where
   pub recalled : Recalled w (typesIn s w) (usesOf s r e)
+  pub whole : WholeIn s r e
   pub few : FewIn s e
 
 -- so are a field's entries; where the second is nothing, so is the third
