@@ -54,9 +54,7 @@ same-length-4 : tie.Need-same-length-4 Inv-loop μ-loop
 same-length-4 c = search sweep-counts
 
 returns : tie.Need-returns Inv-loop μ-loop
-returns c =
-    let b = c .before .before .before .before .before .before .before .before .before .before .before in
-    search (stopped, b .before .before .before .before .before .before .before .before .before .before .before .before .loop .inv, b .before .before .before .before .before .before .before .before .before .before .visit .ensures, b .check-three .ensures, b .before .before .before .before .before .entries-of .ensures)
+returns c = search (stopped, c .before .before .before .before .before .before .before .before .before .before .before .check-three .ensures)
 
 enum-told-2 : tie.Need-enum-told-2 Inv-loop μ-loop
 enum-told-2 c = search needs
