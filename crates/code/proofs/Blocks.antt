@@ -1,14 +1,16 @@
 -- Instructions that open or close a block or have a type use: what is resolved is what was written.
 use Prim.Native.Nat.{ℕ, _+_, _-_, _≤_, _<_}
 use mathlib.Core.Path.{_≡_, refl, sym}
+use mathlib.Core.Bool.{Bool}
 use mathlib.Core.List.{List, [], _∷_}
 use mathlib.Core.Option.{Option, none}
+use lib.Dec.{ltb}
 use borrow.Author.Tests.{lt-ltb, le-ltb}
 use native.Mathlib.Omega.{arith}
 use Rattle.definition.specs.Basic.{_>>=_}
 use Rattle.definition.specs.Syntax as Syntax
 use Rattle.definition.specs.Syntax.{Identifier, Rec, instr}
-use Rattle.definition.specs.Reader.{Step, got, fault}
+use Rattle.definition.specs.Reader.{Step, got, fault, onward, require}
 use Rattle.definition.specs.Token as Token
 use Rattle.definition.specs.Instructions as Instructions
 use Rattle.definition.specs.Instructions.{opening, elsing, ending, calling}
@@ -21,12 +23,14 @@ use Rattle.definition.specs.Binary.{instruction, imm}
 use Rattle.emit.specs.Put.{Put}
 use Rattle.emit.proofs.Laws.{put-cons}
 use Rattle.token.specs.Views.{idOf, idAt, indexOf, indexAt}
+use Rattle.token.specs.Known.{Gets}
 use Rattle.token.specs.declared.text.Part.{Part}
 use Rattle.token.specs.declared.text.PartAt.{PartAt}
 use Rattle.token.specs.declared.text.PartAt.the-variants as P
 use Rattle.token.specs.declared.index.Index.{Index}
 use Rattle.token.specs.declared.index.IndexAt.{IndexAt}
 use Rattle.token.specs.declared.index.IndexAt.the-variants as X
+use Rattle.token.proofs.Gets.{gets-first, gets-after}
 use Rattle.typeuse.specs.Views.{useOf, useAt}
 use Rattle.typeuse.specs.declared.TypeUse.{TypeUse}
 use Rattle.typeuse.specs.declared.UseAt.{UseAt}
@@ -107,6 +111,24 @@ same-done : (s w : List ℕ) (k rec : ℕ) (m : Step (Syntax.Instr Identifier)) 
     → m ≡ got x next → labelsIn s w j ≡ blocksAfter (labelsIn s w k) x → j ≡ openAfter x k → j ≤ 128 → r ≡ turnOf y next j
     → ((ls : _) → Emits instruction (instrOp (scopeIn s w) ls (labelsIn s w k) rec x) old at y new) → AnyLocals s w k rec (recordOf m) old at r w new
 same-done s w k rec m x next j old at y r new d b o f t e = record { each = λ ls. rw t (turned-same s w ls k rec (recordOf m) old at x next (rw d) new j y b o f (e ls)) }
+
+-- a label can be read where the whole record can
+label-known : {B : Type 0} (f : Option Identifier → ℕ → Step B) (n : ℕ) (t : Bool) (s : List ℕ) (here : ℕ) → Gets (onward f (onward (λ _ q. Token.identifier s q) (require n t s here)))
+    → Gets (Token.identifier s here)
+label-known f n t s here g = gets-after (λ _ q. Token.identifier s q) n t s here (gets-first f (onward (λ _ q. Token.identifier s q) (require n t s here)) g)
+
+module _ (s : List ℕ) (k op here : ℕ) where
+  pub opens-known : Gets (Instructions.instruction k op opening s here) → Gets (Token.identifier s here)
+  unfolding Instructions.instruction
+  opens-known g = label-known _ 7 (ltb k 128) s here g
+
+  pub elses-known : Gets (Instructions.instruction k op elsing s here) → Gets (Token.identifier s here)
+  unfolding Instructions.instruction
+  elses-known g = label-known _ 8 (ltb 0 k) s here g
+
+  pub ends-known : Gets (Instructions.instruction k op ending s here) → Gets (Token.identifier s here)
+  unfolding Instructions.instruction
+  ends-known g = label-known _ 8 (ltb 0 k) s here g
 
 module _ (s w : List ℕ) (k rec op here : ℕ) where
   -- a block

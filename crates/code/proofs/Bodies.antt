@@ -1,7 +1,7 @@
 -- The loop over a body: what has been written and what is still to come are the whole.
 use Prim.Native.Nat.{ℕ, suc, _+_, _-_, _*_, _≤_, _<_, _^_}
 use mathlib.Core.Path.{_≡_, refl, sym, _∙_, ap}
-use mathlib.Core.Bool.{Bool, true, false}
+use mathlib.Core.Bool.{Bool, true, false, false≢true}
 use mathlib.Core.Option.{none, some, Option·none-ne-some}
 use mathlib.Core.List.{List, [], _∷_, _++_, append-assoc, append-nil}
 use lib.Dec.{eqb}
@@ -20,8 +20,10 @@ use Rattle.definition.specs.Binary as Binary
 use Rattle.emit.specs.Put.{Put}
 use Rattle.emit.proofs.Laws.{put-none, put-then, put-is, put-length}
 use Rattle.token.specs.Views.{byteAt}
+use Rattle.token.specs.Known.{Gets}
 use Rattle.token.specs.declared.byte.ByteAt.{ByteAt}
 use Rattle.token.specs.declared.byte.ByteAt.the-variants as B
+use Rattle.token.proofs.Gets.{gets-first}
 use Rattle.expr.specs.Views.{operandsIs}
 use Rattle.expr.specs.declared.Operands.{Operands}
 use Rattle.instr.specs.Views.{formIs}
@@ -31,7 +33,7 @@ use Rattle.space.specs.Area.{labels}
 use Rattle.space.specs.Kept.{Kept}
 use Rattle.space.proofs.Kept.{kept-same, kept-then, kept-less}
 use Rattle.signatures.specs.Table.{typesIn}
-use Rattle.walk.specs.Walk.{onBody, bodyFrom}
+use Rattle.walk.specs.Walk.{onBody, bodyFrom, wholeBody}
 use Rattle.scope.specs.Scope.{scopeIn, Recalled, localsIn, FewLocals, labelsIn}
 use Rattle.scope.specs.declared.Locals.{Locals}
 use Rattle.scope.proofs.Frames.{scope-kept, locals-kept, recalled-left, recalled-right, recalled-scope}
@@ -39,7 +41,7 @@ use Rattle.binary.specs.declared.Emitted.the-variants as E
 use Rattle.binary.proofs.Emitting.{wrote, halts}
 use Rattle.entries.proofs.Elements.{after, concat-snoc}
 use Rattle.code.specs.Turns.{recordOf, plainRecord, readUses, Stepped, Ended, Halted, Turned, AnyLocals}
-use Rattle.code.specs.Body.{EmitsBody}
+use Rattle.code.specs.Body.{Resolvable, EmitsBody}
 use Rattle.code.specs.declared.turn.Turn.{Turn}
 use Rattle.code.specs.declared.turn.Turn.the-variants as T
 use Rattle.code.proofs.Turns.{turned-fault}
@@ -51,6 +53,22 @@ body-cons : (s : List ℕ) (k rec here : ℕ) (x : Syntax.Instr Identifier) (nex
     → bodyFrom (4096 - rec) k s here ≡ x ∷ bodyFrom (4096 - (rec + 1)) (openAfter x k) s next
 unfolding bodyFrom
 body-cons s k rec here x next h e = let m : 4096 - rec ≡ suc (4096 - (rec + 1)) = omega arith in rw (m, e)
+
+-- the record that a whole body goes on with can be read
+whole-gets : (s : List ℕ) (k rec here : ℕ) → rec < 4096 → wholeBody (4096 - rec) k s here ≡ true → Gets (bodyRec k s here)
+unfolding wholeBody
+whole-gets s k rec here h v =
+    let m : 4096 - rec ≡ suc (4096 - (rec + 1)) = omega arith in go (bodyRec k s here) (λ x next. wholeBody (4096 - (rec + 1)) (openAfter x k) s next) (rw m at v)
+  where
+    go : (m : Step (Rec Identifier)) (more : Syntax.Instr Identifier → ℕ → Bool) → onBody m more (λ next. true) false ≡ true → Gets m
+    go (got x next) more e = record { value = x; next = next; is = refl }
+    go (fault n) more e = absurd (false≢true e)
+
+-- after it a whole body is whole
+whole-cons : (s : List ℕ) (k rec here : ℕ) (x : Syntax.Instr Identifier) (next : ℕ) → rec < 4096 → bodyRec k s here ≡ got (instr x) next
+    → wholeBody (4096 - rec) k s here ≡ true → wholeBody (4096 - (rec + 1)) (openAfter x k) s next ≡ true
+unfolding wholeBody
+whole-cons s k rec here x next h e v = let m : 4096 - rec ≡ suc (4096 - (rec + 1)) = omega arith in rw (m, e) at v
 
 -- the end's byte is no opcode
 end-formless : formOf 0xFF ≡ none
@@ -83,25 +101,45 @@ module _ (s w : List ℕ) (l : Locals) (k rec here : ℕ) (q : ByteAt) (told : b
       formed-reads = rw (told, d, not-end b g (eqb b 0xFF) refl (says ∙ e), says, e)
 
       -- what the instruction needs of the work area
-      formed-uses : rec < 4096 → Recalled w (typesIn s w) (bodyUses rec (bodyFrom (4096 - rec) k s here)) → Recalled w (typesIn s w) (readUses rec (instruction k b g s a))
+      formed-uses : rec < 4096 → Resolvable s w rec k here → Recalled w (typesIn s w) (readUses rec (instruction k b g s a))
       formed-uses h r = go (instruction k b g s a) formed-reads
         where
           go : (m : Step (Syntax.Instr Identifier)) → bodyRec k s here ≡ recordOf m → Recalled w (typesIn s w) (readUses rec m)
           go (got x next) z =
               recalled-left w (typesIn s w) (usedAt rec (instrUses x)) (bodyUses (rec + 1) (bodyFrom (4096 - (rec + 1)) (openAfter x k) s next))
-              (unfold bodyUses in rw (body-cons s k rec here x next h z) at r)
+              (let u = r .recalled in unfold bodyUses in rw (body-cons s k rec here x next h z) at u)
           go (fault n) z = unfold Recalled in tt
+
+      -- it can be read
+      formed-gets : rec < 4096 → Resolvable s w rec k here → Gets (instruction k b g s a)
+      formed-gets h r =
+          let z : Gets (recordOf (instruction k b g s a)) = (let y = whole-gets s k rec here h (r .whole) in rw formed-reads at y) in gets-first _ (instruction k b g s a) z
 
       formed-turn : (old : List ℕ) (at : ℕ) (r : Turn) (w′ new : List ℕ) → Turned s w (localsIn s w l) k rec (recordOf (instruction k b g s a)) old at r w′ new
           → Turned s w (localsIn s w l) k rec (bodyRec k s here) old at r w′ new
       formed-turn old at r w′ new t = rw formed-reads t
 
-    pub opening-uses : f ≡ F.Opening → rec < 4096 → Recalled w (typesIn s w) (bodyUses rec (bodyFrom (4096 - rec) k s here)) → Recalled w (typesIn s w) (readUses rec (instruction k b opening s a))
+    pub opening-uses : f ≡ F.Opening → rec < 4096 → Resolvable s w rec k here → Recalled w (typesIn s w) (readUses rec (instruction k b opening s a))
     opening-uses e h r = formed-uses opening (ap formIs e) h r
 
-    pub calling-uses : f ≡ F.Calling → rec < 4096 → Recalled w (typesIn s w) (bodyUses rec (bodyFrom (4096 - rec) k s here)) → Recalled w (typesIn s w) (readUses rec (instruction k 0x11 calling s a))
+    pub calling-uses : f ≡ F.Calling → rec < 4096 → Resolvable s w rec k here → Recalled w (typesIn s w) (readUses rec (instruction k 0x11 calling s a))
     unfolding instruction
     calling-uses e h r = formed-uses calling (ap formIs e) h r
+
+    pub opening-gets : f ≡ F.Opening → rec < 4096 → Resolvable s w rec k here → Gets (instruction k b opening s a)
+    opening-gets e h r = formed-gets opening (ap formIs e) h r
+
+    pub elsing-gets : f ≡ F.Elsing → rec < 4096 → Resolvable s w rec k here → Gets (instruction k 0x05 elsing s a)
+    unfolding instruction
+    elsing-gets e h r = formed-gets elsing (ap formIs e) h r
+
+    pub ending-gets : f ≡ F.Ending → rec < 4096 → Resolvable s w rec k here → Gets (instruction k 0x0B ending s a)
+    unfolding instruction
+    ending-gets e h r = formed-gets ending (ap formIs e) h r
+
+    pub plain-gets : (v : Operands) → f ≡ F.Operands v → rec < 4096 → Resolvable s w rec k here → Gets (plainOf b (operandsIs v) s a)
+    unfolding instruction
+    plain-gets v e h r = gets-first _ (plainOf b (operandsIs v) s a) (formed-gets (operands (operandsIs v)) (ap formIs e) h r)
 
     module _ (old : List ℕ) (at : ℕ) (r : Turn) (w′ new : List ℕ) where
       pub form-opening : f ≡ F.Opening → AnyLocals s w k rec (recordOf (instruction k b opening s a)) old at r w′ new → Turned s w (localsIn s w l) k rec (bodyRec k s here) old at r w′ new
@@ -152,12 +190,16 @@ unfolding _>>=_ after
 all-after (ok ys) = refl
 all-after (refused n r) = refl
 
+-- what resolving needs stays where types and type uses stay
+pub resolvable-kept : (s w w′ : List ℕ) (rec k here : ℕ) → Kept 11280 w w′ → Resolvable s w rec k here → Resolvable s w′ rec k here
+resolvable-kept s w w′ rec k here h r = record { recalled = recalled-scope s w w′ (bodyUses rec (bodyFrom (4096 - rec) k s here)) h (r .recalled); whole = r .whole }
+
 -- so much is done, and the rest decides
 pub record Going (s w₀ : List ℕ) (l : Locals) (rec place : ℕ) (old : List ℕ) (at : ℕ) (w out : List ℕ) (o here r k : ℕ) : Type 0 where
   pub done : List Op
   pub so-far : Put old at (concatMap Binary.instruction done) o out
   pub same : body (scopeIn s w₀) (localsIn s w₀ l) [] rec (bodyFrom (4096 - rec) 0 s place) ≡ (body (scopeIn s w₀) (localsIn s w₀ l) (labelsIn s w k) r (bodyFrom (4096 - r) k s here) >>= after done)
-  pub recalled : Recalled w (typesIn s w) (bodyUses r (bodyFrom (4096 - r) k s here))
+  pub resolvable : Resolvable s w r k here
   pub few : k ≤ 128
   pub low : r ≤ 4096
   pub kept : Kept 11920 w₀ w
@@ -165,13 +207,13 @@ pub record Going (s w₀ : List ℕ) (l : Locals) (rec place : ℕ) (old : List 
   pub room : length out ≡ length old
 
 pub going-begin : (s w : List ℕ) (l : Locals) (rec place : ℕ) (old : List ℕ) (at : ℕ) → length old * 1 < 2 ^ 63 → rec ≤ 4096
-    → Recalled w (typesIn s w) (bodyUses rec (bodyFrom (4096 - rec) 0 s place)) → Going s w l rec place old at w old at place rec 0
+    → Resolvable s w rec 0 place → Going s w l rec place old at w old at place rec 0
 unfolding concatMap labelsIn labels
 going-begin s w l rec place old at h g r = record {
   done = [];
   so-far = put-none at (omega arith);
   same = all-after (body (scopeIn s w) (localsIn s w l) [] rec (bodyFrom (4096 - rec) 0 s place));
-  recalled = r;
+  resolvable = r;
   few = omega arith;
   low = g;
   kept = kept-same 11920 w;
@@ -219,8 +261,11 @@ module _ {s w₀ : List ℕ} {l : Locals} {rec place : ℕ} {old : List ℕ} {at
           done = v .done ++ (x .op ∷ []);
           so-far = put-is (put-then (v .so-far) (x .put)) (sym (concat-snoc Binary.instruction (v .done) (x .op)));
           same = rw (x .blocks) (v .same ∙ m);
-          recalled = recalled-scope s w w′ (bodyUses (r + 1) (bodyFrom (4096 - (r + 1)) j s next)) n
-              (recalled-right w (typesIn s w) (usedAt r (instrUses (x .read))) (bodyUses (r + 1) (bodyFrom (4096 - (r + 1)) j s next)) (rw c at (v .recalled)));
+          resolvable = resolvable-kept s w w′ (r + 1) j next n
+              (record {
+                recalled = recalled-right w (typesIn s w) (usedAt r (instrUses (x .read))) (bodyUses (r + 1) (bodyFrom (4096 - (r + 1)) j s next)) (rw c at (v .resolvable .recalled));
+                whole = rw (x .depth) (whole-cons s k r here (x .read) next h (x .reads) (v .resolvable .whole));
+              });
           few = x .few;
           low = omega arith;
           kept = kept-then (v .kept) (x .kept);

@@ -1,6 +1,6 @@
 -- Instructions that open and close no block and have no type use: what is read is resolved and written.
 use Prim.Native.Nat.{ℕ, _≤_}
-use mathlib.Core.Path.{_≡_, refl}
+use mathlib.Core.Path.{_≡_, refl, ap}
 use mathlib.Core.List.{List, [], _∷_}
 use Rattle.definition.specs.Basic.{ok, _>>=_}
 use Rattle.definition.specs.Syntax as Syntax
@@ -11,9 +11,11 @@ use Rattle.definition.specs.Names.{Namespace, immediate, plainOp}
 use Rattle.definition.specs.Binary.{imm, instruction}
 use Rattle.emit.specs.Put.{Put}
 use Rattle.token.specs.Views.{indexOf, indexAt}
+use Rattle.token.specs.Known.{Gets}
 use Rattle.token.specs.declared.index.Index.{Index}
 use Rattle.token.specs.declared.index.IndexAt.{IndexAt}
 use Rattle.token.specs.declared.index.IndexAt.the-variants as X
+use Rattle.token.proofs.Gets.{gets-first}
 use Rattle.expr.specs.Views.{plainIs, plainAt, operandsIs}
 use Rattle.expr.specs.declared.Plain.{Plain}
 use Rattle.expr.specs.declared.PlainAt.{PlainAt}
@@ -112,3 +114,24 @@ is-bare s w l k rec op here v old at o new d f p =
     (wrote instruction (plainOp (scopeIn s w) (localsIn s w l) (labelsIn s w k) rec (record { opcode = op; operand = Syntax.nothing })) old at new (record { opcode = op; imm = Syntax.noImm }) o p refl) refl)
 
 pub ruleset kinds = (is-bare, is-label, is-local, is-func, is-global)
+
+-- the index after an opcode can be read where the whole can
+module _ (s : List ℕ) (op here : ℕ) (v : Operands) (g : Gets (Instructions.plainOf op (operandsIs v) s here)) where
+  known : (x : Instructions.Operands) → operandsIs v ≡ x → Gets (Instructions.plainOf op x s here)
+  known x d = rw d at g
+
+  pub label-known : v ≡ W.LabelIdx → Gets (Token.present s here)
+  unfolding Instructions.plainOf
+  label-known d = gets-first _ (Token.present s here) (known Instructions.labelidx (ap operandsIs d))
+
+  pub local-known : v ≡ W.LocalIdx → Gets (Token.present s here)
+  unfolding Instructions.plainOf
+  local-known d = gets-first _ (Token.present s here) (known Instructions.localidx (ap operandsIs d))
+
+  pub func-known : v ≡ W.FuncIdx → Gets (Token.present s here)
+  unfolding Instructions.plainOf
+  func-known d = gets-first _ (Token.present s here) (known Instructions.funcidx (ap operandsIs d))
+
+  pub global-known : v ≡ W.GlobalIdx → Gets (Token.present s here)
+  unfolding Instructions.plainOf
+  global-known d = gets-first _ (Token.present s here) (known Instructions.globalidx (ap operandsIs d))

@@ -24,6 +24,7 @@ ghost use Rattle.definition.specs.Types as Types;
 ghost use Rattle.definition.specs.Names as Names;
 ghost use Rattle.definition.specs.Binary as Binary;
 ghost use Rattle.token.specs.Views.{idOf, indexOf};
+ghost use Rattle.token.specs.Known.{Gets};
 ghost use Rattle.typeuse.specs.Views.{useOf};
 ghost use Rattle.signatures.specs.Table.{typesIn};
 ghost use Rattle.scope.specs.Scope.{scopeIn, Recalled, blockUses};
@@ -88,13 +89,13 @@ pub fn opens_record(
     opcode: u8,
     rec: u32,
 ) -> Turn
-    requires { ⌜ (length (now s) ≤ 65536) × (16384 ≤ length (now work)) × Recalled (now work) (typesIn (now s) (now work)) (readUses rec (Instructions.instruction k opcode Instructions.opening (now s) here)) ⌝ }
+    requires { ⌜ (length (now s) ≤ 65536) × (16384 ≤ length (now work)) × Recalled (now work) (typesIn (now s) (now work)) (readUses rec (Instructions.instruction k opcode Instructions.opening (now s) here)) × Gets (Instructions.instruction k opcode Instructions.opening (now s) here) ⌝ }
     ensures { λ r. ⌜ AnyLocals (now (s .entry)) (now (work .entry)) k rec (recordOf (Instructions.instruction k opcode Instructions.opening (now (s .entry)) here)) (now (out .entry)) at r (now (work .exit)) (now (out .exit)) ⌝ }
 {
     if 128 <= k {
         return Turn::Done;
     }
-    match token::read_identifier(s, here) {
+    match token::known_identifier(s, here) {
         PartAt::Got(label, a) => match typeuse::read_type_use(s, a) {
             UseAt::Got(t, next) => opened(s, work, out, at, next, k, opcode, label, t, rec),
             UseAt::Fault(_) => Turn::Done,
@@ -132,13 +133,13 @@ pub fn else_record(
     k: u32,
     rec: u32,
 ) -> Turn
-    requires { ⌜ (16384 ≤ length (now work)) × (k ≤ 128) ⌝ }
+    requires { ⌜ (16384 ≤ length (now work)) × (k ≤ 128) × Gets (Instructions.instruction k 0x05 Instructions.elsing (now s) here) ⌝ }
     ensures { λ r. ⌜ AnyLocals (now (s .entry)) (now (work .entry)) k rec (recordOf (Instructions.instruction k 0x05 Instructions.elsing (now (s .entry)) here)) (now (out .entry)) at r (now (work .entry)) (now (out .exit)) ⌝ }
 {
     if k < 1 {
         return Turn::Done;
     }
-    match token::read_identifier(s, here) {
+    match token::known_identifier(s, here) {
         PartAt::Got(label, next) => {
             let e = emit_closing(s, work, out, at, k, 0x05, label, rec);
             crate::turn::go_on(e, next, k)
@@ -156,13 +157,13 @@ pub fn end_record(
     k: u32,
     rec: u32,
 ) -> Turn
-    requires { ⌜ (16384 ≤ length (now work)) × (k ≤ 128) ⌝ }
+    requires { ⌜ (16384 ≤ length (now work)) × (k ≤ 128) × Gets (Instructions.instruction k 0x0B Instructions.ending (now s) here) ⌝ }
     ensures { λ r. ⌜ AnyLocals (now (s .entry)) (now (work .entry)) k rec (recordOf (Instructions.instruction k 0x0B Instructions.ending (now (s .entry)) here)) (now (out .entry)) at r (now (work .entry)) (now (out .exit)) ⌝ }
 {
     if k < 1 {
         return Turn::Done;
     }
-    match token::read_identifier(s, here) {
+    match token::known_identifier(s, here) {
         PartAt::Got(label, next) => {
             let e = emit_closing(s, work, out, at, k, 0x0B, label, rec);
             crate::turn::go_on(e, next, k - 1)

@@ -4,15 +4,12 @@ use binary::Emitted;
 use instr::Form;
 use scope::Locals;
 use token::ByteAt;
-ghost use Prim.Native.Nat.{_-_, _≤_, _<_};
+ghost use Prim.Native.Nat.{_≤_, _<_};
 ghost use lib.ListN.{length};
 ghost use Rattle.definition.specs.Instructions as Instructions;
-ghost use Rattle.definition.specs.Types as Types;
-ghost use Rattle.signatures.specs.Table.{typesIn};
-ghost use Rattle.scope.specs.Scope.{Recalled, localsIn, FewLocals};
-ghost use Rattle.walk.specs.Walk.{bodyFrom};
+ghost use Rattle.scope.specs.Scope.{localsIn, FewLocals};
 ghost use Rattle.code.specs.Turns.{Turned};
-ghost use Rattle.code.specs.Body.{EmitsBody};
+ghost use Rattle.code.specs.Body.{Resolvable, EmitsBody};
 
 // One record of a body where k blocks are open. Its end, FF, is no opcode either.
 fn one_record(
@@ -25,7 +22,7 @@ fn one_record(
     l: Locals,
     rec: u32,
 ) -> Turn
-    requires { ⌜ (length (now s) ≤ 65536) × (16384 ≤ length (now work)) × FewLocals l × (k ≤ 128) × (rec < 4096) × Recalled (now work) (typesIn (now s) (now work)) (Types.bodyUses rec (bodyFrom (4096 - rec) k (now s) here)) ⌝ }
+    requires { ⌜ (length (now s) ≤ 65536) × (16384 ≤ length (now work)) × FewLocals l × (k ≤ 128) × (rec < 4096) × Resolvable (now s) (now work) rec k here ⌝ }
     ensures { λ r. ⌜ Turned (now (s .entry)) (now (work .entry)) (localsIn (now (s .entry)) (now (work .entry)) l) k rec (Instructions.bodyRec k (now (s .entry)) here) (now (out .entry)) at r (now (work .exit)) (now (out .exit)) ⌝ }
 {
     match token::read_byte(s, here) {
@@ -53,7 +50,7 @@ pub fn emit_body(
     rec: u32,
     l: Locals,
 ) -> Emitted
-    requires { ⌜ (length (now s) ≤ 65536) × (16384 ≤ length (now work)) × FewLocals l × (rec ≤ 4096) × Recalled (now work) (typesIn (now s) (now work)) (Types.bodyUses rec (bodyFrom (4096 - rec) 0 (now s) place)) ⌝ }
+    requires { ⌜ (length (now s) ≤ 65536) × (16384 ≤ length (now work)) × FewLocals l × (rec ≤ 4096) × Resolvable (now s) (now work) rec 0 place ⌝ }
     ensures { λ r. ⌜ EmitsBody (now (s .entry)) (now (work .entry)) l rec place (now (out .entry)) at r (now (work .exit)) (now (out .exit)) ⌝ }
 {
     let mut o = at;

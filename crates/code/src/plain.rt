@@ -1,4 +1,5 @@
 // Instructions that open and close no block and have no type use. The frequent ones are resolved as they are read.
+// The reading pass has looked at every byte of a name, so none is looked at again.
 use crate::turn::Turn;
 use expr::Operands;
 use expr::PlainAt;
@@ -8,8 +9,10 @@ use token::Space;
 ghost use Prim.Native.Nat.{_≤_};
 ghost use lib.ListN.{length};
 ghost use Rattle.definition.specs.Syntax as Syntax;
+ghost use Rattle.definition.specs.Token as Token;
 ghost use Rattle.definition.specs.Instructions as Instructions;
 ghost use Rattle.token.specs.Views.{spaceOf};
+ghost use Rattle.token.specs.Known.{Gets};
 ghost use Rattle.expr.specs.Views.{operandsIs};
 ghost use Rattle.scope.specs.Scope.{localsIn, FewLocals};
 ghost use Rattle.code.specs.Turns.{plainRecord, indexed, itemed, Turned, AnyLocals};
@@ -24,10 +27,10 @@ fn label_record(
     opcode: u8,
     rec: u32,
 ) -> Turn
-    requires { ⌜ (16384 ≤ length (now work)) × (k ≤ 128) ⌝ }
+    requires { ⌜ (16384 ≤ length (now work)) × (k ≤ 128) × Gets (Token.present (now s) here) ⌝ }
     ensures { λ r. ⌜ AnyLocals (now (s .entry)) (now (work .entry)) k rec (plainRecord (indexed opcode Syntax.label (now (s .entry)) here)) (now (out .entry)) at r (now (work .entry)) (now (out .exit)) ⌝ }
 {
-    match token::read_present(s, here) {
+    match token::known_present(s, here) {
         IndexAt::Got(x, next) => {
             let a = emit::put(out, at, opcode);
             let e = crate::operand::emit_label(s, work, out, a, k, x, rec);
@@ -48,10 +51,10 @@ fn local_record(
     opcode: u8,
     rec: u32,
 ) -> Turn
-    requires { ⌜ (16384 ≤ length (now work)) × FewLocals l × (k ≤ 128) ⌝ }
+    requires { ⌜ (16384 ≤ length (now work)) × FewLocals l × (k ≤ 128) × Gets (Token.present (now s) here) ⌝ }
     ensures { λ r. ⌜ Turned (now (s .entry)) (now (work .entry)) (localsIn (now (s .entry)) (now (work .entry)) l) k rec (plainRecord (indexed opcode Syntax.local (now (s .entry)) here)) (now (out .entry)) at r (now (work .entry)) (now (out .exit)) ⌝ }
 {
-    match token::read_present(s, here) {
+    match token::known_present(s, here) {
         IndexAt::Got(x, next) => {
             let a = emit::put(out, at, opcode);
             let e = crate::operand::emit_local(s, work, out, a, l, x, rec);
@@ -72,10 +75,10 @@ fn item_record(
     opcode: u8,
     rec: u32,
 ) -> Turn
-    requires { ⌜ (16384 ≤ length (now work)) × (k ≤ 128) ⌝ }
+    requires { ⌜ (16384 ≤ length (now work)) × (k ≤ 128) × Gets (Token.present (now s) here) ⌝ }
     ensures { λ r. ⌜ AnyLocals (now (s .entry)) (now (work .entry)) k rec (plainRecord (itemed opcode (spaceOf kind) (now (s .entry)) here)) (now (out .entry)) at r (now (work .entry)) (now (out .exit)) ⌝ }
 {
-    match token::read_present(s, here) {
+    match token::known_present(s, here) {
         IndexAt::Got(x, next) => {
             let a = emit::put(out, at, opcode);
             let e = crate::operand::emit_item(s, work, out, a, kind, x, rec);
@@ -121,7 +124,7 @@ pub fn plain_record(
     what: Operands,
     rec: u32,
 ) -> Turn
-    requires { ⌜ (16384 ≤ length (now work)) × FewLocals l × (k ≤ 128) ⌝ }
+    requires { ⌜ (16384 ≤ length (now work)) × FewLocals l × (k ≤ 128) × Gets (Instructions.plainOf opcode (operandsIs what) (now s) here) ⌝ }
     ensures { λ r. ⌜ Turned (now (s .entry)) (now (work .entry)) (localsIn (now (s .entry)) (now (work .entry)) l) k rec (plainRecord (Instructions.plainOf opcode (operandsIs what) (now (s .entry)) here)) (now (out .entry)) at r (now (work .entry)) (now (out .exit)) ⌝ }
 {
     match what {

@@ -1,6 +1,8 @@
--- What is known of every type use of a record's fields is known of those of its entries; and its functions are small.
+-- What is known of every type use of a record's fields is known of those of its entries; and its functions are small, with bodies that read to
+-- their ends.
 use Prim.Native.Nat.{ℕ, _+_, _-_, _≤_, _<_}
 use mathlib.Core.Path.{_≡_, refl}
+use mathlib.Core.Bool.{true}
 use mathlib.Core.List.{List, [], _∷_, _++_, map}
 use lib.ListN.{length, getD}
 use Rattle.definition.specs.Syntax.{Bytes, Identifier, Space, FuncType, number, Field, exportF}
@@ -21,10 +23,10 @@ use Rattle.sources.specs.declared.source.Source.the-variants as S
 use Rattle.fields.specs.Views.{fieldOf}
 use Rattle.fields.specs.declared.field.Field as Read
 use Rattle.fields.specs.declared.field.Field.the-variants as F
-use Rattle.walk.specs.Walk.{bodyFrom, fieldsHere}
+use Rattle.walk.specs.Walk.{bodyFrom, wholeField, fieldsHere}
 use Rattle.walk.specs.declared.Cursor.{Cursor}
 use Rattle.scope.specs.Scope.{Recalled}
-use Rattle.content.specs.Entry.{usesOf, FewIn, three}
+use Rattle.content.specs.Entry.{usesOf, FewIn, WholeIn, three}
 use Rattle.content.specs.declared.entry.Three.{Three}
 
 -- ## Every use
@@ -106,6 +108,29 @@ few-here s seen (F.Item i es (S.Own (O.Global t c))) here h = record { first = t
 few-here s seen (F.Item i es (S.Imported n x)) here h = record { first = tt; second = tt; third = tt }
 few-here s seen (F.Item i es (S.TableOf w xs)) here h = record { first = tt; second = tt; third = tt }
 few-here s seen (F.Item i es (S.MemOf w d)) here h = record { first = tt; second = tt; third = tt }
+
+-- ## Bodies read to their ends
+
+pub record WholeThree (s : Bytes) (r : ℕ) (t : Three) : Type 0 where
+  pub first : WholeIn s r (t .first)
+  pub second : WholeIn s r (t .second)
+  pub third : WholeIn s r (t .third)
+
+pub whole-here : (s : Bytes) (r : ℕ) (seen : Seen) (f : Read.Field) (here : ℕ) → wholeField (fieldBody (fieldOf s f)) (r + 1) s here ≡ true → WholeThree s r (three f seen here)
+unfolding fieldBody sourceBody ownBody
+whole-here s r seen (F.Type i ps rs) here h = record { first = tt; second = tt; third = tt }
+whole-here s r seen (F.Import n i x) here h = record { first = tt; second = tt; third = tt }
+whole-here s r seen (F.Export n k x) here h = record { first = tt; second = tt; third = tt }
+whole-here s r seen (F.Start x) here h = record { first = tt; second = tt; third = tt }
+whole-here s r seen (F.Elem i m xs) here h = record { first = tt; second = tt; third = tt }
+whole-here s r seen (F.Data i m d) here h = record { first = tt; second = tt; third = tt }
+whole-here s r seen (F.Item i es (S.Own (O.Func t ls))) here h = record { first = tt; second = tt; third = h }
+whole-here s r seen (F.Item i es (S.Own (O.Table t))) here h = record { first = tt; second = tt; third = tt }
+whole-here s r seen (F.Item i es (S.Own (O.Mem l))) here h = record { first = tt; second = tt; third = tt }
+whole-here s r seen (F.Item i es (S.Own (O.Global t c))) here h = record { first = tt; second = tt; third = tt }
+whole-here s r seen (F.Item i es (S.Imported n x)) here h = record { first = tt; second = tt; third = tt }
+whole-here s r seen (F.Item i es (S.TableOf w xs)) here h = record { first = tt; second = tt; third = tt }
+whole-here s r seen (F.Item i es (S.MemOf w d)) here h = record { first = tt; second = tt; third = tt }
 
 -- ## Numbers in the work area
 

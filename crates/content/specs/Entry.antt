@@ -1,5 +1,7 @@
 -- What a field puts into the sections, entry by entry.
 use Prim.Native.Nat.{ℕ, _+_, _-_, _≤_}
+use mathlib.Core.Path.{_≡_}
+use mathlib.Core.Bool.{true}
 use mathlib.Core.List.{List, [], _∷_, _++_, map}
 use mathlib.Core.Option.{none}
 use lib.ListN.{length}
@@ -30,7 +32,7 @@ use Rattle.token.specs.declared.index.Space.the-variants as K
 use Rattle.fields.specs.Views.{modeOf}
 use Rattle.fields.specs.declared.field.Field.{Field}
 use Rattle.fields.specs.declared.field.Field.the-variants as F
-use Rattle.walk.specs.Walk.{bodyFrom}
+use Rattle.walk.specs.Walk.{bodyFrom, wholeBody}
 use Rattle.entries.specs.Entry.{entryOf, exportEntries}
 use Rattle.function.specs.Function.{codeOf, funcField}
 use Rattle.content.specs.declared.entry.Entry.{Entry}
@@ -125,6 +127,26 @@ FewIn s (E.InlineElem w n xs) = Unit {0}
 FewIn s (E.Code t ls here) = (length (useOf s t .params) ≤ 64) × (length (listOf Token.param s ls) ≤ 64)
 FewIn s (E.Data m d) = Unit {0}
 FewIn s (E.InlineData w n d) = Unit {0}
+
+-- a function's body reads to its end; `r` is the function's record
+abbrev pub WholeIn : Bytes → ℕ → Entry → Type 0
+WholeIn s r E.Nothing = Unit {0}
+WholeIn s r (E.Type ps rs) = Unit {0}
+WholeIn s r (E.Import n x) = Unit {0}
+WholeIn s r (E.Func t) = Unit {0}
+WholeIn s r (E.Table t) = Unit {0}
+WholeIn s r (E.InlineTable w xs) = Unit {0}
+WholeIn s r (E.Mem l) = Unit {0}
+WholeIn s r (E.InlineMem w d) = Unit {0}
+WholeIn s r (E.Global t c) = Unit {0}
+WholeIn s r (E.Export n k x) = Unit {0}
+WholeIn s r (E.Exports es k n) = Unit {0}
+WholeIn s r (E.Start x) = Unit {0}
+WholeIn s r (E.Elem m xs) = Unit {0}
+WholeIn s r (E.InlineElem w n xs) = Unit {0}
+WholeIn s r (E.Code t ls here) = wholeBody (4096 - (r + 1)) 0 s here ≡ true
+WholeIn s r (E.Data m d) = Unit {0}
+WholeIn s r (E.InlineData w n d) = Unit {0}
 
 -- ## The entries of a field
 

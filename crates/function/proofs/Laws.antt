@@ -8,7 +8,6 @@ use Rattle.definition.specs.Basic.{Answer, ok, refused, _>>=_, concatMap}
 use Rattle.definition.specs.Syntax as Syntax
 use Rattle.definition.specs.Syntax.{Bytes, Identifier, Op, TypeNo}
 use Rattle.definition.specs.Token as Token
-use Rattle.definition.specs.Types as Types
 use Rattle.definition.specs.Names.{Scope, Namespace, typeNo, localsOf, distinctLocals, body, ownItem, resolve}
 use Rattle.definition.specs.Binary.{u, instruction, vec, run, runs, expr, sized, func-code}
 use Rattle.typeuse.specs.Views.{listOf, useOf}
@@ -26,16 +25,17 @@ use Rattle.binary.specs.declared.Emitted.the-variants as E
 use Rattle.binary.proofs.Emitting.{was-wrote, has-halted, wrote, halts}
 use Rattle.signatures.specs.Table.{typesIn}
 use Rattle.walk.specs.Walk.{bodyFrom}
-use Rattle.scope.specs.Scope.{scopeIn, localsIn, Recalled, FewLocals}
+use Rattle.scope.specs.Scope.{scopeIn, localsIn, FewLocals}
 use Rattle.scope.specs.Answers.{typeAnswer}
 use Rattle.scope.specs.declared.Locals.{Locals}
 use Rattle.scope.specs.declared.types.TypeAt.{TypeAt}
 use Rattle.scope.specs.declared.types.TypeAt.the-variants as T
-use Rattle.scope.proofs.Frames.{scope-kept, locals-kept, recalled-left, recalled-right, recalled-scope}
+use Rattle.scope.proofs.Frames.{scope-kept, locals-kept}
 use Rattle.frames.specs.Locals.{SetsLocals, Sets, Unset}
 use Rattle.frames.specs.declared.locals.LocalsAt.{LocalsAt}
 use Rattle.frames.specs.declared.locals.LocalsAt.the-variants as L
-use Rattle.code.specs.Body.{EmitsBody}
+use Rattle.code.specs.Body.{Resolvable, EmitsBody}
+use Rattle.code.proofs.Bodies.{resolvable-kept}
 use Rattle.function.specs.Function.{codeOf, funcField, bodyAnswer, codeBytes, sizedBytes, EmitsCode, Measured, MeasuredBy, MeasuresCode, MeasuredAt, MeasuresSized, EmitsAgain, AreaBy, typedAnswer, EmitsTyped, EmitsFunc}
 use Rattle.binary.specs.declared.instructions.TypeNo as Number
 use Rattle.function.proofs.Sized.{sized-place, put-beyond, put-short, put-again, put-moved, moved-room}
@@ -98,8 +98,8 @@ module _ (s w : List ℕ) (ls : Code.List) (r here : ℕ) (l : Locals) (old : Li
   pub sized-long : 16384 ≤ length w → 16384 ≤ length w₁
   sized-long h = rw (m .kept .long) h
 
-  pub sized-uses : (us : Types.Uses) → Recalled w (typesIn s w) us → Recalled w₁ (typesIn s w₁) us
-  sized-uses us h = recalled-scope s w w₁ us (kept-less 11280 11920 (omega arith) (m .kept)) h
+  pub sized-resolvable : (rec k place : ℕ) → Resolvable s w rec k place → Resolvable s w₁ rec k place
+  sized-resolvable rec k place h = resolvable-kept s w w₁ rec k place (kept-less 11280 11920 (omega arith) (m .kept)) h
 
   module _ (b : ℕ) (d : q ≡ E.To b) where
     x : Wrote (codeBytes s ls) (bodyAnswer s w r here l) old (at + 1) b mid
@@ -164,8 +164,8 @@ module _ (s w : List ℕ) (r : ℕ) (n : TypeNo) (t : TypeUse) (ls : Code.List) 
     pub typed-long : 16384 ≤ length w → 16384 ≤ length w₁
     typed-long g = rw (set .kept .long) g
 
-    pub typed-uses : (us : Types.Uses) → Recalled w (typesIn s w) us → Recalled w₁ (typesIn s w₁) us
-    typed-uses us g = recalled-scope s w w₁ us (kept-less 11280 11536 (omega arith) (set .kept)) g
+    pub typed-resolvable : (rec k place : ℕ) → Resolvable s w rec k place → Resolvable s w₁ rec k place
+    typed-resolvable rec k place g = resolvable-kept s w w₁ rec k place (kept-less 11280 11536 (omega arith) (set .kept)) g
 
     body-set : body (scopeIn s w) (localsOf (typesIn s w) n (useOf s t) (listOf Token.param s ls)) [] (r + 1) (bodyFrom (4096 - (r + 1)) 0 s here) ≡ bodyAnswer s w₁ r here l
     unfolding bodyAnswer

@@ -112,6 +112,7 @@ module _ (s w : List ℕ) (r : ℕ) (x : Three) (v : ReadyThree s w r x) where
     room = v .room;
     below = v .below;
     few = v .few₁;
+    whole = v .whole₁;
     recalled = v .recalled₁;
     fine = fine-first (entryIn (scopeIn s w) s r (x .first)) (both (entryIn (scopeIn s w) s r (x .second)) (entryIn (scopeIn s w) s r (x .third))) (v .fine);
   }
@@ -123,6 +124,7 @@ module _ (s w : List ℕ) (r : ℕ) (x : Three) (v : ReadyThree s w r x) where
     room = v .room;
     below = v .below;
     few = v .few₂;
+    whole = v .whole₂;
     recalled = v .recalled₂;
     fine = fine-first (entryIn (scopeIn s w) s r (x .second)) (entryIn (scopeIn s w) s r (x .third)) fine-rest;
   }
@@ -138,6 +140,7 @@ module _ (s w : List ℕ) (r : ℕ) (x : Three) (v : ReadyThree s w r x) where
           room = rw (p .area .long) (v .room);
           below = v .below;
           few = v .few₃;
+          whole = v .whole₃;
           recalled = recalled-same s w w₁ (usesOf s r (x .third)) (p .area) (v .recalled₃);
           fine = rw d (fine-second (entryIn (scopeIn s w) s r (x .second)) (entryIn (scopeIn s w) s r (x .third)) fine-rest);
         }
@@ -152,6 +155,9 @@ module _ (s w : List ℕ) (r : ℕ) (x : Three) (v : ReadyThree s w r x) where
           few₁ = v .few₁;
           few₂ = v .few₂;
           few₃ = v .few₃;
+          whole₁ = v .whole₁;
+          whole₂ = v .whole₂;
+          whole₃ = v .whole₃;
           recalled₁ = recalled-same s w w₁ (usesOf s r (x .first)) (p .area) (v .recalled₁);
           recalled₂ = recalled-same s w w₁ (usesOf s r (x .second)) (p .area) (v .recalled₂);
           recalled₃ = recalled-same s w w₁ (usesOf s r (x .third)) (p .area) (v .recalled₃);

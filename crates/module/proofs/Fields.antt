@@ -21,13 +21,13 @@ use Rattle.walk.specs.Walk.{Ahead, begin, fieldsIn, fieldsAhead, fieldsHere, Vi
 use Rattle.walk.specs.declared.Cursor.{Cursor}
 use Rattle.walk.specs.declared.Met.{Met}
 use Rattle.walk.specs.declared.What.the-variants as W
-use Rattle.walk.proofs.Steps.{visit-done, visit-few, visit-func-few, visit-fields, visit-ahead, ahead-kept}
+use Rattle.walk.proofs.Steps.{visit-done, visit-few, visit-func-few, visit-fields, visit-whole, visit-ahead, ahead-kept}
 use Rattle.scope.specs.Scope.{scopeIn, Recalled}
 use Rattle.scope.proofs.Frames.{recalled-left, recalled-right}
 use Rattle.content.specs.Entry.{Entries, usesOf, three, both, threeIn, entriesOf}
 use Rattle.content.specs.declared.entry.Three.{Three}
 use Rattle.content.proofs.Fields.{entries-append, entries-here}
-use Rattle.content.proofs.Uses.{All, AllThree, uses-here, FewThree, few-here}
+use Rattle.content.proofs.Uses.{All, AllThree, uses-here, FewThree, few-here, WholeThree, whole-here}
 use Rattle.sections.specs.Content.{Fine, kept, bytesIn}
 use Rattle.module.specs.Write.{Writes, ReadyThree, Writable}
 use Rattle.module.proofs.Emitting.{fine-first, fine-second, bytes-both, scope-same, recalled-same}
@@ -149,6 +149,9 @@ module _ (k : ℕ) (s w₀ old : List ℕ) (at : ℕ) (c : Cursor) (o : ℕ) (ou
       small : FewThree s now
       small = few-here s (c .seen) f here (visit-func-few s c m told f here is)
 
+      ends : WholeThree s (c .rec) now
+      ends = whole-here s (c .rec) (c .seen) f here (visit-whole s c m told f here is w (v .ahead))
+
       fine-both : Fine (both (threeIn (scopeIn s w) s (c .rec) now) (entriesOf (scopeIn s w) (fieldsAhead (m .next) s)))
       fine-both = subst Fine parts (v .fine)
 
@@ -160,6 +163,9 @@ module _ (k : ℕ) (s w₀ old : List ℕ) (at : ℕ) (c : Cursor) (o : ℕ) (ou
         few₁ = small .first;
         few₂ = small .second;
         few₃ = small .third;
+        whole₁ = ends .first;
+        whole₂ = ends .second;
+        whole₃ = ends .third;
         recalled₁ = from-all w (typesIn s w) _ (each-use .first);
         recalled₂ = from-all w (typesIn s w) _ (each-use .second);
         recalled₃ = from-all w (typesIn s w) _ (each-use .third);

@@ -13,7 +13,7 @@ use Rattle.space.specs.Kept.{Kept}
 use Rattle.signatures.specs.Table.{typesIn}
 use Rattle.walk.specs.Walk.{Ahead, begin, fieldsIn}
 use Rattle.scope.specs.Scope.{scopeIn, Recalled}
-use Rattle.content.specs.Entry.{Entries, usesOf, FewIn, both, entryIn, entriesOf, threeIn}
+use Rattle.content.specs.Entry.{Entries, usesOf, FewIn, WholeIn, both, entryIn, entriesOf, threeIn}
 use Rattle.content.specs.declared.entry.Entry.{Entry}
 use Rattle.content.specs.declared.entry.Three.{Three}
 use Rattle.sections.specs.Tally.{noTally, Keeps}
@@ -30,6 +30,7 @@ pub record Ready (s w : List ℕ) (r : ℕ) (e : Entry) : Type 0 where
   pub room : 16384 ≤ length w
   pub below : r < 4096
   pub few : FewIn s e
+  pub whole : WholeIn s r e
   pub recalled : Recalled w (typesIn s w) (usesOf s r e)
   pub fine : Fine (entryIn (scopeIn s w) s r e)
 
@@ -41,6 +42,9 @@ pub record ReadyThree (s w : List ℕ) (r : ℕ) (x : Three) : Type 0 where
   pub few₁ : FewIn s (x .first)
   pub few₂ : FewIn s (x .second)
   pub few₃ : FewIn s (x .third)
+  pub whole₁ : WholeIn s r (x .first)
+  pub whole₂ : WholeIn s r (x .second)
+  pub whole₃ : WholeIn s r (x .third)
   pub recalled₁ : Recalled w (typesIn s w) (usesOf s r (x .first))
   pub recalled₂ : Recalled w (typesIn s w) (usesOf s r (x .second))
   pub recalled₃ : Recalled w (typesIn s w) (usesOf s r (x .third))

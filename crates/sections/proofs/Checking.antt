@@ -1,10 +1,11 @@
 -- Checking one answer after the other.
 use Prim.Native.Nat.{ℕ, _*_, _^_, _≤_, _<_}
-use mathlib.Core.Path.{_≡_, refl, sym, _∙_}
-use mathlib.Core.List.{List, _++_, map}
+use mathlib.Core.Path.{_≡_, refl, sym, _∙_, ap}
+use mathlib.Core.List.{List, [], _++_, map, append-nil}
 use lib.ListN.{length, getD}
 use Rattle.definition.specs.Basic.{Answer, ok, refused}
-use Rattle.definition.specs.Syntax.{Bytes}
+use Rattle.definition.specs.Syntax.{Bytes, Identifier}
+use Rattle.definition.specs.Names.{Scope}
 use Rattle.definition.specs.Binary.{joined}
 use native.Mathlib.Omega.{arith}
 use Rattle.emit.specs.Put.{Put}
@@ -13,6 +14,7 @@ use Rattle.space.proofs.Kept.{kept-less, kept-then}
 use Rattle.scope.specs.Scope.{scopeIn}
 use Rattle.scope.proofs.Frames.{recalled-scope, scope-kept}
 use Rattle.content.specs.declared.entry.Entry.{Entry}
+use Rattle.content.specs.declared.entry.Entry.the-variants as E
 use Rattle.content.specs.Entry.{Entries, tagged, both, usesOf, sectionNo, answerOf, entryIn, threeIn}
 use Rattle.content.specs.Listed.{Listed, Answers}
 use Rattle.content.specs.declared.entry.Three.{Three}
@@ -20,7 +22,7 @@ use Rattle.content.specs.declared.emitters.EndsAt.{EndsAt}
 use Rattle.content.specs.declared.emitters.EndsAt.the-variants as A
 use Rattle.sections.specs.Emit.{EmitsKept}
 use Rattle.sections.specs.Parts.{partIn}
-use Rattle.sections.specs.Tally.{reached, Twelve, Tallied, NotTallied, Checks, Ready, ReadyThree, ChecksIn}
+use Rattle.sections.specs.Tally.{reached, tallyOf, Twelve, Tallied, NotTallied, Checks, Ready, ReadyThree, ChecksIn}
 use Rattle.sections.specs.declared.tally.Tally.{Tally}
 use Rattle.sections.specs.declared.tally.Verdict.{Verdict}
 use Rattle.sections.specs.declared.tally.Verdict.the-variants as V′
@@ -119,9 +121,13 @@ module _ {a : Answer Entries} {t : Tally} {w : List ℕ} {old : Bytes} {r : Chec
 -- ## Ready after what was written
 
 pub ready-kept : (s w w′ : List ℕ) (r : ℕ) (e : Entry) → Kept 11536 w w′ → Ready s w r e → Ready s w′ r e
-ready-kept s w w′ r e k h = record { recalled = recalled-scope s w w′ (usesOf s r e) (kept-less 11280 11536 (omega arith) k) (h .recalled); few = h .few }
+ready-kept s w w′ r e k h = record { recalled = recalled-scope s w w′ (usesOf s r e) (kept-less 11280 11536 (omega arith) k) (h .recalled); whole = h .whole; few = h .few }
 
 -- ## An entry
+
+-- its section is one of the twelve
+pub in-sizes : (e : Entry) (k : ℕ) (sizes counts : List ℕ) → k ≡ sectionNo e → Twelve (tallyOf sizes counts) → k < length sizes
+in-sizes e k sizes counts d h = rw (h .sizes) (section-below e k d)
 
 module _ (s w : List ℕ) (r : ℕ) (e : Entry) (t : Tally) (old : Bytes) (from : ℕ) (q : EndsAt) (w′ : List ℕ) (new : Bytes) (h : EmitsKept s w r e old from q w′ new) where
   pub entry-fine : (k to n : ℕ) (t′ : Tally) → Twelve t → length old * 1 < 2 ^ 63 → q ≡ A.Ends to n → k ≡ sectionNo e → from ≡ getD (t .sizes) k 0 → t′ ≡ reached t k to n
@@ -142,52 +148,96 @@ module _ (s w : List ℕ) (r : ℕ) (e : Entry) (t : Tally) (old : Bytes) (from 
 
 -- ## One entry after another
 
-module _ (A B : Answer Entries) (t : Tally) (w : List ℕ) (old : Bytes) (a : Checked) (w₁ : List ℕ) (mid : Bytes) (x : ChecksIn A t w old a w₁ mid) where
-  then-by : (b : Tally) (v : Verdict) (w₂ : List ℕ) (new : Bytes) → a .verdict ≡ V′.Fine → ChecksIn B (a .tally) w₁ mid (record { tally = b; verdict = v }) w₂ new
-      → ChecksIn (both A B) t w old (record { tally = b; verdict = v }) w₂ new
+module _ (A B : Answer Entries) (t t₁ : Tally) (w : List ℕ) (old : Bytes) (v : Verdict) (w₁ : List ℕ) (mid : Bytes) (x : ChecksIn A t w old (record { tally = t₁; verdict = v }) w₁ mid) where
+  then-by : (b : Tally) (z : Verdict) (w₂ : List ℕ) (new : Bytes) → v ≡ V′.Fine → ChecksIn B t₁ w₁ mid (record { tally = b; verdict = z }) w₂ new
+      → ChecksIn (both A B) t w old (record { tally = b; verdict = z }) w₂ new
   unfolding Checks
-  then-by b V′.Fine w₂ new d y = checks-fine (both A B) t b w w₂ old new (tallied-both A B t old mid new (a .tally) b (was-fine x d) (y .says)) (kept-then (fine-kept x d) (y .area))
+  then-by b V′.Fine w₂ new d y = checks-fine (both A B) t b w w₂ old new (tallied-both A B t old mid new t₁ b (was-fine x d) (y .says)) (kept-then (fine-kept x d) (y .area))
   then-by b (V′.Refused n q) w₂ new d y =
-      checks-not (both A B) t b w w₂ old new n q (refused-second A B t old mid new (a .tally) n q (was-fine x d) (y .says .is)) (y .area ∙ fine-kept x d .long) (y .says .long ∙ kept-long x)
+      checks-not (both A B) t b w w₂ old new n q (refused-second A B t old mid new t₁ n q (was-fine x d) (y .says .is)) (y .area ∙ fine-kept x d .long) (y .says .long ∙ kept-long x)
 
-  stops-by : (b : Tally) (n q : ℕ) → a .verdict ≡ V′.Refused n q → ChecksIn (both A B) t w old (record { tally = b; verdict = V′.Refused n q }) w₁ mid
-  stops-by b n q d = checks-not (both A B) t b w w₁ old mid n q (refused-first A B n q (was-not x n q d)) (not-long x n q d) (kept-long x)
+  stops-by : (n q : ℕ) → v ≡ V′.Refused n q → ChecksIn (both A B) t w old (record { tally = t₁; verdict = V′.Refused n q }) w₁ mid
+  stops-by n q d = checks-not (both A B) t t₁ w w₁ old mid n q (refused-first A B n q (was-not x n q d)) (not-long x n q d) (kept-long x)
+
+-- what is ready stays so
+pub after-ready : (a : Answer Entries) (t : Tally) (w : List ℕ) (old : Bytes) (q : Checked) (w₁ : List ℕ) (mid : Bytes) (s : List ℕ) (r : ℕ) (f : Entry)
+    → ChecksIn a t w old q w₁ mid → q .verdict ≡ V′.Fine → Ready s w r f → Ready s w₁ r f
+after-ready a t w old q w₁ mid s r f x d h = ready-kept s w w₁ r f (fine-kept x d) h
+
+-- slices of the same lengths are a tally too
+pub after-twelve : (sizes counts sizes′ counts′ : List ℕ) → Twelve (tallyOf sizes counts) → length sizes′ ≡ length sizes → length counts′ ≡ length counts → Twelve (tallyOf sizes′ counts′)
+after-twelve sizes counts sizes′ counts′ h d e = record { sizes = d ∙ h .sizes; counts = e ∙ h .counts }
 
 -- the scope after what was written
 scope-same : (s w w′ : List ℕ) → Kept 11536 w w′ → scopeIn s w′ ≡ scopeIn s w
 scope-same s w w′ k = scope-kept s w w′ (kept-less 11280 11536 (omega arith) k)
 
-module _ (s w : List ℕ) (r : ℕ) (t : Tally) (e : Entry) (old : Bytes) (a : Checked) (w₁ : List ℕ) (mid : Bytes) (x : ChecksIn (entryIn (scopeIn s w) s r e) t w old a w₁ mid) (v : Verdict) (g : v ≡ a .verdict) where
-  pub after-ready : (f : Entry) → v ≡ V′.Fine → Ready s w r f → Ready s w₁ r f
-  after-ready f d h = ready-kept s w w₁ r f (fine-kept x (sym g ∙ d)) h
-
-  pub after-twelve : v ≡ V′.Fine → Twelve t → Twelve (a .tally)
-  after-twelve d h = tallied-twelve (was-fine x (sym g ∙ d)) h
-
+module _ (s w : List ℕ) (r : ℕ) (t t₁ : Tally) (e : Entry) (old : Bytes) (v : Verdict) (w₁ : List ℕ) (mid : Bytes) (x : ChecksIn (entryIn (scopeIn s w) s r e) t w old (record { tally = t₁; verdict = v }) w₁ mid) where
   -- two entries
-  pub two-then : (f : Entry) (z : Checked) (w₂ : List ℕ) (new : Bytes) → v ≡ V′.Fine → ChecksIn (entryIn (scopeIn s w₁) s r f) (a .tally) w₁ mid z w₂ new
-      → ChecksIn (both (entryIn (scopeIn s w) s r e) (entryIn (scopeIn s w) s r f)) t w old z w₂ new
-  two-then f z w₂ new d y =
-      then-by (entryIn (scopeIn s w) s r e) (entryIn (scopeIn s w) s r f) t w old a w₁ mid x (z .tally) (z .verdict) w₂ new (sym g ∙ d)
-      (let k = scope-same s w w₁ (fine-kept x (sym g ∙ d)) in rw k at y)
+  pub two-then : (f : Entry) (b : Tally) (z : Verdict) (w₂ : List ℕ) (new : Bytes) → v ≡ V′.Fine → ChecksIn (entryIn (scopeIn s w₁) s r f) t₁ w₁ mid (record { tally = b; verdict = z }) w₂ new
+      → ChecksIn (both (entryIn (scopeIn s w) s r e) (entryIn (scopeIn s w) s r f)) t w old (record { tally = b; verdict = z }) w₂ new
+  two-then f b z w₂ new d y =
+      then-by (entryIn (scopeIn s w) s r e) (entryIn (scopeIn s w) s r f) t t₁ w old v w₁ mid x b z w₂ new d
+      (let k = scope-same s w w₁ (fine-kept x d) in rw k at y)
 
   pub two-not : (f : Entry) (n q : ℕ) → v ≡ V′.Refused n q
-      → ChecksIn (both (entryIn (scopeIn s w) s r e) (entryIn (scopeIn s w) s r f)) t w old (record { tally = a .tally; verdict = V′.Refused n q }) w₁ mid
-  two-not f n q d = stops-by (entryIn (scopeIn s w) s r e) (entryIn (scopeIn s w) s r f) t w old a w₁ mid x (a .tally) n q (sym g ∙ d)
+      → ChecksIn (both (entryIn (scopeIn s w) s r e) (entryIn (scopeIn s w) s r f)) t w old (record { tally = t₁; verdict = V′.Refused n q }) w₁ mid
+  two-not f n q d = stops-by (entryIn (scopeIn s w) s r e) (entryIn (scopeIn s w) s r f) t t₁ w old v w₁ mid x n q d
 
-module _ (s w : List ℕ) (r : ℕ) (t : Tally) (y : Three) (old : Bytes) (a : Checked) (w₁ : List ℕ) (mid : Bytes) (x : ChecksIn (entryIn (scopeIn s w) s r (y .first)) t w old a w₁ mid) (v : Verdict) (g : v ≡ a .verdict) where
+-- ## Entries that are nothing
+
+nothing-is : (e : Entry) → sectionNo e ≡ 0 → e ≡ E.Nothing
+nothing-is E.Nothing d = refl
+nothing-is (E.Type ps rs) d = absurd (omega arith)
+nothing-is (E.Import n x) d = absurd (omega arith)
+nothing-is (E.Func t) d = absurd (omega arith)
+nothing-is (E.Table t) d = absurd (omega arith)
+nothing-is (E.InlineTable w xs) d = absurd (omega arith)
+nothing-is (E.Mem l) d = absurd (omega arith)
+nothing-is (E.InlineMem w b) d = absurd (omega arith)
+nothing-is (E.Global t c) d = absurd (omega arith)
+nothing-is (E.Export n k x) d = absurd (omega arith)
+nothing-is (E.Exports es k n) d = absurd (omega arith)
+nothing-is (E.Start x) d = absurd (omega arith)
+nothing-is (E.Elem m xs) d = absurd (omega arith)
+nothing-is (E.InlineElem w n xs) d = absurd (omega arith)
+nothing-is (E.Code t ls here) d = absurd (omega arith)
+nothing-is (E.Data m b) d = absurd (omega arith)
+nothing-is (E.InlineData w n b) d = absurd (omega arith)
+
+entry-nothing : (Γ : Scope Identifier) (s : Bytes) (r : ℕ) (e : Entry) → sectionNo e ≡ 0 → entryIn Γ s r e ≡ ok []
+unfolding entryIn tagged answerOf
+entry-nothing Γ s r e d = rw (nothing-is e d) refl
+
+both-nothing : (a : Answer Entries) → both a (both (ok []) (ok [])) ≡ a
+unfolding both
+both-nothing (ok xs) = ap ok (append-nil xs)
+both-nothing (refused n r) = refl
+
+-- a field with one entry
+three-is : (Γ : Scope Identifier) (s : Bytes) (r : ℕ) (y : Three) → sectionNo (y .second) ≡ 0 → sectionNo (y .third) ≡ 0 → threeIn Γ s r y ≡ entryIn Γ s r (y .first)
+unfolding threeIn
+three-is Γ s r y d e = rw (entry-nothing Γ s r (y .second) d, entry-nothing Γ s r (y .third) e) (both-nothing (entryIn Γ s r (y .first)))
+
+-- ## The entries of a field
+
+module _ (s w : List ℕ) (r : ℕ) (t t₁ : Tally) (y : Three) (old : Bytes) (v : Verdict) (w₁ : List ℕ) (mid : Bytes) (x : ChecksIn (entryIn (scopeIn s w) s r (y .first)) t w old (record { tally = t₁; verdict = v }) w₁ mid) where
   -- all three
-  pub three-then : (z : Checked) (w₂ : List ℕ) (new : Bytes) → v ≡ V′.Fine
-      → ChecksIn (both (entryIn (scopeIn s w₁) s r (y .second)) (entryIn (scopeIn s w₁) s r (y .third))) (a .tally) w₁ mid z w₂ new → ChecksIn (threeIn (scopeIn s w) s r y) t w old z w₂ new
+  pub three-then : (b : Tally) (z : Verdict) (w₂ : List ℕ) (new : Bytes) → v ≡ V′.Fine
+      → ChecksIn (both (entryIn (scopeIn s w₁) s r (y .second)) (entryIn (scopeIn s w₁) s r (y .third))) t₁ w₁ mid (record { tally = b; verdict = z }) w₂ new
+      → ChecksIn (threeIn (scopeIn s w) s r y) t w old (record { tally = b; verdict = z }) w₂ new
   unfolding threeIn
-  three-then z w₂ new d h =
-      then-by (entryIn (scopeIn s w) s r (y .first)) (both (entryIn (scopeIn s w) s r (y .second)) (entryIn (scopeIn s w) s r (y .third))) t w old a w₁ mid x (z .tally) (z .verdict) w₂ new (sym g ∙ d)
-      (let k = scope-same s w w₁ (fine-kept x (sym g ∙ d)) in rw k at h)
+  three-then b z w₂ new d h =
+      then-by (entryIn (scopeIn s w) s r (y .first)) (both (entryIn (scopeIn s w) s r (y .second)) (entryIn (scopeIn s w) s r (y .third))) t t₁ w old v w₁ mid x b z w₂ new d
+      (let k = scope-same s w w₁ (fine-kept x d) in rw k at h)
 
-  pub three-not : (n q : ℕ) → v ≡ V′.Refused n q → ChecksIn (threeIn (scopeIn s w) s r y) t w old (record { tally = a .tally; verdict = V′.Refused n q }) w₁ mid
+  -- only the first
+  pub three-one : (k : ℕ) → v ≡ V′.Fine → k ≡ sectionNo (y .second) → k ≡ 0 → ReadyThree s w r y → ChecksIn (threeIn (scopeIn s w) s r y) t w old (record { tally = t₁; verdict = V′.Fine }) w₁ mid
+  three-one k d e z h = let a = sym e ∙ z in rw (three-is (scopeIn s w) s r y a (h .alone a)) (rw d at x)
+
+  pub three-not : (n q : ℕ) → v ≡ V′.Refused n q → ChecksIn (threeIn (scopeIn s w) s r y) t w old (record { tally = t₁; verdict = V′.Refused n q }) w₁ mid
   unfolding threeIn
-  three-not n q d =
-      stops-by (entryIn (scopeIn s w) s r (y .first)) (both (entryIn (scopeIn s w) s r (y .second)) (entryIn (scopeIn s w) s r (y .third))) t w old a w₁ mid x (a .tally) n q (sym g ∙ d)
+  three-not n q d = stops-by (entryIn (scopeIn s w) s r (y .first)) (both (entryIn (scopeIn s w) s r (y .second)) (entryIn (scopeIn s w) s r (y .third))) t t₁ w old v w₁ mid x n q d
 
 module _ (s w : List ℕ) (r : ℕ) (y : Three) (h : ReadyThree s w r y) where
   pub three-first : Ready s w r (y .first)

@@ -22,6 +22,8 @@ use Rattle.binary.specs.Emits.{Emits}
 use Rattle.binary.specs.declared.Emitted.{Emitted}
 use Rattle.binary.specs.declared.Emitted.the-variants as T
 use Rattle.scope.specs.Scope.{scopeIn, Recalled}
+use Rattle.scope.proofs.Frames.{recalled-left, recalled-right}
+use Rattle.code.specs.Body.{Resolvable}
 use Rattle.function.specs.Function.{codeOf, EmitsFunc}
 use Rattle.content.specs.Entry.{oneOf, sectionNo, answerOf, usesOf, FewIn}
 use Rattle.content.specs.Listed.{Answers, oneEnd, otherAnswer}
@@ -82,9 +84,15 @@ module _ (s w : List ℕ) (r : ℕ) (e : Entry) (h : Ready s w r e) (c : CodeIn)
   code : e ≡ E.Code t ls here
   code = code-is e t ls here (sym told ∙ d)
 
-  pub code-uses : Recalled w (typesIn s w) (Types.usedAt r (Types.useOf (useOf s t)) ++ Types.bodyUses (r + 1) (bodyFrom (4096 - (r + 1)) 0 s here))
+  uses : Recalled w (typesIn s w) (Types.usedAt r (Types.useOf (useOf s t)) ++ Types.bodyUses (r + 1) (bodyFrom (4096 - (r + 1)) 0 s here))
   unfolding usesOf
-  code-uses = (let u = h .recalled in rw code at u)
+  uses = (let u = h .recalled in rw code at u)
+
+  pub code-use : Recalled w (typesIn s w) (Types.usedAt r (Types.useOf (useOf s t)))
+  code-use = recalled-left w (typesIn s w) (Types.usedAt r (Types.useOf (useOf s t))) _ uses
+
+  pub code-body : Resolvable s w (r + 1) 0 here
+  code-body = record { recalled = recalled-right w (typesIn s w) (Types.usedAt r (Types.useOf (useOf s t))) _ uses; whole = (let u = h .whole in rw code at u) }
 
   few : FewIn s (E.Code t ls here)
   few = (let u = h .few in rw code at u)

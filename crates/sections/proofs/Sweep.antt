@@ -9,7 +9,14 @@ use Rattle.definition.specs.Syntax.{Bytes, Identifier}
 use Rattle.definition.specs.Types.{uses}
 use Rattle.definition.specs.Names.{Scope, resolveAll}
 use Rattle.fields.specs.Views.{fieldOf}
+use Rattle.typeuse.specs.declared.List as CodeList
+use Rattle.sources.specs.declared.seen.Seen.{Seen}
+use Rattle.sources.specs.declared.source.Own.{Own}
+use Rattle.sources.specs.declared.source.Own.the-variants as O
+use Rattle.sources.specs.declared.source.Source.{Source}
+use Rattle.sources.specs.declared.source.Source.the-variants as S
 use Rattle.fields.specs.declared.field.Field as Code
+use Rattle.fields.specs.declared.field.Field.the-variants as F
 use Rattle.space.specs.Kept.{Kept}
 use Rattle.space.proofs.Kept.{kept-then, kept-same, kept-less}
 use Rattle.signatures.specs.Table.{typesIn}
@@ -17,16 +24,18 @@ use Rattle.walk.specs.Walk.{begin, visitIn, visitOf, fieldsHere, fieldsAhead, f
 use Rattle.walk.specs.declared.Cursor.{Cursor}
 use Rattle.walk.specs.declared.Met.{Met}
 use Rattle.walk.specs.declared.What.the-variants as W
-use Rattle.walk.proofs.Steps.{visit-done, visit-fields, visit-ahead, ahead-kept, visit-func-few}
+use Rattle.walk.proofs.Steps.{visit-done, visit-fields, visit-whole, visit-ahead, ahead-kept, visit-func-few}
 use Rattle.types.proofs.Fields.{uses-append}
 use Rattle.scope.specs.Scope.{scopeIn, Recalled}
 use Rattle.scope.proofs.Frames.{scope-kept, recalled-left, recalled-right, recalled-scope}
-use Rattle.content.specs.Entry.{Entries, entriesOf, both, threeIn, three}
+use Rattle.content.specs.Entry.{Entries, entriesOf, both, sectionNo, ownSpaceOf, exportsOf, ownThree, sourceThree, three, threeIn}
+use Rattle.content.specs.declared.entry.Entry.{Entry}
 use Rattle.content.specs.declared.entry.Three.{Three}
 use Rattle.content.proofs.Fields.{entries-append, entries-here}
-use Rattle.content.proofs.Uses.{recalled-here, few-here}
-use Rattle.sections.specs.Tally.{tallies, noTally, Twelve, Keeps, Tallied, ReadyThree, ChecksIn}
+use Rattle.content.proofs.Uses.{recalled-here, few-here, whole-here}
+use Rattle.sections.specs.Tally.{tallies, noTally, tallyOf, Twelve, Keeps, Tallied, ReadyThree, ChecksIn}
 use Rattle.sections.specs.declared.tally.Tally.{Tally}
+use Rattle.sections.specs.declared.tally.Verdict.{Verdict}
 use Rattle.sections.specs.declared.tally.Verdict.the-variants as V′
 use Rattle.sections.specs.declared.tally.Checked.{Checked}
 use Rattle.sections.proofs.Tallies.{tallies-append, tallies-twelve}
@@ -56,7 +65,30 @@ entries-none : (Γ : Scope Identifier) → entriesOf Γ [] ≡ ok []
 unfolding entriesOf resolveAll each _>>=_ concatMap
 entries-none Γ = refl
 
-pub record Sweeping (s w₀ w : List ℕ) (old new : Bytes) (c : Cursor) (t : Tally) : Type 0 where
+-- where a field's second entry is nothing, so is its third
+alone-own : (es : Entry) (o : Own) (here : ℕ) → sectionNo (ownThree es o here .second) ≡ 0 → sectionNo (ownThree es o here .third) ≡ 0
+alone-own es (O.Func t ls) here d = absurd (omega arith)
+alone-own es (O.Table t) here d = refl
+alone-own es (O.Mem l) here d = refl
+alone-own es (O.Global t c) here d = refl
+
+alone-source : (es : CodeList.List) (x : Source) (seen : Seen) (here : ℕ) → sectionNo (sourceThree es x seen here .second) ≡ 0 → sectionNo (sourceThree es x seen here .third) ≡ 0
+alone-source es (S.Own o) seen here d = alone-own (exportsOf es (ownSpaceOf o) seen) o here d
+alone-source es (S.Imported n x) seen here d = refl
+alone-source es (S.TableOf w xs) seen here d = absurd (omega arith)
+alone-source es (S.MemOf w b) seen here d = absurd (omega arith)
+
+alone-here : (f : Code.Field) (seen : Seen) (here : ℕ) → sectionNo (three f seen here .second) ≡ 0 → sectionNo (three f seen here .third) ≡ 0
+alone-here (F.Type i ps rs) seen here d = refl
+alone-here (F.Import n i x) seen here d = refl
+alone-here (F.Item i es x) seen here d = alone-source es x seen here d
+alone-here (F.Export n k x) seen here d = refl
+alone-here (F.Start x) seen here d = refl
+alone-here (F.Elem i m xs) seen here d = refl
+alone-here (F.Data i m b) seen here d = refl
+
+pub record Sweeping (s w₀ w : List ℕ) (old new : Bytes) (c : Cursor) (t₀ t : Tally) : Type 0 where
+  pub start : t₀ ≡ noTally
   pub done : Entries
   pub same : entriesOf (scopeIn s w₀) (fieldsIn s) ≡ both (ok done) (entriesOf (scopeIn s w₀) (fieldsAhead c s))
   pub tally : t ≡ tallies noTally done
@@ -67,10 +99,11 @@ pub record Sweeping (s w₀ w : List ℕ) (old new : Bytes) (c : Cursor) (t : Ta
 
 -- before the first field
 pub sweep-begin : (s w : List ℕ) (old : Bytes) (c : Cursor) (t : Tally) → c ≡ begin → t ≡ noTally → length old * 1 < 2 ^ 63 → Ahead s w begin → Recalled w (typesIn s w) (uses (fieldsIn s))
-    → Sweeping s w w old old c t
+    → Sweeping s w w old old c t t
 unfolding fieldsIn tallies
 sweep-begin s w old c t e d f a h =
     record {
+      start = d;
       done = [];
       same = sym (nothing-onto (entriesOf (scopeIn s w) (fieldsIn s))) ∙ rw e refl;
       tally = d;
@@ -83,7 +116,7 @@ sweep-begin s w old c t e d f a h =
 no-twelve : Twelve noTally
 no-twelve = record { sizes = refl; counts = refl }
 
-module _ (s w₀ w : List ℕ) (old mid : Bytes) (c : Cursor) (t : Tally) (v : Sweeping s w₀ w old mid c t) where
+module _ (s w₀ w : List ℕ) (old mid : Bytes) (c : Cursor) (t₀ t : Tally) (v : Sweeping s w₀ w old mid c t₀ t) where
   pub sweep-long : 16384 ≤ length w₀ → 16384 ≤ length w
   sweep-long h = rw (v .kept .long) h
 
@@ -98,9 +131,6 @@ module _ (s w₀ w : List ℕ) (old mid : Bytes) (c : Cursor) (t : Tally) (v : S
     pub sweep-done : m .what ≡ W.Done → Tallied (entriesOf (scopeIn s w₀) (fieldsIn s)) noTally old t mid
     sweep-done is =
         record { entries = v .done; is = v .same ∙ rw (visit-done s c m told is, entries-none (scopeIn s w₀)) (onto-nothing (v .done)); tally = v .tally; keeps = v .keeps }
-
-    pub sweep-kept : Kept 11536 w₀ w
-    sweep-kept = v .kept
 
     module _ (f : Code.Field) (here : ℕ) (is : m .what ≡ W.Field f here) (x : Three) (d : x ≡ three f (c .seen) here) where
       fields : entriesOf (scopeIn s w₀) (fieldsAhead c s) ≡ both (threeIn (scopeIn s w) s (c .rec) x) (entriesOf (scopeIn s w₀) (fieldsAhead (m .next) s))
@@ -120,49 +150,61 @@ module _ (s w₀ w : List ℕ) (old mid : Bytes) (c : Cursor) (t : Tally) (v : S
       sweep-ready =
           let k = kept-less 11280 11536 (omega arith) (v .kept) in
           let a = recalled-here w₀ (typesIn s w₀) s c (m .next) f here sweep-uses in
+          let z = whole-here s (c .rec) (c .seen) f here (visit-whole s c m told f here is w (v .ahead)) in
           let b = few-here s (c .seen) f here (λ i es t ls e. visit-func-few s c m told f here is i es t ls e) in
           rw d (record {
-            first = record { recalled = recalled-scope s w₀ w _ k (a .first); few = b .first };
-            second = record { recalled = recalled-scope s w₀ w _ k (a .second); few = b .second };
-            third = record { recalled = recalled-scope s w₀ w _ k (a .third); few = b .third };
+            first = record { recalled = recalled-scope s w₀ w _ k (a .first); whole = z .first; few = b .first };
+            second = record { recalled = recalled-scope s w₀ w _ k (a .second); whole = z .second; few = b .second };
+            third = record { recalled = recalled-scope s w₀ w _ k (a .third); whole = z .third; few = b .third };
+            alone = alone-here f (c .seen) here;
           })
 
-      module _ (r : Checked) (w′ : List ℕ) (new : Bytes) (h : ChecksIn (threeIn (scopeIn s w) s (c .rec) x) t w mid r w′ new) where
-        -- a field that is fine
-        pub sweep-again : r .verdict ≡ V′.Fine → Sweeping s w₀ w′ old new (m .next) (r .tally)
-        sweep-again e =
-            let y = was-fine h e in
-            let k = fine-kept h e in
-            record {
-              done = v .done ++ y .entries;
-              same = v .same ∙ rw fields (onto (v .done) (y .entries) (threeIn (scopeIn s w) s (c .rec) x) (entriesOf (scopeIn s w₀) (fieldsAhead (m .next) s)) (y .is));
-              tally = y .tally ∙ ap (λ (z : Tally). tallies z (y .entries)) (v .tally) ∙ sym (tallies-append noTally (v .done) (y .entries));
-              keeps = keeps-then old mid new noTally t (v .done) (y .entries) (v .tally) (v .keeps) (y .keeps);
-              kept = kept-then (v .kept) k;
-              ahead = visit-ahead s c m told f here is w′ (ahead-kept s w w′ c (kept-less 520 11536 (omega arith) k) (v .ahead));
-              recalled = recalled-right w₀ (typesIn s w₀) (uses (fieldsHere c s (record { field = fieldOf s f; head-end = here; next = m .next }))) (uses (fieldsAhead (m .next) s)) (rw uses-are at (v .recalled));
-            }
+      -- one that is fine
+      pub sweep-again : (t′ : Tally) (r : Verdict) (w′ : List ℕ) (new : Bytes) → ChecksIn (threeIn (scopeIn s w) s (c .rec) x) t w mid (record { tally = t′; verdict = r }) w′ new → r ≡ V′.Fine
+          → Sweeping s w₀ w′ old new (m .next) t₀ t′
+      sweep-again t′ r w′ new h e =
+          let y = was-fine h e in
+          let k = fine-kept h e in
+          record {
+            start = v .start;
+            done = v .done ++ y .entries;
+            same = v .same ∙ rw fields (onto (v .done) (y .entries) (threeIn (scopeIn s w) s (c .rec) x) (entriesOf (scopeIn s w₀) (fieldsAhead (m .next) s)) (y .is));
+            tally = y .tally ∙ ap (λ (z : Tally). tallies z (y .entries)) (v .tally) ∙ sym (tallies-append noTally (v .done) (y .entries));
+            keeps = keeps-then old mid new noTally t (v .done) (y .entries) (v .tally) (v .keeps) (y .keeps);
+            kept = kept-then (v .kept) k;
+            ahead = visit-ahead s c m told f here is w′ (ahead-kept s w w′ c (kept-less 520 11536 (omega arith) k) (v .ahead));
+            recalled = recalled-right w₀ (typesIn s w₀) (uses (fieldsHere c s (record { field = fieldOf s f; head-end = here; next = m .next }))) (uses (fieldsAhead (m .next) s)) (rw uses-are at (v .recalled));
+          }
 
-        -- one that is not
-        pub sweep-stops : (n q : ℕ) → r .verdict ≡ V′.Refused n q → entriesOf (scopeIn s w₀) (fieldsIn s) ≡ refused n q
-        sweep-stops n q e =
-            v .same ∙ rw fields (onto-not (v .done) n q (threeIn (scopeIn s w) s (c .rec) x) (entriesOf (scopeIn s w₀) (fieldsAhead (m .next) s)) (was-not h n q e))
+      -- one that is not
+      sweep-stops : (n q : ℕ) → threeIn (scopeIn s w) s (c .rec) x ≡ refused n q → entriesOf (scopeIn s w₀) (fieldsIn s) ≡ refused n q
+      sweep-stops n q e = v .same ∙ rw fields (onto-not (v .done) n q (threeIn (scopeIn s w) s (c .rec) x) (entriesOf (scopeIn s w₀) (fieldsAhead (m .next) s)) e)
 
-        pub sweep-length : length w′ ≡ length w₀
-        sweep-length = area-long h ∙ v .kept .long
+  -- what was written is as long as it was
+  module _ (a : Answer Entries) (q : Checked) (w′ : List ℕ) (new : Bytes) (h : ChecksIn a t w mid q w′ new) where
+    pub sweep-length : length w′ ≡ length w₀
+    sweep-length = area-long h ∙ v .kept .long
 
-        pub sweep-bytes : length new ≡ length old
-        sweep-bytes = kept-long h ∙ v .keeps .long
+    pub sweep-bytes : length new ≡ length old
+    sweep-bytes = kept-long h ∙ v .keeps .long
+
+-- the slices are as long as they were
+module _ (s w₀ w : List ℕ) (old mid : Bytes) (c : Cursor) (sizes₀ counts₀ sizes counts : List ℕ) (v : Sweeping s w₀ w old mid c (tallyOf sizes₀ counts₀) (tallyOf sizes counts)) (l : List ℕ) where
+  pub sweep-sizes : length l ≡ length sizes → length l ≡ length sizes₀
+  sweep-sizes d = d ∙ sweep-twelve s w₀ w old mid c (tallyOf sizes₀ counts₀) (tallyOf sizes counts) v .sizes ∙ sym (ap (λ (t : Tally). length (t .sizes)) (v .start))
+
+  pub sweep-counts : length l ≡ length counts → length l ≡ length counts₀
+  sweep-counts d = d ∙ sweep-twelve s w₀ w old mid c (tallyOf sizes₀ counts₀) (tallyOf sizes counts) v .counts ∙ sym (ap (λ (t : Tally). length (t .counts)) (v .start))
 
 -- ## What the code answers
 
-module _ (s w₀ w : List ℕ) (old mid : Bytes) (c : Cursor) (t : Tally) (v : Sweeping s w₀ w old mid c t) (m : Met) (told : visitIn (c .left) c s ≡ visitOf s m) where
+module _ (s w₀ w : List ℕ) (old mid : Bytes) (c : Cursor) (t₀ t : Tally) (v : Sweeping s w₀ w old mid c t₀ t) (m : Met) (told : visitIn (c .left) c s ≡ visitOf s m) where
   pub swept : m .what ≡ W.Done → ChecksIn (entriesOf (scopeIn s w₀) (fieldsIn s)) noTally w₀ old (record { tally = t; verdict = V′.Fine }) w mid
-  swept is = checks-fine _ noTally t w₀ w old mid (sweep-done s w₀ w old mid c t v m told is) (v .kept)
+  swept is = checks-fine _ noTally t w₀ w old mid (sweep-done s w₀ w old mid c t₀ t v m told is) (v .kept)
 
-  pub stopped : (f : Code.Field) (here : ℕ) (is : m .what ≡ W.Field f here) (x : Three) (d : x ≡ three f (c .seen) here) (r : Checked) (w′ : List ℕ) (new : Bytes)
-      (h : ChecksIn (threeIn (scopeIn s w) s (c .rec) x) t w mid r w′ new) (n q : ℕ) → r .verdict ≡ V′.Refused n q
-      → ChecksIn (entriesOf (scopeIn s w₀) (fieldsIn s)) noTally w₀ old (record { tally = r .tally; verdict = V′.Refused n q }) w′ new
-  stopped f here is x d r w′ new h n q e =
-      checks-not _ noTally (r .tally) w₀ w′ old new n q (sweep-stops s w₀ w old mid c t v m told f here is x d r w′ new h n q e) (sweep-length s w₀ w old mid c t v m told f here is x d r w′ new h)
-      (sweep-bytes s w₀ w old mid c t v m told f here is x d r w′ new h)
+  pub stopped : (a : Answer Entries) (q : Checked) (w′ : List ℕ) (new : Bytes) (f : Code.Field) (here : ℕ) (x : Three) (n k : ℕ) (t′ : Tally) → ChecksIn a t w mid q w′ new → m .what ≡ W.Field f here
+      → x ≡ three f (c .seen) here → a ≡ threeIn (scopeIn s w) s (c .rec) x → q .verdict ≡ V′.Refused n k
+      → ChecksIn (entriesOf (scopeIn s w₀) (fieldsIn s)) noTally w₀ old (record { tally = t′; verdict = V′.Refused n k }) w′ new
+  stopped a q w′ new f here x n k t′ h is d g e =
+      checks-not _ noTally t′ w₀ w′ old new n k (sweep-stops s w₀ w old mid c t₀ t v m told f here is x d n k (sym g ∙ was-not h n k e)) (sweep-length s w₀ w old mid c t₀ t v a q w′ new h)
+      (sweep-bytes s w₀ w old mid c t₀ t v a q w′ new h)

@@ -13,7 +13,7 @@ use Rattle.definition.specs.Syntax.{Bytes}
 use Rattle.definition.specs.Binary.{inSection, joined}
 use Rattle.emit.specs.Put.{past}
 use Rattle.content.specs.Entry.{Entries}
-use Rattle.sections.specs.Tally.{added, reached, tallies, Twelve}
+use Rattle.sections.specs.Tally.{added, reached, tallies, tallyOf, Twelve}
 use Rattle.sections.specs.declared.tally.Tally.{Tally}
 
 -- ## Places that saturate
@@ -150,3 +150,7 @@ module _ (k : ℕ) (h : k < 12) where
 pub reach-is : (t : Tally) (k to b n : ℕ) → b ≡ past (getD (t .counts) k 0) n → record { sizes = set (t .sizes) k to; counts = set (t .counts) k b } ≡ reached t k to n
 unfolding reached
 reach-is t k to b n e = rw e refl
+
+-- the same, in place
+pub reach-in-is : (sizes counts : List ℕ) (k to b n : ℕ) → b ≡ past (getD counts k 0) n → tallyOf (set sizes k to) (set counts k b) ≡ reached (tallyOf sizes counts) k to n
+reach-in-is sizes counts k to b n e = reach-is (tallyOf sizes counts) k to b n e

@@ -10,7 +10,7 @@ use Rattle.emit.specs.Put.{past, Put}
 use Rattle.space.specs.Kept.{Kept}
 use Rattle.signatures.specs.Table.{typesIn}
 use Rattle.scope.specs.Scope.{Recalled}
-use Rattle.content.specs.Entry.{Entries, usesOf, FewIn}
+use Rattle.content.specs.Entry.{Entries, sectionNo, usesOf, FewIn, WholeIn}
 use Rattle.content.specs.declared.entry.Entry.{Entry}
 use Rattle.content.specs.declared.entry.Three.{Three}
 use Rattle.sections.specs.Parts.{partIn}
@@ -34,6 +34,13 @@ tallies t ((k, b) ∷ es) = tallies (added t k (length b) 1) es
 
 abbrev pub noTally : Tally
 noTally = record { sizes = replicate 12 0; counts = replicate 12 0 }
+
+-- a tally as two slices, and with it what the code answers
+abbrev pub tallyOf : List ℕ → List ℕ → Tally
+tallyOf sizes counts = record { sizes = sizes; counts = counts }
+
+abbrev pub checkedOf : List ℕ → List ℕ → Verdict → Checked
+checkedOf sizes counts v = record { tally = tallyOf sizes counts; verdict = v }
 
 -- sections 0 to 11
 pub record Twelve (t : Tally) : Type 0 where
@@ -65,15 +72,18 @@ Checks a t old r new = ChecksBy a t old (r .verdict) (r .tally) new
 
 -- ## What checking needs, and leaves
 
--- an entry's type uses have their numbers, and a function few enough parameters and locals
+-- an entry's type uses have their numbers; a function's body reads to its end, and it has few enough parameters and locals
 pub record Ready (s w : List ℕ) (r : ℕ) (e : Entry) : Type 0 where
   pub recalled : Recalled w (typesIn s w) (usesOf s r e)
+  pub whole : WholeIn s r e
   pub few : FewIn s e
 
+-- so are a field's entries; where the second is nothing, so is the third
 pub record ReadyThree (s w : List ℕ) (r : ℕ) (x : Three) : Type 0 where
   pub first : Ready s w r (x .first)
   pub second : Ready s w r (x .second)
   pub third : Ready s w r (x .third)
+  pub alone : sectionNo (x .second) ≡ 0 → sectionNo (x .third) ≡ 0
 
 abbrev pub AreaBy : Verdict → List ℕ → List ℕ → Type 0
 AreaBy V′.Fine w w′ = Kept 11536 w w′

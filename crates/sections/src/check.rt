@@ -14,82 +14,111 @@ ghost use Rattle.signatures.specs.Table.{typesIn};
 ghost use Rattle.walk.specs.Walk.{Ahead, begin, fieldsIn};
 ghost use Rattle.scope.specs.Scope.{scopeIn, Recalled};
 ghost use Rattle.content.specs.Entry.{both, entryIn, threeIn, entriesOf};
-ghost use Rattle.sections.specs.Tally.{Twelve, Ready, ReadyThree, ChecksIn, noTally};
+ghost use Rattle.sections.specs.Tally.{Twelve, Ready, ReadyThree, ChecksIn, noTally, tallyOf, checkedOf};
 
 // One entry: it is kept, and tallied.
-fn check_entry(s: &[u8], work: &mut [u32], kept: &mut [u8], t: Tally, e: Entry, rec: u32) -> Checked
-    requires { ⌜ (length (now s) ≤ 65536) × (16384 ≤ length (now work)) × (rec < 4096) × Ready (now s) (now work) rec e × Twelve t ⌝ }
-    ensures { λ r. ⌜ ChecksIn (entryIn (scopeIn (now (s .entry)) (now (work .entry))) (now (s .entry)) rec e) t (now (work .entry)) (now (kept .entry)) r (now (work .exit)) (now (kept .exit)) ⌝ }
+fn check_entry(
+    s: &[u8],
+    work: &mut [u32],
+    kept: &mut [u8],
+    sizes: &mut [u64],
+    counts: &mut [u64],
+    e: Entry,
+    rec: u32,
+) -> Verdict
+    requires { ⌜ (length (now s) ≤ 65536) × (16384 ≤ length (now work)) × (rec < 4096) × Ready (now s) (now work) rec e × Twelve (tallyOf (now sizes) (now counts)) ⌝ }
+    ensures { λ r. ⌜ ChecksIn (entryIn (scopeIn (now (s .entry)) (now (work .entry))) (now (s .entry)) rec e) (tallyOf (now (sizes .entry)) (now (counts .entry))) (now (work .entry)) (now (kept .entry)) (checkedOf (now (sizes .exit)) (now (counts .exit)) r) (now (work .exit)) (now (kept .exit)) ⌝ }
 {
     let k = content::section_of(e);
-    let sizes = t.sizes;
     let from = sizes[k as usize] as usize;
     match crate::parts::emit_kept(s, work, kept, from, e, rec) {
         EndsAt::Ends(to, n) => {
-            let tally = crate::tally::reach(t, k, to, n);
-            Checked {
-                tally,
-                verdict: Verdict::Fine,
-            }
+            crate::tally::reach_in(sizes, counts, k, to, n);
+            Verdict::Fine
         }
-        EndsAt::Refused(n, r) => Checked {
-            tally: t,
-            verdict: Verdict::Refused(n, r),
-        },
+        EndsAt::Refused(n, r) => Verdict::Refused(n, r),
     }
 }
 
-// The third entry of a field.
-fn check_third(s: &[u8], work: &mut [u32], kept: &mut [u8], t: Tally, x: Three, rec: u32) -> Checked
-    requires { ⌜ (length (now s) ≤ 65536) × (16384 ≤ length (now work)) × (rec < 4096) × ReadyThree (now s) (now work) rec x × Twelve t ⌝ }
-    ensures { λ r. ⌜ ChecksIn (entryIn (scopeIn (now (s .entry)) (now (work .entry))) (now (s .entry)) rec (x .third)) t (now (work .entry)) (now (kept .entry)) r (now (work .exit)) (now (kept .exit)) ⌝ }
+// One entry after another.
+fn check_two(
+    s: &[u8],
+    work: &mut [u32],
+    kept: &mut [u8],
+    sizes: &mut [u64],
+    counts: &mut [u64],
+    a: Entry,
+    b: Entry,
+    rec: u32,
+) -> Verdict
+    requires { ⌜ (length (now s) ≤ 65536) × (16384 ≤ length (now work)) × (rec < 4096) × Ready (now s) (now work) rec a × Ready (now s) (now work) rec b × Twelve (tallyOf (now sizes) (now counts)) ⌝ }
+    ensures { λ r. ⌜ ChecksIn (both (entryIn (scopeIn (now (s .entry)) (now (work .entry))) (now (s .entry)) rec a) (entryIn (scopeIn (now (s .entry)) (now (work .entry))) (now (s .entry)) rec b)) (tallyOf (now (sizes .entry)) (now (counts .entry))) (now (work .entry)) (now (kept .entry)) (checkedOf (now (sizes .exit)) (now (counts .exit)) r) (now (work .exit)) (now (kept .exit)) ⌝ }
 {
-    let third = x.third;
-    check_entry(s, work, kept, t, third, rec)
-}
-
-// The second and the third.
-fn check_two(s: &[u8], work: &mut [u32], kept: &mut [u8], t: Tally, x: Three, rec: u32) -> Checked
-    requires { ⌜ (length (now s) ≤ 65536) × (16384 ≤ length (now work)) × (rec < 4096) × ReadyThree (now s) (now work) rec x × Twelve t ⌝ }
-    ensures { λ r. ⌜ ChecksIn (both (entryIn (scopeIn (now (s .entry)) (now (work .entry))) (now (s .entry)) rec (x .second)) (entryIn (scopeIn (now (s .entry)) (now (work .entry))) (now (s .entry)) rec (x .third))) t (now (work .entry)) (now (kept .entry)) r (now (work .exit)) (now (kept .exit)) ⌝ }
-{
-    let second = x.second;
-    let a = check_entry(s, work, kept, t, second, rec);
-    let tally = a.tally;
-    let v = a.verdict;
-    match v {
-        Verdict::Fine => check_third(s, work, kept, tally, x, rec),
-        Verdict::Refused(n, r) => Checked {
-            tally,
-            verdict: Verdict::Refused(n, r),
-        },
+    match check_entry(s, work, kept, sizes, counts, a, rec) {
+        Verdict::Fine => check_entry(s, work, kept, sizes, counts, b, rec),
+        Verdict::Refused(n, r) => Verdict::Refused(n, r),
     }
 }
 
-// All three entries of a field.
-fn check_three(s: &[u8], work: &mut [u32], kept: &mut [u8], t: Tally, x: Three, rec: u32) -> Checked
-    requires { ⌜ (length (now s) ≤ 65536) × (16384 ≤ length (now work)) × (rec < 4096) × ReadyThree (now s) (now work) rec x × Twelve t ⌝ }
-    ensures { λ r. ⌜ ChecksIn (threeIn (scopeIn (now (s .entry)) (now (work .entry))) (now (s .entry)) rec x) t (now (work .entry)) (now (kept .entry)) r (now (work .exit)) (now (kept .exit)) ⌝ }
+// All entries of a field; most have only one.
+fn check_three(
+    s: &[u8],
+    work: &mut [u32],
+    kept: &mut [u8],
+    sizes: &mut [u64],
+    counts: &mut [u64],
+    x: Three,
+    rec: u32,
+) -> Verdict
+    requires { ⌜ (length (now s) ≤ 65536) × (16384 ≤ length (now work)) × (rec < 4096) × ReadyThree (now s) (now work) rec x × Twelve (tallyOf (now sizes) (now counts)) ⌝ }
+    ensures { λ r. ⌜ ChecksIn (threeIn (scopeIn (now (s .entry)) (now (work .entry))) (now (s .entry)) rec x) (tallyOf (now (sizes .entry)) (now (counts .entry))) (now (work .entry)) (now (kept .entry)) (checkedOf (now (sizes .exit)) (now (counts .exit)) r) (now (work .exit)) (now (kept .exit)) ⌝ }
 {
     let first = x.first;
-    let a = check_entry(s, work, kept, t, first, rec);
-    let tally = a.tally;
-    let v = a.verdict;
-    match v {
-        Verdict::Fine => check_two(s, work, kept, tally, x, rec),
-        Verdict::Refused(n, r) => Checked {
-            tally,
-            verdict: Verdict::Refused(n, r),
-        },
+    match check_entry(s, work, kept, sizes, counts, first, rec) {
+        Verdict::Fine => {
+            let second = x.second;
+            if content::section_of(second) == 0 {
+                return Verdict::Fine;
+            }
+            let third = x.third;
+            check_two(s, work, kept, sizes, counts, second, third, rec)
+        }
+        Verdict::Refused(n, r) => Verdict::Refused(n, r),
     }
 }
 
-fn no_tally() -> Tally
-    ensures { λ r. ⌜ r ≡ noTally ⌝ }
+// Every field, in stream order, onto a tally of nothing.
+fn check_all(
+    s: &[u8],
+    work: &mut [u32],
+    kept: &mut [u8],
+    sizes: &mut [u64],
+    counts: &mut [u64],
+) -> Verdict
+    requires { ⌜ (length (now s) ≤ 65536) × (16384 ≤ length (now work)) × Ahead (now s) (now work) begin × Recalled (now work) (typesIn (now s) (now work)) (Types.uses (fieldsIn (now s))) × (tallyOf (now sizes) (now counts) ≡ noTally) ⌝ }
+    ensures { λ r. ⌜ ChecksIn (entriesOf (scopeIn (now (s .entry)) (now (work .entry))) (fieldsIn (now (s .entry)))) noTally (now (work .entry)) (now (kept .entry)) (checkedOf (now (sizes .exit)) (now (counts .exit)) r) (now (work .exit)) (now (kept .exit)) ⌝ }
 {
-    Tally {
-        sizes: [0; 12],
-        counts: [0; 12],
+    let mut c = walk::start();
+    loop {
+        let m = walk::visit(s, work, c);
+        let what = m.what;
+        match what {
+            What::Field(f, here) => {
+                let seen = c.seen;
+                let x = content::entries_of(f, seen, here);
+                match check_three(s, work, kept, sizes, counts, x, c.rec) {
+                    Verdict::Fine => {
+                        c = m.next;
+                    }
+                    Verdict::Refused(n, q) => {
+                        return Verdict::Refused(n, q);
+                    }
+                }
+            }
+            What::Done => {
+                return Verdict::Fine;
+            }
+        }
     }
 }
 
@@ -98,37 +127,11 @@ pub fn check_fields(s: &[u8], work: &mut [u32], kept: &mut [u8]) -> Checked
     requires { ⌜ (length (now s) ≤ 65536) × (16384 ≤ length (now work)) × Ahead (now s) (now work) begin × Recalled (now work) (typesIn (now s) (now work)) (Types.uses (fieldsIn (now s))) ⌝ }
     ensures { λ r. ⌜ ChecksIn (entriesOf (scopeIn (now (s .entry)) (now (work .entry))) (fieldsIn (now (s .entry)))) noTally (now (work .entry)) (now (kept .entry)) r (now (work .exit)) (now (kept .exit)) ⌝ }
 {
-    let mut c = walk::start();
-    let mut t = no_tally();
-    loop {
-        let m = walk::visit(s, work, c);
-        let what = m.what;
-        match what {
-            What::Field(f, here) => {
-                let seen = c.seen;
-                let x = content::entries_of(f, seen, here);
-                let r = check_three(s, work, kept, t, x, c.rec);
-                let tally = r.tally;
-                let v = r.verdict;
-                match v {
-                    Verdict::Fine => {
-                        t = tally;
-                        c = m.next;
-                    }
-                    Verdict::Refused(n, q) => {
-                        return Checked {
-                            tally,
-                            verdict: Verdict::Refused(n, q),
-                        };
-                    }
-                }
-            }
-            What::Done => {
-                return Checked {
-                    tally: t,
-                    verdict: Verdict::Fine,
-                };
-            }
-        }
+    let mut sizes = [0u64; 12];
+    let mut counts = [0u64; 12];
+    let verdict = check_all(s, work, kept, &mut sizes, &mut counts);
+    Checked {
+        tally: Tally { sizes, counts },
+        verdict,
     }
 }

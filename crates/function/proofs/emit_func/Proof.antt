@@ -1,17 +1,16 @@
 use Rattle.function.proofs.Laws.{func-not, func-to}
-use Rattle.scope.proofs.Frames.{recalled-left, recalled-right}
 use borrow.Author.Needs.{needs}
 use Rattle.function.proofs.emit_func.Statement.{statement}
 use Rattle.function.proofs.emit_func.Tie as tie
 
 type-no-requires : tie.Need-type-no-requires
-type-no-requires c κs = search (recalled-left, needs)
+type-no-requires c κs = search needs
 
 enum-known-n : tie.Need-enum-known-n
 enum-known-n c = search needs
 
 emit-typed-requires : tie.Need-emit-typed-requires
-emit-typed-requires c κs = (search needs, search needs, search needs, search recalled-right, search needs, search needs)
+emit-typed-requires c κs = search needs
 
 enum-known-e : tie.Need-enum-known-e
 enum-known-e c = search needs

@@ -1,4 +1,4 @@
-use Rattle.function.proofs.Laws.{sized-beyond, sized-after, sized-long, sized-uses, sized-short, sized-room, sized-moved, sized-again, sized-not}
+use Rattle.function.proofs.Laws.{sized-beyond, sized-after, sized-long, sized-resolvable, sized-short, sized-room, sized-moved, sized-again, sized-not}
 use borrow.Author.Needs.{needs}
 use Rattle.function.proofs.emit_sized.Statement.{statement}
 use Rattle.function.proofs.emit_sized.Tie as tie
@@ -55,7 +55,7 @@ returns-3 : tie.Need-returns-3
 returns-3 c = search sized-moved
 
 emit-again-requires : tie.Need-emit-again-requires
-emit-again-requires c κs = (search needs, search (sized-long, needs), search needs, search needs, search (sized-uses, needs))
+emit-again-requires c κs = (search needs, search (sized-long, needs), search needs, search needs, search (sized-resolvable, needs))
 
 enum-known-n : tie.Need-enum-known-n
 enum-known-n c = search needs

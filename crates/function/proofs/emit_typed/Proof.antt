@@ -1,4 +1,4 @@
-use Rattle.function.proofs.Laws.{typed-not, typed-few, typed-long, typed-uses, typed-to}
+use Rattle.function.proofs.Laws.{typed-not, typed-few, typed-long, typed-resolvable, typed-to}
 use borrow.Author.Needs.{needs}
 use Rattle.function.proofs.emit_typed.Statement.{statement}
 use Rattle.function.proofs.emit_typed.Tie as tie
@@ -10,7 +10,7 @@ enum-known-l : tie.Need-enum-known-l
 enum-known-l c = search needs
 
 emit-sized-requires : tie.Need-emit-sized-requires
-emit-sized-requires c κs = (search needs, search typed-long, search typed-few, search needs, search typed-uses)
+emit-sized-requires c κs = (search needs, search typed-long, search typed-few, search needs, search typed-resolvable)
 
 enum-known-e : tie.Need-enum-known-e
 enum-known-e c = search needs

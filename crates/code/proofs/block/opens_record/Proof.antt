@@ -1,4 +1,4 @@
-use Rattle.code.proofs.Blocks.{openings, opens-uses}
+use Rattle.code.proofs.Blocks.{openings, opens-uses, opens-known}
 use borrow.Author.Needs.{needs}
 use Rattle.code.proofs.block.opens_record.Statement.{statement}
 use Rattle.code.proofs.block.opens_record.Tie as tie
@@ -6,8 +6,8 @@ use Rattle.code.proofs.block.opens_record.Tie as tie
 returns : tie.Need-returns
 returns c = search (openings) depth 12
 
-read-identifier-requires : tie.Need-read-identifier-requires
-read-identifier-requires c κs = search needs
+known-identifier-requires : tie.Need-known-identifier-requires
+known-identifier-requires c κs = search (opens-known, needs)
 
 enum-known-label : tie.Need-enum-known-label
 enum-known-label c = search needs
@@ -47,7 +47,7 @@ opens-record-spec =
     tie.close
     (tie.spec
     returns
-    read-identifier-requires
+    known-identifier-requires
     enum-known-label
     read-type-use-requires
     enum-known-t

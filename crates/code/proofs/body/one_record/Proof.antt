@@ -1,4 +1,4 @@
-use Rattle.code.proofs.Bodies.{forms, opening-uses, calling-uses}
+use Rattle.code.proofs.Bodies.{forms, opening-uses, calling-uses, opening-gets, elsing-gets, ending-gets, plain-gets}
 use borrow.Author.Needs.{needs}
 use Rattle.code.proofs.body.one_record.Statement.{statement}
 use Rattle.code.proofs.body.one_record.Tie as tie
@@ -19,19 +19,19 @@ enum-told-2 : tie.Need-enum-told-2
 enum-told-2 c = search needs
 
 opens-record-requires : tie.Need-opens-record-requires
-opens-record-requires c κs = search (opening-uses, needs)
+opens-record-requires c κs = search (opening-uses, opening-gets, needs)
 
 enum-told-3 : tie.Need-enum-told-3
 enum-told-3 c = search needs
 
 else-record-requires : tie.Need-else-record-requires
-else-record-requires c κs = search needs
+else-record-requires c κs = search (elsing-gets, needs)
 
 enum-told-4 : tie.Need-enum-told-4
 enum-told-4 c = search needs
 
 end-record-requires : tie.Need-end-record-requires
-end-record-requires c κs = search needs
+end-record-requires c κs = search (ending-gets, needs)
 
 enum-told-5 : tie.Need-enum-told-5
 enum-told-5 c = search needs
@@ -43,7 +43,7 @@ enum-known-what : tie.Need-enum-known-what
 enum-known-what c = search needs
 
 plain-record-requires : tie.Need-plain-record-requires
-plain-record-requires c κs = search needs
+plain-record-requires c κs = search (plain-gets, needs)
 
 enum-told-6 : tie.Need-enum-told-6
 enum-told-6 c = search needs

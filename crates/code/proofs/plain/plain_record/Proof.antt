@@ -1,4 +1,4 @@
-use Rattle.code.proofs.Plains.{kinds}
+use Rattle.code.proofs.Plains.{kinds, label-known, local-known, func-known, global-known}
 use borrow.Author.Needs.{needs}
 use Rattle.code.proofs.plain.plain_record.Statement.{statement}
 use Rattle.code.proofs.plain.plain_record.Tie as tie
@@ -13,25 +13,25 @@ enum-told-2 : tie.Need-enum-told-2
 enum-told-2 c = search needs
 
 label-record-requires : tie.Need-label-record-requires
-label-record-requires c κs = search needs
+label-record-requires c κs = search (label-known, needs)
 
 enum-told-3 : tie.Need-enum-told-3
 enum-told-3 c = search needs
 
 local-record-requires : tie.Need-local-record-requires
-local-record-requires c κs = search needs
+local-record-requires c κs = search (local-known, needs)
 
 enum-told-4 : tie.Need-enum-told-4
 enum-told-4 c = search needs
 
 item-record-requires : tie.Need-item-record-requires
-item-record-requires c κs = search needs
+item-record-requires c κs = search (func-known, needs)
 
 enum-told-5 : tie.Need-enum-told-5
 enum-told-5 c = search needs
 
 item-record-requires-2 : tie.Need-item-record-requires-2
-item-record-requires-2 c κs = search needs
+item-record-requires-2 c κs = search (global-known, needs)
 
 enum-told-6 : tie.Need-enum-told-6
 enum-told-6 c = search needs

@@ -1,5 +1,5 @@
 use Rattle.sections.proofs.Emitting.{section-below}
-use Rattle.sections.proofs.Checking.{entry-fine, entry-not}
+use Rattle.sections.proofs.Checking.{in-sizes, entry-fine, entry-not}
 use borrow.Author.Needs.{needs}
 use Rattle.sections.proofs.check.check_entry.Statement.{statement}
 use Rattle.sections.proofs.check.check_entry.Tie as tie
@@ -13,8 +13,8 @@ cast-from c = search needs
 mul-from : tie.Need-mul-from
 mul-from c = search needs
 
-array-read-from : tie.Need-array-read-from
-array-read-from c = search section-below
+slice-read-from : tie.Need-slice-read-from
+slice-read-from c = search in-sizes
 
 emit-kept-requires : tie.Need-emit-kept-requires
 emit-kept-requires c κs = search needs
@@ -22,8 +22,8 @@ emit-kept-requires c κs = search needs
 enum-known-to : tie.Need-enum-known-to
 enum-known-to c = search needs
 
-reach-requires : tie.Need-reach-requires
-reach-requires c κs = search section-below
+reach-in-requires : tie.Need-reach-in-requires
+reach-in-requires c κs = (search section-below, search needs)
 
 enum-known-n : tie.Need-enum-known-n
 enum-known-n c = search needs
@@ -34,14 +34,20 @@ same-length c = search needs
 same-length-2 : tie.Need-same-length-2
 same-length-2 c = search needs
 
-returns : tie.Need-returns
-returns c = search entry-fine
-
 same-length-3 : tie.Need-same-length-3
 same-length-3 c = search needs
 
 same-length-4 : tie.Need-same-length-4
 same-length-4 c = search needs
+
+returns : tie.Need-returns
+returns c = search entry-fine
+
+same-length-5 : tie.Need-same-length-5
+same-length-5 c = search needs
+
+same-length-6 : tie.Need-same-length-6
+same-length-6 c = search needs
 
 returns-2 : tie.Need-returns-2
 returns-2 c = search entry-not
@@ -53,14 +59,16 @@ check-entry-spec =
     section-of-requires
     cast-from
     mul-from
-    array-read-from
+    slice-read-from
     emit-kept-requires
     enum-known-to
-    reach-requires
+    reach-in-requires
     enum-known-n
     same-length
     same-length-2
-    returns
     same-length-3
     same-length-4
+    returns
+    same-length-5
+    same-length-6
     returns-2)

@@ -1,4 +1,4 @@
-use Rattle.sections.proofs.Checking.{after-ready, after-twelve, long-after, three-then, three-not, three-first, three-second, three-third}
+use Rattle.sections.proofs.Checking.{after-ready, after-twelve, long-after, three-then, three-one, three-not, three-first, three-second, three-third}
 use borrow.Author.Needs.{needs}
 use Rattle.sections.proofs.check.check_three.Statement.{statement}
 use Rattle.sections.proofs.check.check_three.Tie as tie
@@ -9,17 +9,8 @@ check-entry-requires c κs = (search needs, search needs, search needs, search t
 enum-told : tie.Need-enum-told
 enum-told c = search needs
 
-check-two-requires : tie.Need-check-two-requires
-check-two-requires c κs = (
-  search needs,
-  search long-after,
-  search needs,
-  record { first = search (after-ready, three-first); second = search (after-ready, three-second); third = search (after-ready, three-third) },
-  search after-twelve,
-)
-
-enum-known-v : tie.Need-enum-known-v
-enum-known-v c = search needs
+section-of-requires : tie.Need-section-of-requires
+section-of-requires c κs = search needs
 
 same-length : tie.Need-same-length
 same-length c = search needs
@@ -27,17 +18,50 @@ same-length c = search needs
 same-length-2 : tie.Need-same-length-2
 same-length-2 c = search needs
 
-returns : tie.Need-returns
-returns c = search three-then
-
 same-length-3 : tie.Need-same-length-3
 same-length-3 c = search needs
 
 same-length-4 : tie.Need-same-length-4
 same-length-4 c = search needs
 
+returns : tie.Need-returns
+returns c = search three-one
+
+check-two-requires : tie.Need-check-two-requires
+check-two-requires c κs = (search needs, search long-after, search needs, search (after-ready, three-second), search (after-ready, three-third), search after-twelve)
+
+enum-known-n : tie.Need-enum-known-n
+enum-known-n c = search needs
+
+same-length-5 : tie.Need-same-length-5
+same-length-5 c = search needs
+
+same-length-6 : tie.Need-same-length-6
+same-length-6 c = search needs
+
+same-length-7 : tie.Need-same-length-7
+same-length-7 c = search needs
+
+same-length-8 : tie.Need-same-length-8
+same-length-8 c = search needs
+
 returns-2 : tie.Need-returns-2
-returns-2 c = search three-not
+returns-2 c = search three-then
+
+same-length-9 : tie.Need-same-length-9
+same-length-9 c = search needs
+
+same-length-10 : tie.Need-same-length-10
+same-length-10 c = search needs
+
+same-length-11 : tie.Need-same-length-11
+same-length-11 c = search needs
+
+same-length-12 : tie.Need-same-length-12
+same-length-12 c = search needs
+
+returns-3 : tie.Need-returns-3
+returns-3 c = search three-not
 
 pub check-three-spec : {M : Type 1} → statement M
 check-three-spec =
@@ -45,11 +69,21 @@ check-three-spec =
     (tie.spec
     check-entry-requires
     enum-told
-    check-two-requires
-    enum-known-v
+    section-of-requires
     same-length
     same-length-2
-    returns
     same-length-3
     same-length-4
-    returns-2)
+    returns
+    check-two-requires
+    enum-known-n
+    same-length-5
+    same-length-6
+    same-length-7
+    same-length-8
+    returns-2
+    same-length-9
+    same-length-10
+    same-length-11
+    same-length-12
+    returns-3)

@@ -1,4 +1,4 @@
-use Rattle.sections.proofs.Checking.{after-ready, after-twelve, long-after, two-then, two-not, three-first, three-second, three-third}
+use Rattle.sections.proofs.Checking.{after-ready, after-twelve, long-after, two-then, two-not}
 use borrow.Author.Needs.{needs}
 use Rattle.sections.proofs.check.check_two.Statement.{statement}
 use Rattle.sections.proofs.check.check_two.Tie as tie
@@ -9,17 +9,11 @@ check-entry-requires c κs = search needs
 enum-told : tie.Need-enum-told
 enum-told c = search needs
 
-check-third-requires : tie.Need-check-third-requires
-check-third-requires c κs = (
-  search needs,
-  search long-after,
-  search needs,
-  record { first = search (after-ready, three-first); second = search (after-ready, three-second); third = search (after-ready, three-third) },
-  search after-twelve,
-)
+check-entry-requires-2 : tie.Need-check-entry-requires-2
+check-entry-requires-2 c κs = (search needs, search long-after, search needs, search after-ready, search after-twelve)
 
-enum-known-v : tie.Need-enum-known-v
-enum-known-v c = search needs
+enum-known-n : tie.Need-enum-known-n
+enum-known-n c = search needs
 
 same-length : tie.Need-same-length
 same-length c = search needs
@@ -27,14 +21,26 @@ same-length c = search needs
 same-length-2 : tie.Need-same-length-2
 same-length-2 c = search needs
 
-returns : tie.Need-returns
-returns c = search two-then
-
 same-length-3 : tie.Need-same-length-3
 same-length-3 c = search needs
 
 same-length-4 : tie.Need-same-length-4
 same-length-4 c = search needs
+
+returns : tie.Need-returns
+returns c = search two-then
+
+same-length-5 : tie.Need-same-length-5
+same-length-5 c = search needs
+
+same-length-6 : tie.Need-same-length-6
+same-length-6 c = search needs
+
+same-length-7 : tie.Need-same-length-7
+same-length-7 c = search needs
+
+same-length-8 : tie.Need-same-length-8
+same-length-8 c = search needs
 
 returns-2 : tie.Need-returns-2
 returns-2 c = search two-not
@@ -45,11 +51,15 @@ check-two-spec =
     (tie.spec
     check-entry-requires
     enum-told
-    check-third-requires
-    enum-known-v
+    check-entry-requires-2
+    enum-known-n
     same-length
     same-length-2
-    returns
     same-length-3
     same-length-4
+    returns
+    same-length-5
+    same-length-6
+    same-length-7
+    same-length-8
     returns-2)

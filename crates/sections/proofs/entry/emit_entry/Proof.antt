@@ -1,4 +1,4 @@
-use Rattle.sections.proofs.Emitting.{code-uses, code-params, code-locals, code-emits, other-emits, ready-uses}
+use Rattle.sections.proofs.Emitting.{code-use, code-body, code-params, code-locals, code-emits, other-emits, ready-uses}
 use borrow.Author.Needs.{needs}
 use Rattle.sections.proofs.entry.emit_entry.Statement.{statement}
 use Rattle.sections.proofs.entry.emit_entry.Tie as tie
@@ -10,7 +10,7 @@ enum-known-c : tie.Need-enum-known-c
 enum-known-c c = search needs
 
 emit-func-requires : tie.Need-emit-func-requires
-emit-func-requires c κs = (search needs, search needs, search needs, search code-uses, search code-params, search code-locals)
+emit-func-requires c κs = (search needs, search needs, search needs, search code-use, search code-body, search code-params, search code-locals)
 
 one-end-requires : tie.Need-one-end-requires
 one-end-requires c κs = search needs
