@@ -1,7 +1,7 @@
 -- Instructions that open or close a block or have a type use: what is resolved is what was written.
 use Prim.Native.Nat.{ℕ, _+_, _-_, _≤_, _<_}
-use mathlib.Core.Path.{_≡_, refl, sym}
-use mathlib.Core.Bool.{Bool}
+use mathlib.Core.Path.{_≡_, refl, sym, ap, _∙_}
+use mathlib.Core.Bool.{Bool, true}
 use mathlib.Core.List.{List, [], _∷_}
 use mathlib.Core.Option.{Option, none}
 use lib.Dec.{ltb}
@@ -30,7 +30,7 @@ use Rattle.token.specs.declared.text.PartAt.the-variants as P
 use Rattle.token.specs.declared.index.Index.{Index}
 use Rattle.token.specs.declared.index.IndexAt.{IndexAt}
 use Rattle.token.specs.declared.index.IndexAt.the-variants as X
-use Rattle.token.proofs.Gets.{gets-first, gets-after}
+use Rattle.token.proofs.Gets.{gets-first, gets-rest, gets-passed, gets-after}
 use Rattle.typeuse.specs.Views.{useOf, useAt}
 use Rattle.typeuse.specs.declared.TypeUse.{TypeUse}
 use Rattle.typeuse.specs.declared.UseAt.{UseAt}
@@ -121,6 +121,14 @@ module _ (s : List ℕ) (k op here : ℕ) where
   pub opens-known : Gets (Instructions.instruction k op opening s here) → Gets (Token.identifier s here)
   unfolding Instructions.instruction
   opens-known g = label-known _ 7 (ltb k 128) s here g
+
+  -- and after the label a type use
+  pub opens-use : (r : PartAt) (label : Part) (a : ℕ) → Token.identifier s here ≡ idAt s r → r ≡ P.Got label a → Gets (Instructions.instruction k op opening s here) → Gets (Token.typeUse s a)
+  unfolding Instructions.instruction
+  opens-use r label a e d g =
+      let m : Step (Option Identifier) = onward (λ _ q. Token.identifier s q) (require 7 (ltb k 128) s here) in
+      let t : ltb k 128 ≡ true = gets-passed (λ _ q. Token.identifier s q) 7 (ltb k 128) s here (gets-first _ m g) in
+      gets-first _ (Token.typeUse s a) (gets-rest _ m g (idOf s label) a (rw t (e ∙ ap (idAt s) d)))
 
   pub elses-known : Gets (Instructions.instruction k op elsing s here) → Gets (Token.identifier s here)
   unfolding Instructions.instruction

@@ -96,7 +96,7 @@ pub fn opens_record(
         return Turn::Done;
     }
     match token::known_identifier(s, here) {
-        PartAt::Got(label, a) => match typeuse::read_type_use(s, a) {
+        PartAt::Got(label, a) => match typeuse::known_type_use(s, a) {
             UseAt::Got(t, next) => opened(s, work, out, at, next, k, opcode, label, t, rec),
             UseAt::Fault(_) => Turn::Done,
         },

@@ -1,4 +1,4 @@
-use Rattle.code.proofs.Blocks.{openings, opens-uses, opens-known}
+use Rattle.code.proofs.Blocks.{openings, opens-uses, opens-known, opens-use}
 use borrow.Author.Needs.{needs}
 use Rattle.code.proofs.block.opens_record.Statement.{statement}
 use Rattle.code.proofs.block.opens_record.Tie as tie
@@ -12,8 +12,8 @@ known-identifier-requires c κs = search (opens-known, needs)
 enum-known-label : tie.Need-enum-known-label
 enum-known-label c = search needs
 
-read-type-use-requires : tie.Need-read-type-use-requires
-read-type-use-requires c κs = search needs
+known-type-use-requires : tie.Need-known-type-use-requires
+known-type-use-requires c κs = search (opens-use, needs)
 
 enum-known-t : tie.Need-enum-known-t
 enum-known-t c = search needs
@@ -49,7 +49,7 @@ opens-record-spec =
     returns
     known-identifier-requires
     enum-known-label
-    read-type-use-requires
+    known-type-use-requires
     enum-known-t
     opened-requires
     enum-told
