@@ -28,6 +28,7 @@ use Rattle.fields.specs.declared.segment.Mode as Segment
 use Rattle.typeuse.specs.Views.{listOf, useOf}
 use Rattle.typeuse.specs.declared.List as Code
 use Rattle.sources.specs.Views.{countOf, nameOf, externIs, ownOf}
+use Rattle.sources.specs.declared.seen.Seen.{Seen}
 use Rattle.sources.specs.declared.import.Extern.{Extern}
 use Rattle.sources.specs.declared.import.Extern.the-variants as X
 use Rattle.sources.specs.declared.source.Own.{Own}
@@ -39,7 +40,7 @@ use Rattle.fields.specs.declared.field.Field.the-variants as F
 use Rattle.walk.specs.Walk.{bodyFrom, bodyIn, fieldsHere}
 use Rattle.walk.specs.declared.Cursor.{Cursor}
 use Rattle.entries.specs.Entry.{entryOf, exportEntries}
-use Rattle.content.specs.Entry.{oneOf, typeBytes, answerOf, Entries, entriesOf, tagged, both, entryIn, threeIn, threeOf, three, ownThree, externSpaceOf, ownSpaceOf}
+use Rattle.content.specs.Entry.{oneOf, typeBytes, answerOf, Entries, entriesOf, tagged, both, entryIn, threeIn, firstOf, itemIn, secondOf, thirdOf, threeOf, three, externSpaceOf, ownSpaceOf}
 use Rattle.function.specs.Function.{codeOf, funcField}
 use Rattle.content.specs.declared.entry.Entry.{Entry}
 use Rattle.content.specs.declared.entry.Entry.the-variants as E
@@ -62,9 +63,9 @@ none-both (ok xs) = refl
 none-both (refused n r) = refl
 
 -- the entries of what an item was resolved to
-abbrev itemIn : Answer Item → Answer Entries
-itemIn (ok i) = ok (entries i)
-itemIn (refused n r) = refused n r
+abbrev resolvedIn : Answer Item → Answer Entries
+resolvedIn (ok i) = ok (entries i)
+resolvedIn (refused n r) = refused n r
 
 module _ (Γ : Scope Identifier) where
   entries-none : entriesOf Γ [] ≡ ok []
@@ -72,18 +73,18 @@ module _ (Γ : Scope Identifier) where
   entries-none = refl
 
   -- one field, and then the others
-  entries-cons : (r : ℕ) (f : Field Identifier) (fs : Numbered Identifier) → entriesOf Γ ((r, f) ∷ fs) ≡ both (itemIn (resolve Γ r f)) (entriesOf Γ fs)
+  entries-cons : (r : ℕ) (f : Field Identifier) (fs : Numbered Identifier) → entriesOf Γ ((r, f) ∷ fs) ≡ both (resolvedIn (resolve Γ r f)) (entriesOf Γ fs)
   unfolding entriesOf resolveAll each _>>=_ concatMap both
   entries-cons r f fs = go (resolve Γ r f) (each (λ x. resolve Γ (x .0) (x .1)) fs)
     where
       go : (a : Answer Item) (b : Answer (List Item))
-          → ((a >>= λ y. b >>= λ ys. ok (y ∷ ys)) >>= λ is. ok (concatMap entries is)) ≡ both (itemIn a) (b >>= λ is. ok (concatMap entries is))
+          → ((a >>= λ y. b >>= λ ys. ok (y ∷ ys)) >>= λ is. ok (concatMap entries is)) ≡ both (resolvedIn a) (b >>= λ is. ok (concatMap entries is))
       go (ok i) (ok is) = refl
       go (ok i) (refused n q) = refl
       go (refused n q) b = refl
 
-  entries-one : (r : ℕ) (f : Field Identifier) → entriesOf Γ ((r, f) ∷ []) ≡ itemIn (resolve Γ r f)
-  entries-one r f = entries-cons r f [] ∙ ap (both (itemIn (resolve Γ r f))) entries-none ∙ both-none (itemIn (resolve Γ r f))
+  entries-one : (r : ℕ) (f : Field Identifier) → entriesOf Γ ((r, f) ∷ []) ≡ resolvedIn (resolve Γ r f)
+  entries-one r f = entries-cons r f [] ∙ ap (both (resolvedIn (resolve Γ r f))) entries-none ∙ both-none (resolvedIn (resolve Γ r f))
 
   both-assoc : {A : Type 0} (a b c : Answer (List A)) → both a (both b c) ≡ both (both a b) c
   unfolding both
@@ -97,8 +98,8 @@ module _ (Γ : Scope Identifier) where
   entries-append [] ys = sym (ap (λ a. both a (entriesOf Γ ys)) entries-none ∙ none-both (entriesOf Γ ys))
   entries-append ((r, f) ∷ xs) ys =
       entries-cons r f (xs ++ ys)
-      ∙ ap (both (itemIn (resolve Γ r f))) (entries-append xs ys)
-      ∙ both-assoc (itemIn (resolve Γ r f)) (entriesOf Γ xs) (entriesOf Γ ys)
+      ∙ ap (both (resolvedIn (resolve Γ r f))) (entries-append xs ys)
+      ∙ both-assoc (resolvedIn (resolve Γ r f)) (entriesOf Γ xs) (entriesOf Γ ys)
       ∙ ap (λ a. both a (entriesOf Γ ys)) (sym (entries-cons r f xs))
 
 -- ## Items of a single entry
@@ -113,7 +114,7 @@ unfolding _>>=_
 single-then k (ok y) f h = h y
 single-then k (refused n r) f h = tt
 
-single : (k : ℕ) (a : Answer Item) → Single k a → itemIn a ≡ tagged k (oneOf entryOf a)
+single : (k : ℕ) (a : Answer Item) → Single k a → resolvedIn a ≡ tagged k (oneOf entryOf a)
 unfolding tagged oneOf
 single k (ok i) h = ap ok h
 single k (refused n r) h = refl
@@ -159,18 +160,18 @@ function-then n (refused k r) f h = tt
 
 -- a function's type is resolved before all else of it
 function-two : (a : Answer TypeNo) (f : TypeNo → Answer Item) → ((n : TypeNo) → Function n (f n))
-    → itemIn (a >>= f) ≡ both (tagged 3 (oneOf typeBytes a)) (tagged 10 (oneOf codeOf (a >>= f)))
+    → resolvedIn (a >>= f) ≡ both (tagged 3 (oneOf typeBytes a)) (tagged 10 (oneOf codeOf (a >>= f)))
 unfolding _>>=_ tagged oneOf both
 function-two (refused k r) f h = refl
 function-two (ok n) f h = go (f n) (h n)
   where
-    go : (b : Answer Item) → Function n b → itemIn b ≡ both (ok ((3, typeBytes n) ∷ [])) (tagged 10 (oneOf codeOf b))
+    go : (b : Answer Item) → Function n b → resolvedIn b ≡ both (ok ((3, typeBytes n) ∷ [])) (tagged 10 (oneOf codeOf b))
     go (ok i) e = ap ok e
     go (refused k r) e = refl
 
 module _ (Γ : Scope Identifier) (r : ℕ) where
   function-both : (i : Option Identifier) (t : TypeUse Identifier) (ls : List (Syntax.Local Identifier)) (b : List (Instr Identifier))
-      → itemIn (resolve Γ r (ownF i (ownFunc t ls) b)) ≡ both (tagged 3 (oneOf typeBytes (typeNo Γ r t))) (tagged 10 (oneOf codeOf (resolve Γ r (ownF none (ownFunc t ls) b))))
+      → resolvedIn (resolve Γ r (ownF i (ownFunc t ls) b)) ≡ both (tagged 3 (oneOf typeBytes (typeNo Γ r t))) (tagged 10 (oneOf codeOf (resolve Γ r (ownF none (ownFunc t ls) b))))
   unfolding resolve ownItem entries typeBytes
   function-both i t ls b =
       function-two (typeNo Γ r t) _
@@ -196,15 +197,15 @@ module _ (Γ : Scope Identifier) (s : Bytes) (r : ℕ) where
   unfolding entryIn answerOf tagged
   nothing-in = refl
 
-  last-none : (a : Answer Entries) → both a (entryIn Γ s r E.Nothing) ≡ a
+  pub last-none : (a : Answer Entries) → both a (entryIn Γ s r E.Nothing) ≡ a
   last-none a = ap (both a) nothing-in ∙ both-none a
 
-  only-in : (e : Entry) → threeIn Γ s r (threeOf e E.Nothing E.Nothing) ≡ entryIn Γ s r e
+  pub only-in : (e : Entry) → threeIn Γ s r (threeOf e E.Nothing E.Nothing) ≡ entryIn Γ s r e
   unfolding threeIn
   only-in e = ap (both (entryIn Γ s r e)) (last-none (entryIn Γ s r E.Nothing)) ∙ last-none (entryIn Γ s r e)
 
   -- a field of one entry
-  one-entry : (f : Field Identifier) (e : Entry) → itemIn (resolve Γ r f) ≡ entryIn Γ s r e → entriesOf Γ ((r, f) ∷ []) ≡ threeIn Γ s r (threeOf e E.Nothing E.Nothing)
+  one-entry : (f : Field Identifier) (e : Entry) → resolvedIn (resolve Γ r f) ≡ entryIn Γ s r e → entriesOf Γ ((r, f) ∷ []) ≡ threeIn Γ s r (threeOf e E.Nothing E.Nothing)
   one-entry f e h = entries-one Γ r f ∙ h ∙ sym (only-in e)
 
   -- the exports of an item, and then its fields
@@ -218,47 +219,47 @@ module _ (Γ : Scope Identifier) (s : Bytes) (r : ℕ) where
       ∙ rw (exports-are Γ r (spaceOf k) n (listOf Token.string s es), h)
 
   -- the field of an item of one entry
-  item-one : (f : Field Identifier) (a : Entry) → itemIn (resolve Γ r f) ≡ entryIn Γ s r a → entriesOf Γ ((r, f) ∷ []) ≡ both (entryIn Γ s r a) (entryIn Γ s r E.Nothing)
+  item-one : (f : Field Identifier) (a : Entry) → resolvedIn (resolve Γ r f) ≡ entryIn Γ s r a → entriesOf Γ ((r, f) ∷ []) ≡ both (entryIn Γ s r a) (entryIn Γ s r E.Nothing)
   item-one f a h = entries-one Γ r f ∙ h ∙ sym (last-none (entryIn Γ s r a))
 
   -- a segment, and the item that it fills
-  item-two : (f g : Field Identifier) (a b : Entry) → itemIn (resolve Γ r f) ≡ entryIn Γ s r a → itemIn (resolve Γ r g) ≡ entryIn Γ s r b
+  item-two : (f g : Field Identifier) (a b : Entry) → resolvedIn (resolve Γ r f) ≡ entryIn Γ s r a → resolvedIn (resolve Γ r g) ≡ entryIn Γ s r b
       → entriesOf Γ ((r, f) ∷ (r, g) ∷ []) ≡ both (entryIn Γ s r a) (entryIn Γ s r b)
   item-two f g a b h k = entries-cons Γ r f ((r, g) ∷ []) ∙ rw (entries-one Γ r g, h, k)
 
-  import-in : (n : ImportName) (i : Option Identifier) (x : Extern) → itemIn (resolve Γ r (importF (nameOf s n) i (externIs s x))) ≡ entryIn Γ s r (E.Import n x)
+  import-in : (n : ImportName) (i : Option Identifier) (x : Extern) → resolvedIn (resolve Γ r (importF (nameOf s n) i (externIs s x))) ≡ entryIn Γ s r (E.Import n x)
   unfolding entryIn answerOf resolve
   import-in n i x = single 2 _ (import-single Γ r (nameOf s n) i (externIs s x))
 
   type-in : (i : Option Identifier) (ps rs : Code.List)
-      → itemIn (resolve Γ r (typeF i (record { params = listOf Token.valType s ps; results = listOf Token.valType s rs }))) ≡ entryIn Γ s r (E.Type ps rs)
+      → resolvedIn (resolve Γ r (typeF i (record { params = listOf Token.valType s ps; results = listOf Token.valType s rs }))) ≡ entryIn Γ s r (E.Type ps rs)
   unfolding entryIn answerOf resolve entries tagged
   type-in i ps rs = refl
 
-  export-in : (n : Part) (k : Kind.Space) (x : Place.Index) → itemIn (resolve Γ r (exportF (partOf s n) (spaceOf k) (indexOf s x))) ≡ entryIn Γ s r (E.Export n k x)
+  export-in : (n : Part) (k : Kind.Space) (x : Place.Index) → resolvedIn (resolve Γ r (exportF (partOf s n) (spaceOf k) (indexOf s x))) ≡ entryIn Γ s r (E.Export n k x)
   unfolding entryIn answerOf
   export-in n k x = single 7 _ (export-single Γ r (partOf s n) (spaceOf k) (indexOf s x))
 
-  start-in : (x : Place.Index) → itemIn (resolve Γ r (startF (indexOf s x))) ≡ entryIn Γ s r (E.Start x)
+  start-in : (x : Place.Index) → resolvedIn (resolve Γ r (startF (indexOf s x))) ≡ entryIn Γ s r (E.Start x)
   unfolding entryIn answerOf
   start-in x = single 8 _ (start-single Γ r (indexOf s x))
 
-  elem-in : (i : Option Identifier) (m : Segment.Mode) (xs : Code.List) → itemIn (resolve Γ r (elemF i (modeOf s m) (listOf Token.present s xs))) ≡ entryIn Γ s r (E.Elem m xs)
+  elem-in : (i : Option Identifier) (m : Segment.Mode) (xs : Code.List) → resolvedIn (resolve Γ r (elemF i (modeOf s m) (listOf Token.present s xs))) ≡ entryIn Γ s r (E.Elem m xs)
   unfolding entryIn answerOf resolve
   elem-in i m xs = single 9 _ (elem-single Γ r i (modeOf s m) (listOf Token.present s xs))
 
-  data-in : (i : Option Identifier) (m : Segment.Mode) (d : Part) → itemIn (resolve Γ r (dataF i (modeOf s m) (partOf s d))) ≡ entryIn Γ s r (E.Data m d)
+  data-in : (i : Option Identifier) (m : Segment.Mode) (d : Part) → resolvedIn (resolve Γ r (dataF i (modeOf s m) (partOf s d))) ≡ entryIn Γ s r (E.Data m d)
   unfolding entryIn answerOf resolve
   data-in i m d = single 11 _ (data-single Γ r i (modeOf s m) (partOf s d))
 
-  own-three : (es : Code.List) (i : Option Identifier) (o : Own) (n here : ℕ)
+  own-three : (es : Code.List) (i : Option Identifier) (o : Own) (seen : Seen) (n here : ℕ)
       → entriesOf Γ (map (λ x. (r, x)) (map (λ e. exportF e (spaceOf (ownSpaceOf o)) (number n)) (listOf Token.string s es) ++ (ownF i (ownOf s o) (bodyIn (ownBody (ownOf s o)) (r + 1) s here) ∷ [])))
-      ≡ threeIn Γ s r (ownThree (E.Exports es (ownSpaceOf o) n) o here)
-  unfolding entryIn answerOf resolve ownItem ownBody entries tagged funcField
-  own-three es i (O.Func t ls) n here = item-three es K.Funcs n _ (E.Func t) (E.Code t ls here) (entries-one Γ r _ ∙ function-both Γ r i (useOf s t) (listOf Token.param s ls) (bodyFrom (4096 - (r + 1)) 0 s here))
-  own-three es i (O.Table t) n here = item-three es K.Tables n _ (E.Table t) E.Nothing (item-one _ (E.Table t) refl)
-  own-three es i (O.Mem l) n here = item-three es K.Mems n _ (E.Mem l) E.Nothing (item-one _ (E.Mem l) refl)
-  own-three es i (O.Global t c) n here = item-three es K.Globals n _ (E.Global t c) E.Nothing (item-one _ (E.Global t c) (single 6 _ (global-single Γ r i (globalTypeIs t) (plainIs s c) [])))
+      ≡ threeIn Γ s r (threeOf (E.Exports es (ownSpaceOf o) n) (secondOf (S.Own o) seen) (thirdOf (S.Own o) here))
+  unfolding entryIn answerOf resolve ownItem ownBody entries tagged funcField secondOf thirdOf
+  own-three es i (O.Func t ls) seen n here = item-three es K.Funcs n _ (E.Func t) (E.Code t ls here) (entries-one Γ r _ ∙ function-both Γ r i (useOf s t) (listOf Token.param s ls) (bodyFrom (4096 - (r + 1)) 0 s here))
+  own-three es i (O.Table t) seen n here = item-three es K.Tables n _ (E.Table t) E.Nothing (item-one _ (E.Table t) refl)
+  own-three es i (O.Mem l) seen n here = item-three es K.Mems n _ (E.Mem l) E.Nothing (item-one _ (E.Mem l) refl)
+  own-three es i (O.Global t c) seen n here = item-three es K.Globals n _ (E.Global t c) E.Nothing (item-one _ (E.Global t c) (single 6 _ (global-single Γ r i (globalTypeIs t) (plainIs s c) [])))
 
   extern-three : (es : Code.List) (i : Option Identifier) (m : ImportName) (x : Extern) (n : ℕ)
       → entriesOf Γ (map (λ x. (r, x)) (map (λ e. exportF e (spaceOf (externSpaceOf x)) (number n)) (listOf Token.string s es) ++ (importF (nameOf s m) i (externIs s x) ∷ [])))
@@ -306,14 +307,14 @@ extern-space s (X.Global t) = refl
 
 pub entries-here : (Γ : Scope Identifier) (s : Bytes) (c next : Cursor) (f : Read.Field) (here : ℕ)
     → entriesOf Γ (fieldsHere c s (record { field = fieldOf s f; head-end = here; next = next })) ≡ threeIn Γ s (c .rec) (three f (c .seen) here)
-unfolding fieldsHere fieldsOf fieldBody sourceBody sourceSpace sourceFields
+unfolding fieldsHere fieldsOf fieldBody sourceBody sourceSpace sourceFields three firstOf itemIn secondOf thirdOf
 entries-here Γ s c next (F.Type i ps rs) here = one-entry Γ s (c .rec) _ (E.Type ps rs) (type-in Γ s (c .rec) (idOf s i) ps rs)
 entries-here Γ s c next (F.Import n i x) here = one-entry Γ s (c .rec) _ (E.Import n x) (import-in Γ s (c .rec) n (idOf s i) x)
 entries-here Γ s c next (F.Export n k x) here = one-entry Γ s (c .rec) _ (E.Export n k x) (export-in Γ s (c .rec) n k x)
 entries-here Γ s c next (F.Start x) here = one-entry Γ s (c .rec) _ (E.Start x) (start-in Γ s (c .rec) x)
 entries-here Γ s c next (F.Elem i m xs) here = one-entry Γ s (c .rec) _ (E.Elem m xs) (elem-in Γ s (c .rec) (idOf s i) m xs)
 entries-here Γ s c next (F.Data i m d) here = one-entry Γ s (c .rec) _ (E.Data m d) (data-in Γ s (c .rec) (idOf s i) m d)
-entries-here Γ s c next (F.Item i es (S.Own o)) here = rw (own-space s o) (own-three Γ s (c .rec) es (idOf s i) o (countOf (c .seen) (spaceOf (ownSpaceOf o))) here)
+entries-here Γ s c next (F.Item i es (S.Own o)) here = rw (own-space s o) (own-three Γ s (c .rec) es (idOf s i) o (c .seen) (countOf (c .seen) (spaceOf (ownSpaceOf o))) here)
 entries-here Γ s c next (F.Item i es (S.Imported n x)) here = rw (extern-space s x) (extern-three Γ s (c .rec) es (idOf s i) n x (countOf (c .seen) (spaceOf (externSpaceOf x))))
 entries-here Γ s c next (F.Item i es (S.TableOf w xs)) here = table-three Γ s (c .rec) es (idOf s i) w xs (countOf (c .seen) Syntax.tables)
 entries-here Γ s c next (F.Item i es (S.MemOf w d)) here = mem-three Γ s (c .rec) es (idOf s i) w d (countOf (c .seen) Syntax.mems)

@@ -1,6 +1,6 @@
 -- The entries of a field, by what a match on it gives.
 use Prim.Native.Nat.{ℕ}
-use mathlib.Core.Path.{_≡_}
+use mathlib.Core.Path.{_≡_, sym, _∙_}
 use mathlib.Core.Bool.{Bool}
 use Rattle.token.specs.Views.{spaceOf}
 use Rattle.token.specs.declared.text.Part.{Part}
@@ -9,41 +9,70 @@ use Rattle.token.specs.declared.index.Space.the-variants as K
 use Rattle.typeuse.specs.declared.List as Code
 use Rattle.sources.specs.Views.{countOf}
 use Rattle.sources.specs.declared.seen.Seen.{Seen}
-use Rattle.sources.specs.declared.import.ImportName.{ImportName}
-use Rattle.sources.specs.declared.import.Extern.{Extern}
 use Rattle.sources.specs.declared.source.Own.{Own}
 use Rattle.sources.specs.declared.source.Source.{Source}
 use Rattle.sources.specs.declared.source.Source.the-variants as S
 use Rattle.fields.specs.declared.field.Field.{Field}
-use Rattle.content.specs.Entry.{sectionNo, externSpaceOf, ownSpaceOf, exportsOf, threeOf, ownThree, sourceThree, three}
+use Rattle.fields.specs.declared.field.Field.the-variants as F
+use Rattle.content.specs.Entry.{sectionNo, sourceSpaceOf, exportsOf, firstOf, secondOf, thirdOf, itemIn, secondIn, thirdIn, threeOf, three}
 use Rattle.content.specs.declared.entry.Entry.{Entry}
 use Rattle.content.specs.declared.entry.Entry.the-variants as E
+use Rattle.content.specs.declared.entry.ItemIn.{ItemIn}
+use Rattle.content.specs.declared.entry.ItemIn.the-variants as I
 use Rattle.content.specs.declared.entry.Three.{Three}
 
 pub is-section : (n : ℕ) (e v : Entry) → e ≡ v → n ≡ sectionNo v → n ≡ sectionNo e
 is-section n e v p d = rw p d
 
-pub is-own : (r : Three) (es : Entry) (o v : Own) (here : ℕ) → o ≡ v → r ≡ ownThree es v here → r ≡ ownThree es o here
-is-own r es o v here p d = rw p d
+pub is-space : (k : Kind.Space) (x v : Source) → x ≡ v → k ≡ sourceSpaceOf v → k ≡ sourceSpaceOf x
+is-space k x v p d = rw p d
 
-pub is-field : (r : Three) (f v : Field) (seen : Seen) (here : ℕ) → f ≡ v → r ≡ three v seen here → r ≡ three f seen here
-is-field r f v seen here p d = rw p d
+pub is-item : (i : ItemIn) (f v : Field) → f ≡ v → i ≡ itemIn v → i ≡ itemIn f
+is-item i f v p d = rw p d
 
--- ## Sources: the exports have the number of the item, and so has an inline segment
+-- ## The first entry: the exports have the number of the item
 
-module _ (r : Three) (es : Code.List) (x : Source) (seen : Seen) (here : ℕ) (e : Entry) where
-  pub source-own : (o : Own) (k : Kind.Space) → x ≡ S.Own o → k ≡ ownSpaceOf o → e ≡ exportsOf es k seen → r ≡ ownThree e o here → r ≡ sourceThree es x seen here
-  source-own o k p q d g = rw (p, g, d, q)
+module _ (r : Entry) (f : Field) (seen : Seen) where
+  pub is-first : (v : Field) → f ≡ v → r ≡ firstOf v seen → r ≡ firstOf f seen
+  is-first v p d = rw p d
 
-  pub source-imported : (n : ImportName) (i : Extern) (k : Kind.Space) → x ≡ S.Imported n i → k ≡ externSpaceOf i → e ≡ exportsOf es k seen
-      → r ≡ threeOf e (E.Import n i) E.Nothing → r ≡ sourceThree es x seen here
-  source-imported n i k p q d g = rw (p, g, d, q)
+  pub first-item : (i : Part) (es : Code.List) (x : Source) (k : Kind.Space) → f ≡ F.Item i es x → k ≡ sourceSpaceOf x → r ≡ exportsOf es k seen → r ≡ firstOf f seen
+  unfolding firstOf
+  first-item i es x k p q d = rw (p, d, q)
 
-module _ (r : Three) (es : Code.List) (x : Source) (seen : Seen) (here : ℕ) (e : Entry) (n : ℕ) where
-  pub source-table : (w : Bool) (xs : Code.List) → x ≡ S.TableOf w xs → e ≡ exportsOf es K.Tables seen → n ≡ countOf seen (spaceOf K.Tables)
-      → r ≡ threeOf e (E.InlineElem w n xs) (E.InlineTable w xs) → r ≡ sourceThree es x seen here
-  source-table w xs p d m g = rw (p, g, d, m)
+-- ## The second and the third: so has an inline segment
 
-  pub source-mem : (w : Bool) (d : Part) → x ≡ S.MemOf w d → e ≡ exportsOf es K.Mems seen → n ≡ countOf seen (spaceOf K.Mems)
-      → r ≡ threeOf e (E.InlineData w n d) (E.InlineMem w d) → r ≡ sourceThree es x seen here
-  source-mem w b p d m g = rw (p, g, d, m)
+module _ (r : Entry) (x : Source) (seen : Seen) where
+  pub is-second : (v : Source) → x ≡ v → r ≡ secondOf v seen → r ≡ secondOf x seen
+  is-second v p d = rw p d
+
+  pub second-own : (o v : Own) → x ≡ S.Own o → o ≡ v → r ≡ secondOf (S.Own v) seen → r ≡ secondOf x seen
+  second-own o v p q d = rw (p, q) d
+
+  pub second-table : (w : Bool) (xs : Code.List) (n : ℕ) → x ≡ S.TableOf w xs → n ≡ countOf seen (spaceOf K.Tables) → r ≡ E.InlineElem w n xs → r ≡ secondOf x seen
+  unfolding secondOf
+  second-table w xs n p m d = rw (p, d, m)
+
+  pub second-mem : (w : Bool) (b : Part) (n : ℕ) → x ≡ S.MemOf w b → n ≡ countOf seen (spaceOf K.Mems) → r ≡ E.InlineData w n b → r ≡ secondOf x seen
+  unfolding secondOf
+  second-mem w b n p m d = rw (p, d, m)
+
+module _ (r : Entry) (x : Source) (here : ℕ) where
+  pub is-third : (v : Source) → x ≡ v → r ≡ thirdOf v here → r ≡ thirdOf x here
+  is-third v p d = rw p d
+
+  pub third-own : (o v : Own) → x ≡ S.Own o → o ≡ v → r ≡ thirdOf (S.Own v) here → r ≡ thirdOf x here
+  third-own o v p q d = rw (p, q) d
+
+-- ## All three, by what is found in a field
+
+three-by : (f : Field) (seen : Seen) (here : ℕ) (e : Entry) (i : ItemIn) → e ≡ firstOf f seen → i ≡ itemIn f → threeOf e (secondIn i seen) (thirdIn i here) ≡ three f seen here
+unfolding three
+three-by f seen here e i d told = rw (d, told)
+
+module _ (r : Three) (f : Field) (seen : Seen) (here : ℕ) (e : Entry) (i : ItemIn) where
+  pub three-item : (x : Source) (a b : Entry) → r ≡ threeOf e a b → i ≡ I.Item x → e ≡ firstOf f seen → i ≡ itemIn f → a ≡ secondOf x seen → b ≡ thirdOf x here → r ≡ three f seen here
+  three-item x a b g is d told p q = rw (g, p, q) (three-by f seen here e (I.Item x) d (sym is ∙ told))
+
+  pub three-other : r ≡ threeOf e E.Nothing E.Nothing → i ≡ I.Other → e ≡ firstOf f seen → i ≡ itemIn f → r ≡ three f seen here
+  three-other g is d told = g ∙ three-by f seen here e I.Other d (sym is ∙ told)

@@ -26,7 +26,7 @@ use Rattle.fields.specs.declared.field.Field.the-variants as F
 use Rattle.walk.specs.Walk.{bodyFrom, wholeField, fieldsHere}
 use Rattle.walk.specs.declared.Cursor.{Cursor}
 use Rattle.scope.specs.Scope.{Recalled}
-use Rattle.content.specs.Entry.{usesOf, FewIn, WholeIn, three}
+use Rattle.content.specs.Entry.{usesOf, FewIn, WholeIn, firstOf, itemIn, secondOf, thirdOf, three}
 use Rattle.content.specs.declared.entry.Three.{Three}
 
 -- ## Every use
@@ -61,7 +61,7 @@ module _ (P : ℕ → FuncType → Type 0) where
   module _ (s : Bytes) (c next : Cursor) where
     own-uses : (i : Part) (es : Code.List) (o : Own) (here : ℕ) → let f : Read.Field = F.Item i es (S.Own o) in
         All (uses (fieldsHere c s (record { field = fieldOf s f; head-end = here; next = next }))) → AllThree s (c .rec) (three f (c .seen) here)
-    unfolding fieldsHere fieldsOf fieldBody sourceBody ownBody sourceFields uses fieldUses ownUses usesOf
+    unfolding fieldsHere fieldsOf fieldBody sourceBody ownBody sourceFields uses fieldUses ownUses usesOf three firstOf itemIn secondOf thirdOf
     own-uses i es (O.Func t ls) here a =
         let u = usedAt (c .rec) (Types.useOf (useOf s t)) in
         let b = Types.bodyUses (c .rec + 1) (bodyFrom (4096 - (c .rec + 1)) 0 s here) in
@@ -73,7 +73,7 @@ module _ (P : ℕ → FuncType → Type 0) where
 
     pub uses-here : (f : Read.Field) (here : ℕ)
         → All (uses (fieldsHere c s (record { field = fieldOf s f; head-end = here; next = next }))) → AllThree s (c .rec) (three f (c .seen) here)
-    unfolding fieldsHere fieldsOf fieldBody sourceBody sourceFields uses fieldUses usesOf
+    unfolding fieldsHere fieldsOf fieldBody sourceBody sourceFields uses fieldUses usesOf three firstOf itemIn secondOf thirdOf
     uses-here (F.Type i ps rs) here a = record { first = tt; second = tt; third = tt }
     uses-here (F.Import n i x) here a = record { first = all-first (usedAt (c .rec) (Types.externUses (externIs s x))) [] a; second = tt; third = tt }
     uses-here (F.Export n k x) here a = record { first = tt; second = tt; third = tt }
@@ -95,6 +95,7 @@ pub record FewThree (s : Bytes) (t : Three) : Type 0 where
 pub few-here : (s : Bytes) (seen : Seen) (f : Read.Field) (here : ℕ)
     → ((i : Part) (es : Code.List) (t : TypeUse) (ls : Code.List) → f ≡ F.Item i es (S.Own (O.Func t ls)) → (length (useOf s t .params) ≤ 64) × (length (listOf Token.param s ls) ≤ 64))
     → FewThree s (three f seen here)
+unfolding three firstOf itemIn secondOf thirdOf
 few-here s seen (F.Type i ps rs) here h = record { first = tt; second = tt; third = tt }
 few-here s seen (F.Import n i x) here h = record { first = tt; second = tt; third = tt }
 few-here s seen (F.Export n k x) here h = record { first = tt; second = tt; third = tt }

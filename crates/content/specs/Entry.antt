@@ -37,6 +37,8 @@ use Rattle.entries.specs.Entry.{entryOf, exportEntries}
 use Rattle.function.specs.Function.{codeOf, funcField}
 use Rattle.content.specs.declared.entry.Entry.{Entry}
 use Rattle.content.specs.declared.entry.Entry.the-variants as E
+use Rattle.content.specs.declared.entry.ItemIn.{ItemIn}
+use Rattle.content.specs.declared.entry.ItemIn.the-variants as I
 use Rattle.content.specs.declared.entry.Three.{Three}
 
 abbrev pub sectionNo : Entry → ℕ
@@ -163,36 +165,66 @@ ownSpaceOf (O.Table t) = K.Tables
 ownSpaceOf (O.Mem l) = K.Mems
 ownSpaceOf (O.Global t c) = K.Globals
 
+abbrev pub sourceSpaceOf : Source → Kind.Space
+sourceSpaceOf (S.Own o) = ownSpaceOf o
+sourceSpaceOf (S.Imported n x) = externSpaceOf x
+sourceSpaceOf (S.TableOf w xs) = K.Tables
+sourceSpaceOf (S.MemOf w d) = K.Mems
+
 -- the exports of the next item of a space
 abbrev pub exportsOf : Code.List → Kind.Space → Seen → Entry
 exportsOf es k seen = E.Exports es k (countOf seen (spaceOf k))
 
+unfoldable pub firstOf : Field → Seen → Entry
+firstOf (F.Type i ps rs) seen = E.Type ps rs
+firstOf (F.Import n i x) seen = E.Import n x
+firstOf (F.Item i es x) seen = exportsOf es (sourceSpaceOf x) seen
+firstOf (F.Export n k x) seen = E.Export n k x
+firstOf (F.Start x) seen = E.Start x
+firstOf (F.Elem i m xs) seen = E.Elem m xs
+firstOf (F.Data i m d) seen = E.Data m d
+
+-- the entries of an item after its exports
+unfoldable pub secondOf : Source → Seen → Entry
+secondOf (S.Own (O.Func t ls)) seen = E.Func t
+secondOf (S.Own (O.Table t)) seen = E.Table t
+secondOf (S.Own (O.Mem l)) seen = E.Mem l
+secondOf (S.Own (O.Global t c)) seen = E.Global t c
+secondOf (S.Imported n x) seen = E.Import n x
+secondOf (S.TableOf w xs) seen = E.InlineElem w (countOf seen tables) xs
+secondOf (S.MemOf w d) seen = E.InlineData w (countOf seen mems) d
+
+unfoldable pub thirdOf : Source → ℕ → Entry
+thirdOf (S.Own (O.Func t ls)) here = E.Code t ls here
+thirdOf (S.Own (O.Table t)) here = E.Nothing
+thirdOf (S.Own (O.Mem l)) here = E.Nothing
+thirdOf (S.Own (O.Global t c)) here = E.Nothing
+thirdOf (S.Imported n x) here = E.Nothing
+thirdOf (S.TableOf w xs) here = E.InlineTable w xs
+thirdOf (S.MemOf w d) here = E.InlineMem w d
+
+unfoldable pub itemIn : Field → ItemIn
+itemIn (F.Type i ps rs) = I.Other
+itemIn (F.Import n i x) = I.Other
+itemIn (F.Item i es x) = I.Item x
+itemIn (F.Export n k x) = I.Other
+itemIn (F.Start x) = I.Other
+itemIn (F.Elem i m xs) = I.Other
+itemIn (F.Data i m d) = I.Other
+
+abbrev pub secondIn : ItemIn → Seen → Entry
+secondIn (I.Item x) seen = secondOf x seen
+secondIn I.Other seen = E.Nothing
+
+abbrev pub thirdIn : ItemIn → ℕ → Entry
+thirdIn (I.Item x) here = thirdOf x here
+thirdIn I.Other here = E.Nothing
+
 abbrev pub threeOf : Entry → Entry → Entry → Three
 threeOf a b c = record { first = a; second = b; third = c }
 
-abbrev pub only : Entry → Three
-only e = threeOf e E.Nothing E.Nothing
-
-abbrev pub ownThree : Entry → Own → ℕ → Three
-ownThree es (O.Func t ls) here = threeOf es (E.Func t) (E.Code t ls here)
-ownThree es (O.Table t) here = threeOf es (E.Table t) E.Nothing
-ownThree es (O.Mem l) here = threeOf es (E.Mem l) E.Nothing
-ownThree es (O.Global t c) here = threeOf es (E.Global t c) E.Nothing
-
-abbrev pub sourceThree : Code.List → Source → Seen → ℕ → Three
-sourceThree es (S.Own o) seen here = ownThree (exportsOf es (ownSpaceOf o) seen) o here
-sourceThree es (S.Imported n x) seen here = threeOf (exportsOf es (externSpaceOf x) seen) (E.Import n x) E.Nothing
-sourceThree es (S.TableOf w xs) seen here = threeOf (exportsOf es K.Tables seen) (E.InlineElem w (countOf seen tables) xs) (E.InlineTable w xs)
-sourceThree es (S.MemOf w d) seen here = threeOf (exportsOf es K.Mems seen) (E.InlineData w (countOf seen mems) d) (E.InlineMem w d)
-
-abbrev pub three : Field → Seen → ℕ → Three
-three (F.Type i ps rs) seen here = only (E.Type ps rs)
-three (F.Import n i x) seen here = only (E.Import n x)
-three (F.Item i es x) seen here = sourceThree es x seen here
-three (F.Export n k x) seen here = only (E.Export n k x)
-three (F.Start x) seen here = only (E.Start x)
-three (F.Elem i m xs) seen here = only (E.Elem m xs)
-three (F.Data i m d) seen here = only (E.Data m d)
+unfoldable pub three : Field → Seen → ℕ → Three
+three f seen here = threeOf (firstOf f seen) (secondIn (itemIn f) seen) (thirdIn (itemIn f) here)
 
 -- ## Entries with their sections
 

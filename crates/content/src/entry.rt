@@ -16,7 +16,7 @@ use token::Space;
 use typeuse::List;
 use typeuse::TypeUse;
 ghost use mathlib.Core.Path.{_≡_};
-ghost use Rattle.content.specs.Entry.{sectionNo, externSpaceOf, ownSpaceOf, exportsOf, threeOf, only, ownThree, sourceThree, three};
+ghost use Rattle.content.specs.Entry.{sectionNo, externSpaceOf, ownSpaceOf, sourceSpaceOf, exportsOf, firstOf, itemIn, secondOf, thirdOf, threeOf, three};
 
 // Entries of one section. The inline forms have the number of their item.
 pub enum Entry {
@@ -65,30 +65,6 @@ pub fn section_of(e: Entry) -> u8
     }
 }
 
-// The entries of a field, in the order in which the definition resolves them.
-pub struct Three {
-    pub first: Entry,
-    pub second: Entry,
-    pub third: Entry,
-}
-
-fn together(first: Entry, second: Entry, third: Entry) -> Three
-    ensures { λ r. ⌜ r ≡ threeOf first second third ⌝ }
-{
-    Three {
-        first,
-        second,
-        third,
-    }
-}
-
-// A field of one entry.
-fn only(e: Entry) -> Three
-    ensures { λ r. ⌜ r ≡ only e ⌝ }
-{
-    together(e, Entry::Nothing, Entry::Nothing)
-}
-
 // The space of an item.
 fn extern_space(x: Extern) -> Space
     ensures { λ r. ⌜ r ≡ externSpaceOf x ⌝ }
@@ -112,6 +88,17 @@ fn own_space(o: Own) -> Space
     }
 }
 
+fn source_space(x: Source) -> Space
+    ensures { λ r. ⌜ r ≡ sourceSpaceOf x ⌝ }
+{
+    match x {
+        Source::Own(o) => own_space(o),
+        Source::Imported(_, e) => extern_space(e),
+        Source::TableOf(_, _) => Space::Tables,
+        Source::MemOf(_, _) => Space::Mems,
+    }
+}
+
 // The exports of the next item of a space: they have its number.
 fn exports_of(exports: List, k: Space, seen: Seen) -> Entry
     ensures { λ r. ⌜ r ≡ exportsOf exports k seen ⌝ }
@@ -119,60 +106,135 @@ fn exports_of(exports: List, k: Space, seen: Seen) -> Entry
     Entry::Exports(exports, k, sources::seen::count_of(seen, k))
 }
 
-fn own_entries(exports: Entry, o: Own, here: usize) -> Three
-    ensures { λ r. ⌜ r ≡ ownThree exports o here ⌝ }
-{
-    match o {
-        Own::Func(t, ls) => together(exports, Entry::Func(t), Entry::Code(t, ls, here)),
-        Own::Table(t) => together(exports, Entry::Table(t), Entry::Nothing),
-        Own::Mem(l) => together(exports, Entry::Mem(l), Entry::Nothing),
-        Own::Global(t, c) => together(exports, Entry::Global(t, c), Entry::Nothing),
-    }
-}
-
-// An inline table or memory is two entries beside its exports: the segment, and the item with the same number.
-fn source_entries(exports: List, x: Source, seen: Seen, here: usize) -> Three
-    ensures { λ r. ⌜ r ≡ sourceThree exports x seen here ⌝ }
-{
-    match x {
-        Source::Own(o) => own_entries(exports_of(exports, own_space(o), seen), o, here),
-        Source::Imported(n, e) => together(
-            exports_of(exports, extern_space(e), seen),
-            Entry::Import(n, e),
-            Entry::Nothing,
-        ),
-        Source::TableOf(w, xs) => together(
-            exports_of(exports, Space::Tables, seen),
-            Entry::InlineElem(w, sources::seen::count_of(seen, Space::Tables), xs),
-            Entry::InlineTable(w, xs),
-        ),
-        Source::MemOf(w, d) => together(
-            exports_of(exports, Space::Mems, seen),
-            Entry::InlineData(w, sources::seen::count_of(seen, Space::Mems), d),
-            Entry::InlineMem(w, d),
-        ),
-    }
-}
-
-// The entries of a field whose head ends at `here`; what was seen before it numbers its items.
-pub fn entries_of(f: Field, seen: Seen, here: usize) -> Three
-    ensures { λ r. ⌜ r ≡ three f seen here ⌝ }
+// A field's first entry, and for most the only one; what was seen before the field numbers its items.
+pub fn first_of(f: Field, seen: Seen) -> Entry
+    ensures { λ r. ⌜ r ≡ firstOf f seen ⌝ }
 {
     match f {
         Field::Type {
             id: _,
             params,
             results,
-        } => only(Entry::Type(params, results)),
-        Field::Import { name, id: _, what } => only(Entry::Import(name, what)),
+        } => Entry::Type(params, results),
+        Field::Import { name, id: _, what } => Entry::Import(name, what),
         Field::Item {
             id: _,
             exports,
             source,
-        } => source_entries(exports, source, seen, here),
-        Field::Export { name, space, index } => only(Entry::Export(name, space, index)),
-        Field::Start(x) => only(Entry::Start(x)),
-        Field::Elem { id: _, mode, funcs } => only(Entry::Elem(mode, funcs)),
-        Field::Data { id: _, mode, bytes } => only(Entry::Data(mode, bytes)),
+        } => exports_of(exports, source_space(source), seen),
+        Field::Export { name, space, index } => Entry::Export(name, space, index),
+        Field::Start(x) => Entry::Start(x),
+        Field::Elem { id: _, mode, funcs } => Entry::Elem(mode, funcs),
+        Field::Data { id: _, mode, bytes } => Entry::Data(mode, bytes),
+    }
+}
+
+// An item has entries after its exports; other fields have one entry.
+pub enum ItemIn {
+    Item(Source),
+    Other,
+}
+
+pub fn item_in(f: Field) -> ItemIn
+    ensures { λ r. ⌜ r ≡ itemIn f ⌝ }
+{
+    match f {
+        Field::Type {
+            id: _,
+            params: _,
+            results: _,
+        } => ItemIn::Other,
+        Field::Import {
+            name: _,
+            id: _,
+            what: _,
+        } => ItemIn::Other,
+        Field::Item {
+            id: _,
+            exports: _,
+            source,
+        } => ItemIn::Item(source),
+        Field::Export {
+            name: _,
+            space: _,
+            index: _,
+        } => ItemIn::Other,
+        Field::Start(_) => ItemIn::Other,
+        Field::Elem {
+            id: _,
+            mode: _,
+            funcs: _,
+        } => ItemIn::Other,
+        Field::Data {
+            id: _,
+            mode: _,
+            bytes: _,
+        } => ItemIn::Other,
+    }
+}
+
+// An inline table or memory is two entries beside its exports: the segment, and the item with the same number.
+pub fn second_of(x: Source, seen: Seen) -> Entry
+    ensures { λ r. ⌜ r ≡ secondOf x seen ⌝ }
+{
+    match x {
+        Source::Own(o) => match o {
+            Own::Func(t, _) => Entry::Func(t),
+            Own::Table(t) => Entry::Table(t),
+            Own::Mem(l) => Entry::Mem(l),
+            Own::Global(t, c) => Entry::Global(t, c),
+        },
+        Source::Imported(n, e) => Entry::Import(n, e),
+        Source::TableOf(w, xs) => Entry::InlineElem(
+            w,
+            sources::seen::count_of(seen, Space::Tables),
+            xs,
+        ),
+        Source::MemOf(w, d) => Entry::InlineData(w, sources::seen::count_of(seen, Space::Mems), d),
+    }
+}
+
+// A function's body begins at `here`.
+pub fn third_of(x: Source, here: usize) -> Entry
+    ensures { λ r. ⌜ r ≡ thirdOf x here ⌝ }
+{
+    match x {
+        Source::Own(o) => match o {
+            Own::Func(t, ls) => Entry::Code(t, ls, here),
+            Own::Table(_) => Entry::Nothing,
+            Own::Mem(_) => Entry::Nothing,
+            Own::Global(_, _) => Entry::Nothing,
+        },
+        Source::Imported(_, _) => Entry::Nothing,
+        Source::TableOf(w, xs) => Entry::InlineTable(w, xs),
+        Source::MemOf(w, d) => Entry::InlineMem(w, d),
+    }
+}
+
+// The entries of a field, in the order in which the definition resolves them.
+pub struct Three {
+    pub first: Entry,
+    pub second: Entry,
+    pub third: Entry,
+}
+
+fn together(first: Entry, second: Entry, third: Entry) -> Three
+    ensures { λ r. ⌜ r ≡ threeOf first second third ⌝ }
+{
+    Three {
+        first,
+        second,
+        third,
+    }
+}
+
+// The entries of a field whose head ends at `here`.
+pub fn entries_of(f: Field, seen: Seen, here: usize) -> Three
+    ensures { λ r. ⌜ r ≡ three f seen here ⌝ }
+{
+    let first = first_of(f, seen);
+    match item_in(f) {
+        ItemIn::Item(x) => together(first, second_of(x, seen), third_of(x, here)),
+        ItemIn::Other => together(first, Entry::Nothing, Entry::Nothing),
     }
 }

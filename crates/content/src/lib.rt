@@ -4,6 +4,11 @@ pub mod entry;
 
 pub use emitters::EndsAt;
 pub use entry::Entry;
+pub use entry::ItemIn;
 pub use entry::Three;
 pub use entry::entries_of;
+pub use entry::first_of;
+pub use entry::item_in;
+pub use entry::second_of;
 pub use entry::section_of;
+pub use entry::third_of;

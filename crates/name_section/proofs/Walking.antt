@@ -33,7 +33,7 @@ use Rattle.walk.proofs.Steps.{visit-done, visit-less, visit-fields, visit-ahead
 use Rattle.types.proofs.Fields.{uses-append}
 use Rattle.scope.specs.Scope.{scopeIn, Recalled}
 use Rattle.scope.proofs.Frames.{recalled-left, recalled-right}
-use Rattle.content.specs.Entry.{usesOf, three}
+use Rattle.content.specs.Entry.{usesOf, itemIn, secondOf, three}
 use Rattle.content.proofs.Uses.{RecalledThree, recalled-here}
 use Rattle.module.specs.Write.{Writable}
 use Rattle.definition.specs.NameSection as Definition
@@ -134,7 +134,7 @@ module _ (Γ : Scope Identifier) where
 
 -- the number of its type use
 uses-of : (s w : List ℕ) (ts : List FuncType) (c : Cursor) (f : Field) (here : ℕ) → RecalledThree w ts s (c .rec) (three f (c .seen) here) → RecalledOf s w ts (c .rec) (functionOf f)
-unfolding usesOf
+unfolding usesOf three itemIn secondOf
 uses-of s w ts c (F.Type i ps rs) here v = tt
 uses-of s w ts c (F.Import n i (X.Func t)) here v = tt
 uses-of s w ts c (F.Import n i (X.Table t)) here v = tt

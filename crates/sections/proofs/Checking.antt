@@ -13,13 +13,20 @@ use Rattle.space.specs.Kept.{Kept}
 use Rattle.space.proofs.Kept.{kept-less, kept-then}
 use Rattle.scope.specs.Scope.{scopeIn}
 use Rattle.scope.proofs.Frames.{recalled-scope, scope-kept}
+use Rattle.sources.specs.declared.seen.Seen.{Seen}
+use Rattle.sources.specs.declared.source.Source.{Source}
+use Rattle.fields.specs.declared.field.Field.{Field}
 use Rattle.content.specs.declared.entry.Entry.{Entry}
 use Rattle.content.specs.declared.entry.Entry.the-variants as E
-use Rattle.content.specs.Entry.{Entries, tagged, both, usesOf, sectionNo, answerOf, entryIn, threeIn}
+use Rattle.content.specs.Entry.{Entries, tagged, both, usesOf, sectionNo, answerOf, entryIn, firstOf, secondOf, thirdOf, itemIn, secondIn, thirdIn, threeOf, three, threeIn}
 use Rattle.content.specs.Listed.{Listed, Answers}
+use Rattle.content.specs.declared.entry.ItemIn.{ItemIn}
+use Rattle.content.specs.declared.entry.ItemIn.the-variants as I
 use Rattle.content.specs.declared.entry.Three.{Three}
 use Rattle.content.specs.declared.emitters.EndsAt.{EndsAt}
 use Rattle.content.specs.declared.emitters.EndsAt.the-variants as A
+use Rattle.content.proofs.Threes.{three-item, three-other}
+use Rattle.content.proofs.Fields.{last-none, only-in}
 use Rattle.sections.specs.Emit.{EmitsKept}
 use Rattle.sections.specs.Parts.{partIn}
 use Rattle.sections.specs.Tally.{reached, tallyOf, Twelve, Tallied, NotTallied, Checks, Ready, ReadyThree, ChecksIn}
@@ -172,20 +179,7 @@ after-twelve sizes counts sizes′ counts′ h d e = record { sizes = d ∙ h .s
 scope-same : (s w w′ : List ℕ) → Kept 11536 w w′ → scopeIn s w′ ≡ scopeIn s w
 scope-same s w w′ k = scope-kept s w w′ (kept-less 11280 11536 (omega arith) k)
 
-module _ (s w : List ℕ) (r : ℕ) (t t₁ : Tally) (e : Entry) (old : Bytes) (v : Verdict) (w₁ : List ℕ) (mid : Bytes) (x : ChecksIn (entryIn (scopeIn s w) s r e) t w old (record { tally = t₁; verdict = v }) w₁ mid) where
-  -- two entries
-  pub two-then : (f : Entry) (b : Tally) (z : Verdict) (w₂ : List ℕ) (new : Bytes) → v ≡ V′.Fine → ChecksIn (entryIn (scopeIn s w₁) s r f) t₁ w₁ mid (record { tally = b; verdict = z }) w₂ new
-      → ChecksIn (both (entryIn (scopeIn s w) s r e) (entryIn (scopeIn s w) s r f)) t w old (record { tally = b; verdict = z }) w₂ new
-  two-then f b z w₂ new d y =
-      then-by (entryIn (scopeIn s w) s r e) (entryIn (scopeIn s w) s r f) t t₁ w old v w₁ mid x b z w₂ new d
-      (let k = scope-same s w w₁ (fine-kept x d) in rw k at y)
-
-  pub two-not : (f : Entry) (n q : ℕ) → v ≡ V′.Refused n q
-      → ChecksIn (both (entryIn (scopeIn s w) s r e) (entryIn (scopeIn s w) s r f)) t w old (record { tally = t₁; verdict = V′.Refused n q }) w₁ mid
-  two-not f n q d = stops-by (entryIn (scopeIn s w) s r e) (entryIn (scopeIn s w) s r f) t t₁ w old v w₁ mid x n q d
-
--- ## Entries that are nothing
-
+-- only nothing has no section
 nothing-is : (e : Entry) → sectionNo e ≡ 0 → e ≡ E.Nothing
 nothing-is E.Nothing d = refl
 nothing-is (E.Type ps rs) d = absurd (omega arith)
@@ -205,49 +199,85 @@ nothing-is (E.Code t ls here) d = absurd (omega arith)
 nothing-is (E.Data m b) d = absurd (omega arith)
 nothing-is (E.InlineData w n b) d = absurd (omega arith)
 
-entry-nothing : (Γ : Scope Identifier) (s : Bytes) (r : ℕ) (e : Entry) → sectionNo e ≡ 0 → entryIn Γ s r e ≡ ok []
-unfolding entryIn tagged answerOf
-entry-nothing Γ s r e d = rw (nothing-is e d) refl
+module _ (s w : List ℕ) (r : ℕ) (t t₁ : Tally) (e : Entry) (old : Bytes) (v : Verdict) (w₁ : List ℕ) (mid : Bytes) (x : ChecksIn (entryIn (scopeIn s w) s r e) t w old (record { tally = t₁; verdict = v }) w₁ mid) where
+  -- two entries
+  pub two-then : (f : Entry) (b : Tally) (z : Verdict) (w₂ : List ℕ) (new : Bytes) → v ≡ V′.Fine → ChecksIn (entryIn (scopeIn s w₁) s r f) t₁ w₁ mid (record { tally = b; verdict = z }) w₂ new
+      → ChecksIn (both (entryIn (scopeIn s w) s r e) (entryIn (scopeIn s w) s r f)) t w old (record { tally = b; verdict = z }) w₂ new
+  two-then f b z w₂ new d y =
+      then-by (entryIn (scopeIn s w) s r e) (entryIn (scopeIn s w) s r f) t t₁ w old v w₁ mid x b z w₂ new d
+      (let k = scope-same s w w₁ (fine-kept x d) in rw k at y)
 
-both-nothing : (a : Answer Entries) → both a (both (ok []) (ok [])) ≡ a
-unfolding both
-both-nothing (ok xs) = ap ok (append-nil xs)
-both-nothing (refused n r) = refl
+  pub two-not : (f : Entry) (n q : ℕ) → v ≡ V′.Refused n q
+      → ChecksIn (both (entryIn (scopeIn s w) s r e) (entryIn (scopeIn s w) s r f)) t w old (record { tally = t₁; verdict = V′.Refused n q }) w₁ mid
+  two-not f n q d = stops-by (entryIn (scopeIn s w) s r e) (entryIn (scopeIn s w) s r f) t t₁ w old v w₁ mid x n q d
 
--- a field with one entry
-three-is : (Γ : Scope Identifier) (s : Bytes) (r : ℕ) (y : Three) → sectionNo (y .second) ≡ 0 → sectionNo (y .third) ≡ 0 → threeIn Γ s r y ≡ entryIn Γ s r (y .first)
-unfolding threeIn
-three-is Γ s r y d e = rw (entry-nothing Γ s r (y .second) d, entry-nothing Γ s r (y .third) e) (both-nothing (entryIn Γ s r (y .first)))
+  -- the second is nothing
+  pub two-one : (f : Entry) (k : ℕ) → v ≡ V′.Fine → k ≡ sectionNo f → k ≡ 0
+      → ChecksIn (both (entryIn (scopeIn s w) s r e) (entryIn (scopeIn s w) s r f)) t w old (record { tally = t₁; verdict = V′.Fine }) w₁ mid
+  two-one f k d g z = rw (nothing-is f (sym g ∙ z), last-none (scopeIn s w) s r (entryIn (scopeIn s w) s r e)) (rw d at x)
 
 -- ## The entries of a field
 
-module _ (s w : List ℕ) (r : ℕ) (t t₁ : Tally) (y : Three) (old : Bytes) (v : Verdict) (w₁ : List ℕ) (mid : Bytes) (x : ChecksIn (entryIn (scopeIn s w) s r (y .first)) t w old (record { tally = t₁; verdict = v }) w₁ mid) where
-  -- all three
-  pub three-then : (b : Tally) (z : Verdict) (w₂ : List ℕ) (new : Bytes) → v ≡ V′.Fine
-      → ChecksIn (both (entryIn (scopeIn s w₁) s r (y .second)) (entryIn (scopeIn s w₁) s r (y .third))) t₁ w₁ mid (record { tally = b; verdict = z }) w₂ new
-      → ChecksIn (threeIn (scopeIn s w) s r y) t w old (record { tally = b; verdict = z }) w₂ new
+same-three : (s w : List ℕ) (r : ℕ) (y y′ : Three) (t : Tally) (old : Bytes) (q : Checked) (w′ : List ℕ) (new : Bytes) → y ≡ y′
+    → ChecksIn (threeIn (scopeIn s w) s r y) t w old q w′ new → ChecksIn (threeIn (scopeIn s w) s r y′) t w old q w′ new
+same-three s w r y y′ t old q w′ new e h = rw (← e) h
+
+module _ (s w : List ℕ) (r : ℕ) (t t₁ : Tally) (e : Entry) (old : Bytes) (v : Verdict) (w₁ : List ℕ) (mid : Bytes) (x : ChecksIn (entryIn (scopeIn s w) s r e) t w old (record { tally = t₁; verdict = v }) w₁ mid) where
+  three-then : (f g : Entry) (b : Tally) (z : Verdict) (w₂ : List ℕ) (new : Bytes) → v ≡ V′.Fine
+      → ChecksIn (both (entryIn (scopeIn s w₁) s r f) (entryIn (scopeIn s w₁) s r g)) t₁ w₁ mid (record { tally = b; verdict = z }) w₂ new
+      → ChecksIn (threeIn (scopeIn s w) s r (threeOf e f g)) t w old (record { tally = b; verdict = z }) w₂ new
   unfolding threeIn
-  three-then b z w₂ new d h =
-      then-by (entryIn (scopeIn s w) s r (y .first)) (both (entryIn (scopeIn s w) s r (y .second)) (entryIn (scopeIn s w) s r (y .third))) t t₁ w old v w₁ mid x b z w₂ new d
+  three-then f g b z w₂ new d h =
+      then-by (entryIn (scopeIn s w) s r e) (both (entryIn (scopeIn s w) s r f) (entryIn (scopeIn s w) s r g)) t t₁ w old v w₁ mid x b z w₂ new d
       (let k = scope-same s w w₁ (fine-kept x d) in rw k at h)
 
-  -- only the first
-  pub three-one : (k : ℕ) → v ≡ V′.Fine → k ≡ sectionNo (y .second) → k ≡ 0 → ReadyThree s w r y → ChecksIn (threeIn (scopeIn s w) s r y) t w old (record { tally = t₁; verdict = V′.Fine }) w₁ mid
-  three-one k d e z h = let a = sym e ∙ z in rw (three-is (scopeIn s w) s r y a (h .alone a)) (rw d at x)
+  three-one : v ≡ V′.Fine → ChecksIn (threeIn (scopeIn s w) s r (threeOf e E.Nothing E.Nothing)) t w old (record { tally = t₁; verdict = V′.Fine }) w₁ mid
+  three-one d = rw (only-in (scopeIn s w) s r e) (rw d at x)
 
-  pub three-not : (n q : ℕ) → v ≡ V′.Refused n q → ChecksIn (threeIn (scopeIn s w) s r y) t w old (record { tally = t₁; verdict = V′.Refused n q }) w₁ mid
+  three-not : (y : Three) (n q : ℕ) → e ≡ y .first → v ≡ V′.Refused n q → ChecksIn (threeIn (scopeIn s w) s r y) t w old (record { tally = t₁; verdict = V′.Refused n q }) w₁ mid
   unfolding threeIn
-  three-not n q d = stops-by (entryIn (scopeIn s w) s r (y .first)) (both (entryIn (scopeIn s w) s r (y .second)) (entryIn (scopeIn s w) s r (y .third))) t t₁ w old v w₁ mid x n q d
+  three-not y n q g d =
+      rw (← g)
+      (stops-by (entryIn (scopeIn s w) s r e) (both (entryIn (scopeIn s w) s r (y .second)) (entryIn (scopeIn s w) s r (y .third))) t t₁ w old v w₁ mid x n q d)
 
-module _ (s w : List ℕ) (r : ℕ) (y : Three) (h : ReadyThree s w r y) where
-  pub three-first : Ready s w r (y .first)
-  three-first = h .first
+  module _ (f : Field) (seen : Seen) (here : ℕ) (told : e ≡ firstOf f seen) where
+    -- an item: all three
+    pub field-then : (i : ItemIn) (g : Source) (a b : Entry) (t₂ : Tally) (z : Verdict) (w₂ : List ℕ) (new : Bytes)
+        → ChecksIn (both (entryIn (scopeIn s w₁) s r a) (entryIn (scopeIn s w₁) s r b)) t₁ w₁ mid (record { tally = t₂; verdict = z }) w₂ new
+        → v ≡ V′.Fine → i ≡ itemIn f → i ≡ I.Item g → a ≡ secondOf g seen → b ≡ thirdOf g here
+        → ChecksIn (threeIn (scopeIn s w) s r (three f seen here)) t w old (record { tally = t₂; verdict = z }) w₂ new
+    field-then i g a b t₂ z w₂ new h d in-f is p q =
+        same-three s w r (threeOf e a b) (three f seen here) t old _ w₂ new (three-item (threeOf e a b) f seen here e i g a b refl is told in-f p q) (three-then a b t₂ z w₂ new d h)
 
-  pub three-second : Ready s w r (y .second)
-  three-second = h .second
+    -- another field: only the first
+    pub field-one : (i : ItemIn) → v ≡ V′.Fine → i ≡ itemIn f → i ≡ I.Other → ChecksIn (threeIn (scopeIn s w) s r (three f seen here)) t w old (record { tally = t₁; verdict = V′.Fine }) w₁ mid
+    field-one i d in-f is =
+        same-three s w r (threeOf e E.Nothing E.Nothing) (three f seen here) t old _ w₁ mid (three-other (threeOf e E.Nothing E.Nothing) f seen here e i refl is told in-f) (three-one d)
 
-  pub three-third : Ready s w r (y .third)
-  three-third = h .third
+    pub field-not : (n q : ℕ) → v ≡ V′.Refused n q → ChecksIn (threeIn (scopeIn s w) s r (three f seen here)) t w old (record { tally = t₁; verdict = V′.Refused n q }) w₁ mid
+    unfolding three
+    field-not n q d = three-not (three f seen here) n q told d
+
+-- each of them is ready
+module _ (s w : List ℕ) (r : ℕ) (f : Field) (seen : Seen) (here : ℕ) (h : ReadyThree s w r (three f seen here)) where
+  pub field-first : (e : Entry) → e ≡ firstOf f seen → Ready s w r e
+  unfolding three
+  field-first e d = rw d (h .first)
+
+  second-in : (i : ItemIn) → i ≡ itemIn f → Ready s w r (secondIn i seen)
+  unfolding three
+  second-in i d = rw d (h .second)
+
+  third-in : (i : ItemIn) → i ≡ itemIn f → Ready s w r (thirdIn i here)
+  unfolding three
+  third-in i d = rw d (h .third)
+
+  module _ (i : ItemIn) (x : Source) (e : Entry) where
+    pub field-second : i ≡ itemIn f → i ≡ I.Item x → e ≡ secondOf x seen → Ready s w r e
+    field-second in-f is d = rw d (second-in (I.Item x) (sym is ∙ in-f))
+
+    pub field-third : i ≡ itemIn f → i ≡ I.Item x → e ≡ thirdOf x here → Ready s w r e
+    field-third in-f is d = rw d (third-in (I.Item x) (sym is ∙ in-f))
 
 pub long-after : (a : Answer Entries) (t : Tally) (w : List ℕ) (old : Bytes) (r : Checked) (w′ : List ℕ) (new : Bytes) → ChecksIn a t w old r w′ new → 16384 ≤ length w → 16384 ≤ length w′
 long-after a t w old r w′ new v h = rw (area-long v) h

@@ -9,9 +9,7 @@ use Rattle.definition.specs.Syntax.{Bytes, Identifier}
 use Rattle.definition.specs.Types.{uses}
 use Rattle.definition.specs.Names.{Scope, resolveAll}
 use Rattle.fields.specs.Views.{fieldOf}
-use Rattle.typeuse.specs.declared.List as CodeList
 use Rattle.sources.specs.declared.seen.Seen.{Seen}
-use Rattle.sources.specs.declared.source.Own.{Own}
 use Rattle.sources.specs.declared.source.Own.the-variants as O
 use Rattle.sources.specs.declared.source.Source.{Source}
 use Rattle.sources.specs.declared.source.Source.the-variants as S
@@ -28,9 +26,7 @@ use Rattle.walk.proofs.Steps.{visit-done, visit-fields, visit-whole, visit-ahea
 use Rattle.types.proofs.Fields.{uses-append}
 use Rattle.scope.specs.Scope.{scopeIn, Recalled}
 use Rattle.scope.proofs.Frames.{scope-kept, recalled-left, recalled-right, recalled-scope}
-use Rattle.content.specs.Entry.{Entries, entriesOf, both, sectionNo, ownSpaceOf, exportsOf, ownThree, sourceThree, three, threeIn}
-use Rattle.content.specs.declared.entry.Entry.{Entry}
-use Rattle.content.specs.declared.entry.Three.{Three}
+use Rattle.content.specs.Entry.{Entries, entriesOf, both, sectionNo, itemIn, secondOf, thirdOf, three, threeIn}
 use Rattle.content.proofs.Fields.{entries-append, entries-here}
 use Rattle.content.proofs.Uses.{recalled-here, few-here, whole-here}
 use Rattle.sections.specs.Tally.{tallies, noTally, tallyOf, Twelve, Keeps, Tallied, ReadyThree, ChecksIn}
@@ -66,22 +62,21 @@ unfolding entriesOf resolveAll each _>>=_ concatMap
 entries-none Γ = refl
 
 -- where a field's second entry is nothing, so is its third
-alone-own : (es : Entry) (o : Own) (here : ℕ) → sectionNo (ownThree es o here .second) ≡ 0 → sectionNo (ownThree es o here .third) ≡ 0
-alone-own es (O.Func t ls) here d = absurd (omega arith)
-alone-own es (O.Table t) here d = refl
-alone-own es (O.Mem l) here d = refl
-alone-own es (O.Global t c) here d = refl
-
-alone-source : (es : CodeList.List) (x : Source) (seen : Seen) (here : ℕ) → sectionNo (sourceThree es x seen here .second) ≡ 0 → sectionNo (sourceThree es x seen here .third) ≡ 0
-alone-source es (S.Own o) seen here d = alone-own (exportsOf es (ownSpaceOf o) seen) o here d
-alone-source es (S.Imported n x) seen here d = refl
-alone-source es (S.TableOf w xs) seen here d = absurd (omega arith)
-alone-source es (S.MemOf w b) seen here d = absurd (omega arith)
+alone-source : (x : Source) (seen : Seen) (here : ℕ) → sectionNo (secondOf x seen) ≡ 0 → sectionNo (thirdOf x here) ≡ 0
+unfolding secondOf thirdOf
+alone-source (S.Own (O.Func t ls)) seen here d = absurd (omega arith)
+alone-source (S.Own (O.Table t)) seen here d = refl
+alone-source (S.Own (O.Mem l)) seen here d = refl
+alone-source (S.Own (O.Global t c)) seen here d = refl
+alone-source (S.Imported n x) seen here d = refl
+alone-source (S.TableOf w xs) seen here d = absurd (omega arith)
+alone-source (S.MemOf w b) seen here d = absurd (omega arith)
 
 alone-here : (f : Code.Field) (seen : Seen) (here : ℕ) → sectionNo (three f seen here .second) ≡ 0 → sectionNo (three f seen here .third) ≡ 0
+unfolding three itemIn
 alone-here (F.Type i ps rs) seen here d = refl
 alone-here (F.Import n i x) seen here d = refl
-alone-here (F.Item i es x) seen here d = alone-source es x seen here d
+alone-here (F.Item i es x) seen here d = alone-source x seen here d
 alone-here (F.Export n k x) seen here d = refl
 alone-here (F.Start x) seen here d = refl
 alone-here (F.Elem i m xs) seen here d = refl
@@ -132,11 +127,11 @@ module _ (s w₀ w : List ℕ) (old mid : Bytes) (c : Cursor) (t₀ t : Tally) (
     sweep-done is =
         record { entries = v .done; is = v .same ∙ rw (visit-done s c m told is, entries-none (scopeIn s w₀)) (onto-nothing (v .done)); tally = v .tally; keeps = v .keeps }
 
-    module _ (f : Code.Field) (here : ℕ) (is : m .what ≡ W.Field f here) (x : Three) (d : x ≡ three f (c .seen) here) where
-      fields : entriesOf (scopeIn s w₀) (fieldsAhead c s) ≡ both (threeIn (scopeIn s w) s (c .rec) x) (entriesOf (scopeIn s w₀) (fieldsAhead (m .next) s))
+    module _ (f : Code.Field) (here : ℕ) (is : m .what ≡ W.Field f here) where
+      fields : entriesOf (scopeIn s w₀) (fieldsAhead c s) ≡ both (threeIn (scopeIn s w) s (c .rec) (three f (c .seen) here)) (entriesOf (scopeIn s w₀) (fieldsAhead (m .next) s))
       fields =
           let k : scopeIn s w ≡ scopeIn s w₀ = scope-kept s w₀ w (kept-less 11280 11536 (omega arith) (v .kept)) in
-          rw (visit-fields s c m told f here is, entries-append (scopeIn s w₀), d, k) (ap (λ a. both a (entriesOf (scopeIn s w₀) (fieldsAhead (m .next) s))) (entries-here (scopeIn s w₀) s c (m .next) f here))
+          rw (visit-fields s c m told f here is, entries-append (scopeIn s w₀), k) (ap (λ a. both a (entriesOf (scopeIn s w₀) (fieldsAhead (m .next) s))) (entries-here (scopeIn s w₀) s c (m .next) f here))
 
       uses-are : uses (fieldsAhead c s) ≡ uses (fieldsHere c s (record { field = fieldOf s f; head-end = here; next = m .next })) ++ uses (fieldsAhead (m .next) s)
       uses-are = rw (visit-fields s c m told f here is) (uses-append (fieldsHere c s (record { field = fieldOf s f; head-end = here; next = m .next })) (fieldsAhead (m .next) s))
@@ -146,21 +141,21 @@ module _ (s w₀ w : List ℕ) (old mid : Bytes) (c : Cursor) (t₀ t : Tally) (
       sweep-uses = recalled-left w₀ (typesIn s w₀) _ (uses (fieldsAhead (m .next) s)) (rw uses-are at (v .recalled))
 
       -- this field's entries are ready
-      pub sweep-ready : ReadyThree s w (c .rec) x
+      pub sweep-ready : ReadyThree s w (c .rec) (three f (c .seen) here)
       sweep-ready =
           let k = kept-less 11280 11536 (omega arith) (v .kept) in
           let a = recalled-here w₀ (typesIn s w₀) s c (m .next) f here sweep-uses in
           let z = whole-here s (c .rec) (c .seen) f here (visit-whole s c m told f here is w (v .ahead)) in
           let b = few-here s (c .seen) f here (λ i es t ls e. visit-func-few s c m told f here is i es t ls e) in
-          rw d (record {
+          record {
             first = record { recalled = recalled-scope s w₀ w _ k (a .first); whole = z .first; few = b .first };
             second = record { recalled = recalled-scope s w₀ w _ k (a .second); whole = z .second; few = b .second };
             third = record { recalled = recalled-scope s w₀ w _ k (a .third); whole = z .third; few = b .third };
             alone = alone-here f (c .seen) here;
-          })
+          }
 
       -- one that is fine
-      pub sweep-again : (t′ : Tally) (r : Verdict) (w′ : List ℕ) (new : Bytes) → ChecksIn (threeIn (scopeIn s w) s (c .rec) x) t w mid (record { tally = t′; verdict = r }) w′ new → r ≡ V′.Fine
+      pub sweep-again : (t′ : Tally) (r : Verdict) (w′ : List ℕ) (new : Bytes) → ChecksIn (threeIn (scopeIn s w) s (c .rec) (three f (c .seen) here)) t w mid (record { tally = t′; verdict = r }) w′ new → r ≡ V′.Fine
           → Sweeping s w₀ w′ old new (m .next) t₀ t′
       sweep-again t′ r w′ new h e =
           let y = was-fine h e in
@@ -168,7 +163,7 @@ module _ (s w₀ w : List ℕ) (old mid : Bytes) (c : Cursor) (t₀ t : Tally) (
           record {
             start = v .start;
             done = v .done ++ y .entries;
-            same = v .same ∙ rw fields (onto (v .done) (y .entries) (threeIn (scopeIn s w) s (c .rec) x) (entriesOf (scopeIn s w₀) (fieldsAhead (m .next) s)) (y .is));
+            same = v .same ∙ rw fields (onto (v .done) (y .entries) (threeIn (scopeIn s w) s (c .rec) (three f (c .seen) here)) (entriesOf (scopeIn s w₀) (fieldsAhead (m .next) s)) (y .is));
             tally = y .tally ∙ ap (λ (z : Tally). tallies z (y .entries)) (v .tally) ∙ sym (tallies-append noTally (v .done) (y .entries));
             keeps = keeps-then old mid new noTally t (v .done) (y .entries) (v .tally) (v .keeps) (y .keeps);
             kept = kept-then (v .kept) k;
@@ -177,8 +172,8 @@ module _ (s w₀ w : List ℕ) (old mid : Bytes) (c : Cursor) (t₀ t : Tally) (
           }
 
       -- one that is not
-      sweep-stops : (n q : ℕ) → threeIn (scopeIn s w) s (c .rec) x ≡ refused n q → entriesOf (scopeIn s w₀) (fieldsIn s) ≡ refused n q
-      sweep-stops n q e = v .same ∙ rw fields (onto-not (v .done) n q (threeIn (scopeIn s w) s (c .rec) x) (entriesOf (scopeIn s w₀) (fieldsAhead (m .next) s)) e)
+      sweep-stops : (n q : ℕ) → threeIn (scopeIn s w) s (c .rec) (three f (c .seen) here) ≡ refused n q → entriesOf (scopeIn s w₀) (fieldsIn s) ≡ refused n q
+      sweep-stops n q e = v .same ∙ rw fields (onto-not (v .done) n q (threeIn (scopeIn s w) s (c .rec) (three f (c .seen) here)) (entriesOf (scopeIn s w₀) (fieldsAhead (m .next) s)) e)
 
   -- what was written is as long as it was
   module _ (a : Answer Entries) (q : Checked) (w′ : List ℕ) (new : Bytes) (h : ChecksIn a t w mid q w′ new) where
@@ -202,9 +197,9 @@ module _ (s w₀ w : List ℕ) (old mid : Bytes) (c : Cursor) (t₀ t : Tally) (
   pub swept : m .what ≡ W.Done → ChecksIn (entriesOf (scopeIn s w₀) (fieldsIn s)) noTally w₀ old (record { tally = t; verdict = V′.Fine }) w mid
   swept is = checks-fine _ noTally t w₀ w old mid (sweep-done s w₀ w old mid c t₀ t v m told is) (v .kept)
 
-  pub stopped : (a : Answer Entries) (q : Checked) (w′ : List ℕ) (new : Bytes) (f : Code.Field) (here : ℕ) (x : Three) (n k : ℕ) (t′ : Tally) → ChecksIn a t w mid q w′ new → m .what ≡ W.Field f here
-      → x ≡ three f (c .seen) here → a ≡ threeIn (scopeIn s w) s (c .rec) x → q .verdict ≡ V′.Refused n k
+  pub stopped : (a : Answer Entries) (q : Checked) (w′ : List ℕ) (new : Bytes) (f : Code.Field) (here : ℕ) (n k : ℕ) (t′ : Tally) → ChecksIn a t w mid q w′ new → m .what ≡ W.Field f here
+      → a ≡ threeIn (scopeIn s w) s (c .rec) (three f (c .seen) here) → q .verdict ≡ V′.Refused n k
       → ChecksIn (entriesOf (scopeIn s w₀) (fieldsIn s)) noTally w₀ old (record { tally = t′; verdict = V′.Refused n k }) w′ new
-  stopped a q w′ new f here x n k t′ h is d g e =
-      checks-not _ noTally t′ w₀ w′ old new n k (sweep-stops s w₀ w old mid c t₀ t v m told f here is x d n k (sym g ∙ was-not h n k e)) (sweep-length s w₀ w old mid c t₀ t v a q w′ new h)
+  stopped a q w′ new f here n k t′ h is g e =
+      checks-not _ noTally t′ w₀ w′ old new n k (sweep-stops s w₀ w old mid c t₀ t v m told f here is n k (sym g ∙ was-not h n k e)) (sweep-length s w₀ w old mid c t₀ t v a q w′ new h)
       (sweep-bytes s w₀ w old mid c t₀ t v a q w′ new h)

@@ -4,7 +4,9 @@ use crate::tally::Tally;
 use crate::tally::Verdict;
 use content::EndsAt;
 use content::Entry;
-use content::Three;
+use content::ItemIn;
+use fields::Field;
+use sources::Seen;
 use walk::What;
 ghost use mathlib.Core.Path.{_≡_};
 ghost use Prim.Native.Nat.{_≤_, _<_};
@@ -13,7 +15,7 @@ ghost use Rattle.definition.specs.Types as Types;
 ghost use Rattle.signatures.specs.Table.{typesIn};
 ghost use Rattle.walk.specs.Walk.{Ahead, begin, fieldsIn};
 ghost use Rattle.scope.specs.Scope.{scopeIn, Recalled};
-ghost use Rattle.content.specs.Entry.{both, entryIn, threeIn, entriesOf};
+ghost use Rattle.content.specs.Entry.{both, entryIn, three, threeIn, entriesOf};
 ghost use Rattle.sections.specs.Tally.{Twelve, Ready, ReadyThree, ChecksIn, noTally, tallyOf, checkedOf};
 
 // One entry: it is kept, and tallied.
@@ -40,7 +42,7 @@ fn check_entry(
     }
 }
 
-// One entry after another.
+// One entry after another; the second may be nothing.
 fn check_two(
     s: &[u8],
     work: &mut [u32],
@@ -55,34 +57,53 @@ fn check_two(
     ensures { λ r. ⌜ ChecksIn (both (entryIn (scopeIn (now (s .entry)) (now (work .entry))) (now (s .entry)) rec a) (entryIn (scopeIn (now (s .entry)) (now (work .entry))) (now (s .entry)) rec b)) (tallyOf (now (sizes .entry)) (now (counts .entry))) (now (work .entry)) (now (kept .entry)) (checkedOf (now (sizes .exit)) (now (counts .exit)) r) (now (work .exit)) (now (kept .exit)) ⌝ }
 {
     match check_entry(s, work, kept, sizes, counts, a, rec) {
-        Verdict::Fine => check_entry(s, work, kept, sizes, counts, b, rec),
+        Verdict::Fine => {
+            if content::section_of(b) == 0 {
+                return Verdict::Fine;
+            }
+            check_entry(s, work, kept, sizes, counts, b, rec)
+        }
         Verdict::Refused(n, r) => Verdict::Refused(n, r),
     }
 }
 
-// All entries of a field; most have only one.
-fn check_three(
+// All entries of a field; most have only one. Each is made where it is checked.
+fn check_field(
     s: &[u8],
     work: &mut [u32],
     kept: &mut [u8],
     sizes: &mut [u64],
     counts: &mut [u64],
-    x: Three,
+    f: Field,
+    seen: Seen,
+    here: usize,
     rec: u32,
 ) -> Verdict
-    requires { ⌜ (length (now s) ≤ 65536) × (16384 ≤ length (now work)) × (rec < 4096) × ReadyThree (now s) (now work) rec x × Twelve (tallyOf (now sizes) (now counts)) ⌝ }
-    ensures { λ r. ⌜ ChecksIn (threeIn (scopeIn (now (s .entry)) (now (work .entry))) (now (s .entry)) rec x) (tallyOf (now (sizes .entry)) (now (counts .entry))) (now (work .entry)) (now (kept .entry)) (checkedOf (now (sizes .exit)) (now (counts .exit)) r) (now (work .exit)) (now (kept .exit)) ⌝ }
+    requires { ⌜ (length (now s) ≤ 65536) × (16384 ≤ length (now work)) × (rec < 4096) × ReadyThree (now s) (now work) rec (three f seen here) × Twelve (tallyOf (now sizes) (now counts)) ⌝ }
+    ensures { λ r. ⌜ ChecksIn (threeIn (scopeIn (now (s .entry)) (now (work .entry))) (now (s .entry)) rec (three f seen here)) (tallyOf (now (sizes .entry)) (now (counts .entry))) (now (work .entry)) (now (kept .entry)) (checkedOf (now (sizes .exit)) (now (counts .exit)) r) (now (work .exit)) (now (kept .exit)) ⌝ }
 {
-    let first = x.first;
-    match check_entry(s, work, kept, sizes, counts, first, rec) {
-        Verdict::Fine => {
-            let second = x.second;
-            if content::section_of(second) == 0 {
-                return Verdict::Fine;
-            }
-            let third = x.third;
-            check_two(s, work, kept, sizes, counts, second, third, rec)
-        }
+    match check_entry(
+        s,
+        work,
+        kept,
+        sizes,
+        counts,
+        content::first_of(f, seen),
+        rec,
+    ) {
+        Verdict::Fine => match content::item_in(f) {
+            ItemIn::Item(x) => check_two(
+                s,
+                work,
+                kept,
+                sizes,
+                counts,
+                content::second_of(x, seen),
+                content::third_of(x, here),
+                rec,
+            ),
+            ItemIn::Other => Verdict::Fine,
+        },
         Verdict::Refused(n, r) => Verdict::Refused(n, r),
     }
 }
@@ -105,8 +126,7 @@ fn check_all(
         match what {
             What::Field(f, here) => {
                 let seen = c.seen;
-                let x = content::entries_of(f, seen, here);
-                match check_three(s, work, kept, sizes, counts, x, c.rec) {
+                match check_field(s, work, kept, sizes, counts, f, seen, here, c.rec) {
                     Verdict::Fine => {
                         c = m.next;
                     }

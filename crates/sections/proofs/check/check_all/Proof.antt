@@ -23,11 +23,8 @@ visit-requires c κs = search sweep-ahead
 enum-known-what : tie.Need-enum-known-what Inv-loop μ-loop
 enum-known-what c = search needs
 
-entries-of-requires : tie.Need-entries-of-requires Inv-loop μ-loop
-entries-of-requires c κs = search needs
-
-check-three-requires : tie.Need-check-three-requires Inv-loop μ-loop
-check-three-requires c κs = (search needs, search sweep-long, search visit-few, search sweep-ready, search sweep-twelve)
+check-field-requires : tie.Need-check-field-requires Inv-loop μ-loop
+check-field-requires c κs = (search needs, search sweep-long, search visit-few, search sweep-ready, search sweep-twelve)
 
 enum-told : tie.Need-enum-told Inv-loop μ-loop
 enum-told c = search needs
@@ -54,7 +51,9 @@ same-length-4 : tie.Need-same-length-4 Inv-loop μ-loop
 same-length-4 c = search sweep-counts
 
 returns : tie.Need-returns Inv-loop μ-loop
-returns c = search (stopped, c .before .before .before .before .before .before .before .before .before .before .before .check-three .ensures)
+returns c =
+    let b = c .before .before .before .before .before .before .before .before .before .before .before in
+    search (stopped, b .before .before .before .before .before .before .before .before .before .before .before .loop .inv, b .before .before .before .before .before .before .before .before .before .visit .ensures, b .check-field .ensures)
 
 enum-told-2 : tie.Need-enum-told-2 Inv-loop μ-loop
 enum-told-2 c = search needs
@@ -84,8 +83,7 @@ check-all-spec =
     loop-holds
     visit-requires
     enum-known-what
-    entries-of-requires
-    check-three-requires
+    check-field-requires
     enum-told
     loop-less
     loop-again
