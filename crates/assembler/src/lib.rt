@@ -192,6 +192,13 @@ fn run_keeping(s: &[u8], work: &mut [u32], out: &mut [u8], kept: &mut [u8], name
 }
 
 // A short stream keeps little, and pays for little room.
+fn run_tiny(s: &[u8], work: &mut [u32], out: &mut [u8], names: bool) -> Said
+    ensures { λ r. ⌜ Runs (makes names) (now (s .entry)) (now (work .entry)) (now (out .entry)) r (now (work .exit)) (now (out .exit)) ⌝ }
+{
+    let mut kept = [0u8; 2048];
+    run_keeping(s, work, out, &mut kept, names)
+}
+
 fn run_short(s: &[u8], work: &mut [u32], out: &mut [u8], names: bool) -> Said
     ensures { λ r. ⌜ Runs (makes names) (now (s .entry)) (now (work .entry)) (now (out .entry)) r (now (work .exit)) (now (out .exit)) ⌝ }
 {
@@ -209,6 +216,9 @@ fn run_long(s: &[u8], work: &mut [u32], out: &mut [u8], names: bool) -> Said
 fn run(s: &[u8], work: &mut [u32], out: &mut [u8], names: bool) -> Said
     ensures { λ r. ⌜ Runs (makes names) (now (s .entry)) (now (work .entry)) (now (out .entry)) r (now (work .exit)) (now (out .exit)) ⌝ }
 {
+    if s.len() <= 1536 {
+        return run_tiny(s, work, out, names);
+    }
     if s.len() <= 6144 {
         return run_short(s, work, out, names);
     }
