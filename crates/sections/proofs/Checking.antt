@@ -1,11 +1,10 @@
 -- Checking one answer after the other.
 use Prim.Native.Nat.{ℕ, _*_, _^_, _≤_, _<_}
-use mathlib.Core.Path.{_≡_, refl, sym, _∙_, ap}
-use mathlib.Core.List.{List, [], _++_, map, append-nil}
+use mathlib.Core.Path.{_≡_, refl, sym, _∙_}
+use mathlib.Core.List.{List, _++_, map}
 use lib.ListN.{length, getD}
 use Rattle.definition.specs.Basic.{Answer, ok, refused}
-use Rattle.definition.specs.Syntax.{Bytes, Identifier}
-use Rattle.definition.specs.Names.{Scope}
+use Rattle.definition.specs.Syntax.{Bytes}
 use Rattle.definition.specs.Binary.{joined}
 use native.Mathlib.Omega.{arith}
 use Rattle.emit.specs.Put.{Put}
