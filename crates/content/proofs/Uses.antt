@@ -118,7 +118,7 @@ pub record WholeThree (s : Bytes) (r : ℕ) (t : Three) : Type 0 where
   pub third : WholeIn s r (t .third)
 
 pub whole-here : (s : Bytes) (r : ℕ) (seen : Seen) (f : Read.Field) (here : ℕ) → wholeField (fieldBody (fieldOf s f)) (r + 1) s here ≡ true → WholeThree s r (three f seen here)
-unfolding fieldBody sourceBody ownBody
+unfolding fieldBody sourceBody ownBody three firstOf itemIn secondOf thirdOf
 whole-here s r seen (F.Type i ps rs) here h = record { first = tt; second = tt; third = tt }
 whole-here s r seen (F.Import n i x) here h = record { first = tt; second = tt; third = tt }
 whole-here s r seen (F.Export n k x) here h = record { first = tt; second = tt; third = tt }
