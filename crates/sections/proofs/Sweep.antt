@@ -9,12 +9,7 @@ use Rattle.definition.specs.Syntax.{Bytes, Identifier}
 use Rattle.definition.specs.Types.{uses}
 use Rattle.definition.specs.Names.{Scope, resolveAll}
 use Rattle.fields.specs.Views.{fieldOf}
-use Rattle.sources.specs.declared.seen.Seen.{Seen}
-use Rattle.sources.specs.declared.source.Own.the-variants as O
-use Rattle.sources.specs.declared.source.Source.{Source}
-use Rattle.sources.specs.declared.source.Source.the-variants as S
 use Rattle.fields.specs.declared.field.Field as Code
-use Rattle.fields.specs.declared.field.Field.the-variants as F
 use Rattle.space.specs.Kept.{Kept}
 use Rattle.space.proofs.Kept.{kept-then, kept-same, kept-less}
 use Rattle.signatures.specs.Table.{typesIn}
@@ -26,7 +21,7 @@ use Rattle.walk.proofs.Steps.{visit-done, visit-fields, visit-whole, visit-ahea
 use Rattle.types.proofs.Fields.{uses-append}
 use Rattle.scope.specs.Scope.{scopeIn, Recalled}
 use Rattle.scope.proofs.Frames.{scope-kept, recalled-left, recalled-right, recalled-scope}
-use Rattle.content.specs.Entry.{Entries, entriesOf, both, sectionNo, itemIn, secondOf, thirdOf, three, threeIn}
+use Rattle.content.specs.Entry.{Entries, entriesOf, both, three, threeIn}
 use Rattle.content.proofs.Fields.{entries-append, entries-here}
 use Rattle.content.proofs.Uses.{recalled-here, few-here, whole-here}
 use Rattle.sections.specs.Tally.{tallies, noTally, tallyOf, Twelve, Keeps, Tallied, ReadyThree, ChecksIn}
@@ -60,27 +55,6 @@ onto-nothing xs = ap ok (append-nil xs)
 entries-none : (Γ : Scope Identifier) → entriesOf Γ [] ≡ ok []
 unfolding entriesOf resolveAll each _>>=_ concatMap
 entries-none Γ = refl
-
--- where a field's second entry is nothing, so is its third
-alone-source : (x : Source) (seen : Seen) (here : ℕ) → sectionNo (secondOf x seen) ≡ 0 → sectionNo (thirdOf x here) ≡ 0
-unfolding secondOf thirdOf
-alone-source (S.Own (O.Func t ls)) seen here d = absurd (omega arith)
-alone-source (S.Own (O.Table t)) seen here d = refl
-alone-source (S.Own (O.Mem l)) seen here d = refl
-alone-source (S.Own (O.Global t c)) seen here d = refl
-alone-source (S.Imported n x) seen here d = refl
-alone-source (S.TableOf w xs) seen here d = absurd (omega arith)
-alone-source (S.MemOf w b) seen here d = absurd (omega arith)
-
-alone-here : (f : Code.Field) (seen : Seen) (here : ℕ) → sectionNo (three f seen here .second) ≡ 0 → sectionNo (three f seen here .third) ≡ 0
-unfolding three itemIn
-alone-here (F.Type i ps rs) seen here d = refl
-alone-here (F.Import n i x) seen here d = refl
-alone-here (F.Item i es x) seen here d = alone-source x seen here d
-alone-here (F.Export n k x) seen here d = refl
-alone-here (F.Start x) seen here d = refl
-alone-here (F.Elem i m xs) seen here d = refl
-alone-here (F.Data i m b) seen here d = refl
 
 pub record Sweeping (s w₀ w : List ℕ) (old new : Bytes) (c : Cursor) (t₀ t : Tally) : Type 0 where
   pub start : t₀ ≡ noTally
@@ -151,7 +125,6 @@ module _ (s w₀ w : List ℕ) (old mid : Bytes) (c : Cursor) (t₀ t : Tally) (
             first = record { recalled = recalled-scope s w₀ w _ k (a .first); whole = z .first; few = b .first };
             second = record { recalled = recalled-scope s w₀ w _ k (a .second); whole = z .second; few = b .second };
             third = record { recalled = recalled-scope s w₀ w _ k (a .third); whole = z .third; few = b .third };
-            alone = alone-here f (c .seen) here;
           }
 
       -- one that is fine

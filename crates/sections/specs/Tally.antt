@@ -1,7 +1,7 @@
 -- How large each section is: the lengths of its entries, and how many there are.
-use Prim.Native.Nat.{ℕ, _+_, _<_}
+use Prim.Native.Nat.{ℕ, _<_}
 use mathlib.Core.Path.{_≡_}
-use mathlib.Core.List.{List, [], _∷_, _++_}
+use mathlib.Core.List.{List, [], _∷_}
 use lib.ListN.{length, getD, set, replicate}
 use Rattle.definition.specs.Basic.{Answer, ok, refused}
 use Rattle.definition.specs.Syntax.{Bytes}
@@ -10,7 +10,7 @@ use Rattle.emit.specs.Put.{past, Put}
 use Rattle.space.specs.Kept.{Kept}
 use Rattle.signatures.specs.Table.{typesIn}
 use Rattle.scope.specs.Scope.{Recalled}
-use Rattle.content.specs.Entry.{Entries, sectionNo, usesOf, FewIn, WholeIn}
+use Rattle.content.specs.Entry.{Entries, usesOf, FewIn, WholeIn}
 use Rattle.content.specs.declared.entry.Entry.{Entry}
 use Rattle.content.specs.declared.entry.Three.{Three}
 use Rattle.sections.specs.Parts.{partIn}
@@ -78,12 +78,11 @@ pub record Ready (s w : List ℕ) (r : ℕ) (e : Entry) : Type 0 where
   pub whole : WholeIn s r e
   pub few : FewIn s e
 
--- so are a field's entries; where the second is nothing, so is the third
+-- so are a field's entries
 pub record ReadyThree (s w : List ℕ) (r : ℕ) (x : Three) : Type 0 where
   pub first : Ready s w r (x .first)
   pub second : Ready s w r (x .second)
   pub third : Ready s w r (x .third)
-  pub alone : sectionNo (x .second) ≡ 0 → sectionNo (x .third) ≡ 0
 
 abbrev pub AreaBy : Verdict → List ℕ → List ℕ → Type 0
 AreaBy V′.Fine w w′ = Kept 11536 w w′
