@@ -28,7 +28,7 @@ import reading_model
 
 HERE = os.path.dirname(os.path.abspath(__file__))
 DOCUMENT = os.path.join(HERE, '..', 'docs', 'REFUSALS.md')
-PROGRAM = os.path.join(HERE, '..', 'target', 'bin', 'assemble')
+PROGRAM = os.path.join(HERE, 'assemble')
 DRIVER = os.path.join(HERE, 'driver', 'target', 'release', 'driver')
 NUMBERS = range(1, 19)
 

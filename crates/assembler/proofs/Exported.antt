@@ -9,9 +9,10 @@ use mir.Val.{Fits}
 use mathlib.Core.Bool.{true, false}
 use Rattle.definition.specs.Syntax.{Bytes}
 use Rattle.definition.specs.Assemble.{Maker, Outcome, assembleBy, outcome, outputAfter, callBy, call, callNames}
-use Rattle.assembler.specs.Run.{makes, outcomeOf}
+use Rattle.passes.specs.Passes.{makes}
+use Rattle.assembler.specs.Run.{outcomeOf}
 use Rattle.assembler.specs.Export.{Handed, handed, answerOf, handedOn, lent, exportedBy, exported, exportedNames}
-use Rattle.assembler.specs.declared.Said.{Said}
+use Rattle.writers.specs.declared.Said.{Said}
 
 -- what is written lies in the output
 written-within : (make : Maker) (s w old : List ℕ) → callBy make s w old .written ≤ length (callBy make s w old .output)

@@ -1,4 +1,2 @@
 pub mod Exported
-pub mod Stages
-pub mod Writers
 pub mod Whole

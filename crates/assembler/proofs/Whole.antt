@@ -1,216 +1,27 @@
--- The stages before, the join with the records, and the whole call.
-use Prim.Native.Nat.{ℕ, _+_, _≤_}
-use mathlib.Core.Path.{_≡_, refl, sym, _∙_, ap}
+-- A call is its writer after the passes.
+use Prim.Native.Nat.{ℕ, _+_}
+use mathlib.Core.Path.{_≡_, sym, _∙_, ap}
 use mathlib.Core.Bool.{Bool, true, false}
-use mathlib.Core.List.{List, [], _∷_, _++_}
-use lib.Dec.{ltb}
+use mathlib.Core.List.{List, _++_}
 use lib.ListN.{length, replicate}
-use native.Mathlib.Omega.{arith}
-use Rattle.definition.specs.Basic.{if_then_else_, Answer, ok, refused, _>>=_, sameBytes}
-use Rattle.definition.specs.Syntax.{Bytes, Identifier, Rec, Item, FuncType}
-use Rattle.definition.specs.Read.{read}
-use Rattle.definition.specs.Deinline.{Numbered, importOrder, deinline}
-use Rattle.definition.specs.Types.{Uses, uses, allTypes, declared}
-use Rattle.definition.specs.Names.{Items, Scope, space, register}
+use Rattle.definition.specs.Types.{declared}
 use Rattle.definition.specs.Binary.{module′}
-use Rattle.definition.specs.Assemble.{scope, itemsIn, items, resolved, fitting, Maker, moduleIn, namedModuleIn}
-use Rattle.definition.specs.Assemble.{refusal, say, sayRead, assembleBy, outputAfter, workAfter, Outcome, outcome, callBy, call, callNames}
-use Rattle.laws.proofs.Passes.{scope-then}
-use Rattle.laws.specs.Steps.{total}
-use Rattle.stream.specs.Pass.{reading, counted, Reads}
-use Rattle.stream.specs.declared.pass.Count.{Count}
-use Rattle.stream.specs.declared.pass.Count.the-variants as C
-use Rattle.signatures.specs.Table.{typeTable, typesIn}
-use Rattle.signatures.proofs.Types.{table-length}
-use Rattle.walk.specs.Walk.{begin, fieldsIn, Ahead}
-use Rattle.walk.proofs.Steps.{ahead-kept}
-use Rattle.walk.proofs.Join.{fields-in}
-use Rattle.walk.proofs.Begin.{reads-accepted, Accepted}
-use Rattle.types.specs.Declaring.{DeclaredAll}
-use Rattle.survey.specs.Survey as Survey
-use Rattle.survey.specs.Survey.{typesAfterOrder, Stands, Surveys}
-use Rattle.survey.specs.declared.Surveyed.{Surveyed}
-use Rattle.survey.specs.declared.Surveyed.the-variants as S
-use Rattle.scope.specs.Scope.{scopeIn, Recalled}
-use Rattle.sections.specs.Tally.{tallies, noTally}
-use Rattle.sections.specs.declared.tally.Tally.{Tally}
-use Rattle.sections.specs.declared.tally.Verdict.{Verdict}
-use Rattle.sections.specs.declared.tally.Verdict.the-variants as V′
-use Rattle.module.specs.Write.{Writable, Held, allEntries, moduleItems}
+use Rattle.definition.specs.Assemble.{Maker}
+use Rattle.definition.specs.Assemble.{outputAfter, workAfter, Outcome, outcome, callBy, call, callNames}
+use Rattle.walk.specs.Walk.{fieldsIn}
+use Rattle.scope.specs.Scope.{scopeIn}
+use Rattle.parts.specs.Tally.{tallies, noTally}
+use Rattle.parts.specs.declared.tally.Tally.{Tally}
+use Rattle.parts.specs.declared.tally.Verdict.{Verdict}
+use Rattle.parts.specs.declared.tally.Verdict.the-variants as V′
+use Rattle.contents.specs.Write.{Writable, Held, allEntries, moduleItems}
 use Rattle.name_section.specs.Section.{namesIn}
-use Rattle.assembler.specs.Run.{Found, fromNames, fromTypes, fromFields, Ready, PassesBy, Passes}
-use Rattle.assembler.specs.Run.{heard, Does, makes, writes, saidBy, ReadyBy, Prepares, Runs, outcomeOf}
-use Rattle.assembler.specs.declared.Said.{Said}
-use Rattle.assembler.specs.declared.Passed.{Passed}
-use Rattle.assembler.proofs.Stages.{refuses, passes-on}
-
--- ## The order of imports, the types of uses, and the names
-
--- each use has its number, by the words of both crates
-recalled-as : (w : List ℕ) (ts : List FuncType) (us : Uses) → Survey.Recalled w ts us → Recalled w ts us
-unfolding Survey.Recalled Recalled
-recalled-as w ts [] h = tt
-recalled-as w ts ((r, t) ∷ us) h = (h .0, h .1, recalled-as w ts us (h .2))
-
--- what refuses the types or the names refuses what follows them
-falls-then : (a : Answer (List FuncType)) (b : Answer (Items Identifier)) (k : List FuncType → Items Identifier → Answer Found) (n r : ℕ) → (a >>= λ _. b) ≡ refused n r → (a >>= λ ts. b >>= k ts) ≡ refused n r
-unfolding _>>=_
-falls-then (ok ts) (ok xs) k n r e = let z : _≡_ {A = ℕ} 0 1 = cc in absurd (omega arith)
-falls-then (ok ts) (refused m q) k n r e = let x : m ≡ n = cc in let y : q ≡ r = cc in rw (x, y) refl
-falls-then (refused m q) b k n r e = let x : m ≡ n = cc in let y : q ≡ r = cc in rw (x, y) refl
-
-module _ (s w : List ℕ) (q : Surveyed) (w₁ : List ℕ) (h : Surveys s w q w₁) where
-  module _ (e : q ≡ S.Done) where
-    stands : Stands s w w₁
-    unfolding Surveys
-    stands = rw e at h
-
-    pub survey-long : 16384 ≤ length w → 16384 ≤ length w₁
-    survey-long a = rw (stands .kept .long) a
-
-    pub survey-ahead : Ahead s w begin → Ahead s w₁ begin
-    survey-ahead a = ahead-kept s w w₁ begin (stands .kept) a
-
-    pub survey-recalled : Recalled w₁ (typesIn s w₁) (uses (fieldsIn s))
-    survey-recalled = recalled-as w₁ (typesIn s w₁) (uses (fieldsIn s)) (stands .recalled)
-
-    scope-is : _≡_ {A = Scope Identifier} (record { eq = sameBytes; names = λ k. space k (stands .items); allTypes = typesIn s w₁ }) (scopeIn s w₁)
-    unfolding scopeIn
-    scope-is = λ i. record { eq = sameBytes; names = λ k. stands .tables .each k i; allTypes = typesIn s w₁ }
-
-    pub survey-done : (count : ℕ) (p : Passed) (w₂ b : List ℕ) → Passes (fromNames (fieldsIn s) (scopeIn s w₁)) count s w₁ p w₂ b → Passes (fromFields (fieldsIn s)) count s w p w₂ b
-    unfolding fromFields fromTypes _>>=_
-    survey-done count p w₂ b y = let t = stands .all in let a = stands .says in passes-on _ _ count s w w₁ p w₂ b (rw (t, a, scope-is) refl) (stands .kept .long) y
-
-  pub survey-not : (count : ℕ) (p : Passed) (b : List ℕ) (n r : ℕ) → q ≡ S.Refused n r → p .verdict ≡ V′.Refused n r → Passes (fromFields (fieldsIn s)) count s w p w₁ b
-  unfolding fromFields fromTypes Surveys
-  survey-not count p b n r e v =
-      (let g = rw e at h in
-      refuses _ count s w p w₁ b n r (falls-then (typesAfterOrder (fieldsIn s)) (register sameBytes [] (fieldsIn s)) _ n r (g .says)) v (g .long))
-
--- ## The declared types
-
--- as many as are in the table
-pub table-count : (s w : List ℕ) (d : ℕ) → typeTable d s w 520 ≡ declared (fieldsIn s) → d ≡ length (declared (fieldsIn s))
-table-count s w d e = sym (table-length d s w 520) ∙ ap length e
-
-module _ (s w : List ℕ) (d : ℕ) (w₁ : List ℕ) (h : DeclaredAll s w d w₁) where
-  pub declared-long : 16384 ≤ length w → 16384 ≤ length w₁
-  declared-long a = rw (h .kept .long) a
-
-  pub declared-ahead : Ahead s w begin → Ahead s w₁ begin
-  declared-ahead a = ahead-kept s w w₁ begin (h .kept) a
-
--- ## The records
-
--- what follows the types follows the order of imports and then them
-order-then : (a : Answer (Unit {0})) (b : Answer (List FuncType)) (k : List FuncType → Answer Found) → ((a >>= λ _. b) >>= k) ≡ (a >>= λ _. b >>= k)
-unfolding _>>=_
-order-then (ok u) b k = refl
-order-then (refused n r) b k = refl
-
--- the stages are the definition's passes
-fields-found : (fs : Numbered Identifier) → fromFields fs ≡ (scope sameBytes fs >>= fromNames fs)
-unfolding fromFields typesAfterOrder fromTypes
-fields-found fs = order-then (importOrder fs) (allTypes fs) (fromTypes fs) ∙ sym (scope-then sameBytes fs (fromNames fs))
-
--- what follows them, on what they find and on the items alone
-found-then : (fs : Numbered Identifier) (a : Answer (Scope Identifier)) (k : Found → Answer Bytes) → (a >>= λ Γ. itemsIn Γ fs >>= λ is. k (Γ, is)) ≡ (a >>= fromNames fs >>= k)
-unfolding fromNames _>>=_
-found-then fs (refused n r) k = refl
-found-then fs (ok Γ) k = go (itemsIn Γ fs)
-  where
-    go : (b : Answer (List Item)) → (b >>= λ is. k (Γ, is)) ≡ (_>>=_ {B = Found} b (λ is. ok (Γ, is)) >>= k)
-    go (ok is) = refl
-    go (refused n r) = refl
-
-items-then : (fs : Numbered Identifier) (a : Answer (Scope Identifier)) (k : List Item → Answer Bytes) → ((a >>= λ Γ. itemsIn Γ fs) >>= k) ≡ (a >>= λ Γ. itemsIn Γ fs >>= k)
-unfolding _>>=_
-items-then fs (ok Γ) k = refl
-items-then fs (refused n r) k = refl
-
--- a call is its writer after the passes
-made : (names : Bool) (room : ℕ) (rs : List (Rec Identifier)) → makes names room rs ≡ (fromFields (deinline rs) >>= λ x. fitting room (length rs) (writes names (deinline rs) x))
-unfolding moduleIn resolved items namedModuleIn
-made false room rs =
-    rw (fields-found (deinline rs))
-    (items-then (deinline rs) (scope sameBytes (deinline rs)) (λ is. fitting room (length rs) (module′ is))
-    ∙ found-then (deinline rs) (scope sameBytes (deinline rs)) (λ x. fitting room (length rs) (writes false (deinline rs) x)))
-made true room rs =
-    rw (fields-found (deinline rs)) (found-then (deinline rs) (scope sameBytes (deinline rs)) (λ x. fitting room (length rs) (writes true (deinline rs) x)))
-
--- what reading refuses the call refuses
-read-not : (make : Maker) (s : Bytes) (work room n q : ℕ) → reading s work ≡ refused n q → assembleBy make s work room ≡ refusal n q
-unfolding reading assembleBy sayRead
-read-not make s work room n q e = go (ltb 65536 (length s)) (ltb work 16384) (read s) e
-  where
-    go : (a b : Bool) (c : Answer (List (Rec Identifier))) → (if a then refused 1 0 else if b then refused 10 0 else total 0 c) ≡ refused n q
-        → (if a then refusal 1 0 else if b then refusal 10 0 else sayRead make room c) ≡ refusal n q
-    go true b c e = let x : 1 ≡ n = cc in let y : 0 ≡ q = cc in rw (x, y) refl
-    go false true c e = let x : 10 ≡ n = cc in let y : 0 ≡ q = cc in rw (x, y) refl
-    go false false (ok rs) e = let z : _≡_ {A = ℕ} 0 1 = cc in absurd (omega arith)
-    go false false (refused m p) e = let x : m ≡ n = cc in let y : p ≡ q = cc in rw (x, y) refl
-
--- what it accepts is assembled
-read-ok : (make : Maker) (s : Bytes) (work room n : ℕ) (rs : List (Rec Identifier)) → read s ≡ ok rs → reading s work ≡ ok n → assembleBy make s work room ≡ say n (make room rs)
-unfolding reading assembleBy sayRead
-read-ok make s work room n rs d e = go (ltb 65536 (length s)) (ltb work 16384) e
-  where
-    go : (a b : Bool) → (if a then refused 1 0 else if b then refused 10 0 else total 0 (read s)) ≡ ok n
-        → (if a then refusal 1 0 else if b then refusal 10 0 else sayRead make room (read s)) ≡ say n (make room rs)
-    go true b e = let z : _≡_ {A = ℕ} 0 1 = cc in absurd (omega arith)
-    go false true e = let z : _≡_ {A = ℕ} 0 1 = cc in absurd (omega arith)
-    go false false e =
-        let f : ok (0 + length rs) ≡ ok n = (let g = e in rw d at g) in
-        let x : 0 + length rs ≡ n = cc in
-        let y : length rs ≡ n = omega arith in
-        rw (d, y) refl
-
--- how many records there are
-count-of : (s : Bytes) (work n : ℕ) (rs : List (Rec Identifier)) → read s ≡ ok rs → reading s work ≡ ok n → length rs ≡ n
-unfolding reading
-count-of s work n rs d e = go (ltb 65536 (length s)) (ltb work 16384) e
-  where
-    go : (a b : Bool) → (if a then refused 1 0 else if b then refused 10 0 else total 0 (read s)) ≡ ok n → length rs ≡ n
-    go true b e = let z : _≡_ {A = ℕ} 0 1 = cc in absurd (omega arith)
-    go false true e = let z : _≡_ {A = ℕ} 0 1 = cc in absurd (omega arith)
-    go false false e = let f : ok (0 + length rs) ≡ ok n = (let g = e in rw d at g) in let x : 0 + length rs ≡ n = cc in omega arith
-
-module _ (s w : List ℕ) (q : Count) (w₁ : List ℕ) (h : Reads s w q w₁) (l : length w₁ ≡ length w) (p : Passed) where
-  pub prepare-not : (n r : ℕ) → q ≡ C.Refused n r → p .verdict ≡ V′.Refused n r → (b : List ℕ) → Prepares s w p w₁ b
-  prepare-not n r e v b = record { says = λ names room. rw v (read-not (makes names) s (length w) room n r (h .says ∙ ap counted e)); ready = rw v tt; long = l }
-
-  pub prepare-done : (n : ℕ) (w₂ b : List ℕ) → q ≡ C.Records n → Passes (fromFields (fieldsIn s)) n s w₁ p w₂ b → Prepares s w p w₂ b
-  unfolding _>>=_ say
-  prepare-done n w₂ b e y = record { says = λ names room. whole names room ∙ ends names room (p .verdict) (y .says); ready = ready (p .verdict) (y .says); long = y .long ∙ l }
-    where
-      a : Accepted s
-      a = reads-accepted s w w₁ q h n e
-
-      told-n : reading s (length w) ≡ ok n
-      told-n = h .says ∙ ap counted e
-
-      number : length (a .recs) ≡ n
-      number = count-of s (length w) n (a .recs) (a .is) told-n
-
-      whole : (names : Bool) (room : ℕ)
-          → assembleBy (makes names) s (length w) room ≡ say n (fromFields (fieldsIn s) >>= λ x. fitting room n (writes names (fieldsIn s) x))
-      whole names room =
-          let m : makes names room (a .recs) ≡ (fromFields (fieldsIn s) >>= λ x. fitting room n (writes names (fieldsIn s) x)) =
-          made names room (a .recs) ∙ rw (fields-in s (a .recs) (a .is), number) refl in
-          read-ok (makes names) s (length w) room n (a .recs) (a .is) told-n ∙ ap (say n) m
-
-      ends : (names : Bool) (room : ℕ) (v : Verdict) → PassesBy v (fromFields (fieldsIn s)) n s p w₂ b
-          → say n (fromFields (fieldsIn s) >>= λ x. fitting room n (writes names (fieldsIn s) x))
-          ≡ saidBy v (p .count) room (writes names (fieldsIn s) (scopeIn s w₂, moduleItems (p .declared) s w₂))
-      ends names room V′.Fine z = let f = z .found in let c = z .records in rw (f, c) refl
-      ends names room (V′.Refused m r) z = rw z refl
-
-      ready : (v : Verdict) → PassesBy v (fromFields (fieldsIn s)) n s p w₂ b → ReadyBy v s p w₂ b
-      ready V′.Fine z = z .ready
-      ready (V′.Refused m r) z = tt
-
--- ## The calls
+use Rattle.passes.specs.Passes.{Ready}
+use Rattle.passes.specs.Passes.{makes, writes, ReadyBy, Prepares}
+use Rattle.writers.specs.Does.{heard, Does}
+use Rattle.assembler.specs.Run.{Runs, outcomeOf}
+use Rattle.writers.specs.declared.Said.{Said}
+use Rattle.passes.specs.declared.Passed.{Passed}
 
 module _ (s w : List ℕ) (p : Passed) (w₁ b : List ℕ) (h : Prepares s w p w₁ b) (v : Verdict) (g : v ≡ p .verdict) where
   is-ready : v ≡ V′.Fine → Ready s p w₁ b

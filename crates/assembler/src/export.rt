@@ -3,7 +3,7 @@ use crate::call;
 ghost use mathlib.Core.Path.{_≡_};
 ghost use Prim.Native.Nat.{min};
 ghost use Rattle.definition.specs.Assemble as Assemble;
-ghost use Rattle.assembler.specs.Run.{makes};
+ghost use Rattle.passes.specs.Passes.{makes};
 ghost use Rattle.assembler.specs.Export.{exportedBy, exported, exportedNames, handed};
 
 // How much of an output of this length is lent: the written length has to fit in a word of the answer.

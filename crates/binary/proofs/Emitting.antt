@@ -22,12 +22,6 @@ pub bind-not : {A B : Type 0} (m : Answer A) (n r : ℕ) (k : A → Answer B) �
 unfolding _>>=_
 bind-not m n r k e = rw e
 
--- two steps are one
-pub bind-assoc : {A B C : Type 0} (m : Answer A) (f : A → Answer B) (g : B → Answer C) → (m >>= f >>= g) ≡ (m >>= λ x. f x >>= g)
-unfolding _>>=_
-bind-assoc (ok a) f g = refl
-bind-assoc (refused n r) f g = refl
-
 -- ## What an emitter says
 
 module _ {A : Type 0} (bytes : A → Bytes) (a : Answer A) (old : List ℕ) (at : ℕ) (new : List ℕ) where
@@ -47,10 +41,6 @@ module _ {A : Type 0} (bytes : A → Bytes) (a : Answer A) (old : List ℕ) (at 
   pub has-halted : (q : Emitted) (n r : ℕ) → Emits bytes a old at q new → q ≡ E.Refused n r → a ≡ refused n r
   unfolding Emits
   has-halted q n r w d = rw d at w
-
--- where nothing was written
-pub halts-same : {A : Type 0} (bytes : A → Bytes) (a : Answer A) (old : List ℕ) (at n r : ℕ) → a ≡ refused n r → Emits bytes a old at (E.Refused n r) old
-halts-same bytes a old at n r e = halts bytes a old at old n r e
 
 -- the answer by another name
 pub emits-is : {A : Type 0} (bytes : A → Bytes) (a b : Answer A) (old : List ℕ) (at : ℕ) (q : Emitted) (new : List ℕ) → b ≡ a → Emits bytes a old at q new → Emits bytes b old at q new
@@ -98,5 +88,3 @@ emits-then f g k h a b old at q o mid (E.To p) new s w d z =
 emits-then f g k h a b old at q o mid (E.Refused n r) new s w d z =
     let v : Wrote f a old at o mid = was-wrote f a old at mid q o w d in
     bind-ok a (v .value) _ _ (v .is) (bind-not b n r _ z)
-
-pub ruleset emitting = (wrote, halts, halts-same, bind-ok, bind-not)

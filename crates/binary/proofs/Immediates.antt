@@ -5,20 +5,15 @@ use mathlib.Core.List.{List, [], _∷_, _++_, append-nil}
 use borrow.Author.Tests.{eq-eqb, ne-eqb}
 use Rattle.definition.specs.Basic.{concatMap}
 use Rattle.definition.specs.Syntax as Syntax
-use Rattle.definition.specs.Syntax.{Bytes}
-use Rattle.definition.specs.Binary.{u, blockType, memarg, imm, instruction, expr}
+use Rattle.definition.specs.Binary.{u, blockType, memarg, instruction, expr}
 use Rattle.emit.specs.Put.{Put}
 use Rattle.emit.proofs.Laws.{put-then, put-is}
-use Rattle.binary.specs.Views.{blockTypeOf, immOf}
+use Rattle.binary.specs.Views.{blockTypeOf}
 use Rattle.binary.specs.declared.instructions.BlockType.{BlockType}
-use Rattle.binary.specs.declared.instructions.Imm.{Imm}
 
 module _ (old : List ℕ) (at r : ℕ) (new : List ℕ) where
   pub block-is : (b c : BlockType) → b ≡ c → Put old at (blockType (blockTypeOf c)) r new → Put old at (blockType (blockTypeOf b)) r new
   block-is b c d p = rw d p
-
-  pub imm-is : (s : Bytes) (i j : Imm) → i ≡ j → Put old at (imm (immOf s j)) r new → Put old at (imm (immOf s i)) r new
-  imm-is s i j d p = rw d p
 
   module _ (e o m : ℕ) where
     -- memory 0 has no index

@@ -1,3 +1,2 @@
 pub mod Emits
 pub mod Views
-pub mod Locals

@@ -1,11 +1,10 @@
 // Instructions whose immediates are resolved. A local's number, a type's number and a label's depth are three sorts: none can
 // stand for another.
-use token::Part;
-ghost use mathlib.Core.List.{[], _∷_, _++_};
 ghost use lib.IntN.{pos};
+ghost use Rattle.definition.specs.Syntax.{indirectImm};
 ghost use Rattle.definition.specs.Binary as Binary;
 ghost use Rattle.emit.specs.Put.{Put};
-ghost use Rattle.binary.specs.Views.{localNoOf, typeNoOf, depthOf, blockTypeOf, immOf, opOf};
+ghost use Rattle.binary.specs.Views.{localNoOf, typeNoOf, depthOf, blockTypeOf};
 
 pub struct LocalNo(pub u32);
 
@@ -67,59 +66,10 @@ pub fn put_memarg(out: &mut [u8], at: usize, exponent: u8, offset: u32, memory: 
     leb::put_u(out, b, offset as u64)
 }
 
-// What stands after an opcode, the labels of a br_table excepted.
-pub enum Imm {
-    Nothing,
-    Block(BlockType),
-    Label(Depth),
-    Local(LocalNo),
-    Item(u32),
-    // the type, the table
-    Indirect(TypeNo, u32),
-    // the alignment's exponent, the offset, the memory
-    Access(u8, u32, u32),
-    Int32(u32),
-    Int64(u64),
-    Raw(Part),
-    Heap(u8),
-}
-
-fn put_indirect(out: &mut [u8], at: usize, t: TypeNo, table: u32) -> usize
-    ensures { λ r. ⌜ Put (now (out .entry)) at (Binary.u (typeNoOf t .type-no) ++ Binary.u table) r (now (out .exit)) ⌝ }
+// The type and the table of an indirect call.
+pub fn put_indirect(out: &mut [u8], at: usize, t: TypeNo, table: u32) -> usize
+    ensures { λ r. ⌜ Put (now (out .entry)) at (Binary.imm (indirectImm (typeNoOf t) table)) r (now (out .exit)) ⌝ }
 {
     let a = put_type_no(out, at, t);
     leb::put_u(out, a, table as u64)
-}
-
-pub fn put_imm(out: &mut [u8], at: usize, s: &[u8], imm: Imm) -> usize
-    ensures { λ r. ⌜ Put (now (out .entry)) at (Binary.imm (immOf (now (s .entry)) imm)) r (now (out .exit)) ⌝ }
-{
-    match imm {
-        Imm::Nothing => at,
-        Imm::Block(b) => put_block_type(out, at, b),
-        Imm::Label(d) => put_depth(out, at, d),
-        Imm::Local(n) => put_local(out, at, n),
-        Imm::Item(n) => leb::put_u(out, at, n as u64),
-        Imm::Indirect(t, table) => put_indirect(out, at, t, table),
-        Imm::Access(exponent, offset, memory) => put_memarg(out, at, exponent, offset, memory),
-        Imm::Int32(n) => leb::put_i32(out, at, n),
-        Imm::Int64(n) => leb::put_i64(out, at, n),
-        Imm::Raw(p) => crate::names::put_part(out, at, s, p),
-        Imm::Heap(t) => emit::put(out, at, t),
-    }
-}
-
-pub fn put_instruction(out: &mut [u8], at: usize, s: &[u8], opcode: u8, imm: Imm) -> usize
-    ensures { λ r. ⌜ Put (now (out .entry)) at (Binary.instruction (opOf (now (s .entry)) opcode imm)) r (now (out .exit)) ⌝ }
-{
-    let a = emit::put(out, at, opcode);
-    put_imm(out, a, s, imm)
-}
-
-// A constant: one instruction, and the end.
-pub fn put_constant(out: &mut [u8], at: usize, s: &[u8], opcode: u8, imm: Imm) -> usize
-    ensures { λ r. ⌜ Put (now (out .entry)) at (Binary.expr (opOf (now (s .entry)) opcode imm ∷ [])) r (now (out .exit)) ⌝ }
-{
-    let a = put_instruction(out, at, s, opcode, imm);
-    emit::put(out, a, 0x0B)
 }

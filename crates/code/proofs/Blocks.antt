@@ -9,7 +9,7 @@ use borrow.Author.Tests.{lt-ltb, le-ltb}
 use native.Mathlib.Omega.{arith}
 use Rattle.definition.specs.Basic.{_>>=_}
 use Rattle.definition.specs.Syntax as Syntax
-use Rattle.definition.specs.Syntax.{Identifier, Rec, instr}
+use Rattle.definition.specs.Syntax.{Identifier, instr}
 use Rattle.definition.specs.Reader.{Step, got, fault, onward, require}
 use Rattle.definition.specs.Token as Token
 use Rattle.definition.specs.Instructions as Instructions
@@ -38,8 +38,9 @@ use Rattle.typeuse.specs.declared.UseAt.the-variants as U
 use Rattle.space.specs.Area.{resolved}
 use Rattle.space.specs.declared.table.Resolved.{Resolved}
 use Rattle.space.specs.declared.table.Resolved.the-variants as R
-use Rattle.signatures.specs.Table.{typesIn}
-use Rattle.scope.specs.Scope.{scopeIn, Recalled, blockUses, labelsIn}
+use Rattle.signatures.specs.Table.{typesIn, Recalled}
+use Rattle.scope.specs.Scope.{scopeIn, labelsIn}
+use Rattle.uses.specs.Uses.{blockUses}
 use Rattle.scope.specs.Answers.{closedAnswer, typeAnswer, blockAnswer}
 use Rattle.scope.specs.declared.label.Closed.{Closed}
 use Rattle.scope.specs.declared.label.Closed.the-variants as C
@@ -49,19 +50,18 @@ use Rattle.scope.specs.declared.types.BlockAt.{BlockAt}
 use Rattle.scope.specs.declared.types.BlockAt.the-variants as B
 use Rattle.scope.proofs.Frames.{labels-close}
 use Rattle.frames.specs.Blocks.{Opened}
-use Rattle.binary.specs.Views.{blockTypeOf, opOf}
+use Rattle.binary.specs.Views.{blockTypeOf, typeNoOf}
 use Rattle.binary.specs.declared.instructions.BlockType.{BlockType}
 use Rattle.binary.specs.declared.instructions.TypeNo.{TypeNo}
-use Rattle.binary.specs.declared.instructions.Imm.the-variants as M
 use Rattle.binary.specs.Emits.{Emits}
 use Rattle.binary.specs.declared.Emitted.{Emitted}
 use Rattle.binary.specs.declared.Emitted.the-variants as E
 use Rattle.binary.proofs.Emitting.{wrote, halts, was-wrote, has-halted}
 use Rattle.code.specs.Code.{closingOp}
-use Rattle.code.specs.Turns.{turnOf, recordOf, readUses, AnyLocals}
-use Rattle.code.specs.declared.turn.Turn.{Turn}
-use Rattle.code.specs.declared.turn.Turn.the-variants as T
-use Rattle.code.proofs.Turns.{turned-fault, turned-on, turned-refused, turned-same}
+use Rattle.plain.specs.Turns.{turnOf, recordOf, readUses, AnyLocals}
+use Rattle.plain.specs.declared.turn.Turn.{Turn}
+use Rattle.plain.specs.declared.turn.Turn.the-variants as T
+use Rattle.plain.proofs.Turns.{turned-fault, turned-on, turned-refused, turned-same}
 
 -- ## `emit_opens`
 
@@ -71,7 +71,7 @@ module _ (s w : List ℕ) (rec opcode : ℕ) (t : Syntax.TypeUse Identifier) (y 
 
   pub opens-to : (b : BlockType) (a r : ℕ) (mid : List ℕ) → y ≡ B.To b → Put old at (opcode ∷ []) a mid → Put mid a (Binary.blockType (blockTypeOf b)) r new → Opens (E.To r)
   unfolding instrOp _>>=_ instruction imm
-  opens-to b a r mid d p q = wrote instruction (instrOp (scopeIn s w) [] [] rec (Syntax.opens opcode none t)) old at new (opOf s opcode (M.Block b)) r (put-cons p q) (rw (told, d))
+  opens-to b a r mid d p q = wrote instruction (instrOp (scopeIn s w) [] [] rec (Syntax.opens opcode none t)) old at new (record { opcode = opcode; imm = Syntax.blockImm (blockTypeOf b) }) r (put-cons p q) (rw (told, d))
 
   pub opens-not : (n q : ℕ) → y ≡ B.Refused n q → Opens (E.Refused n q)
   unfolding instrOp _>>=_
@@ -236,7 +236,7 @@ pub ruleset calls = (indirect-fault, indirect-untyped, indirect-got)
 module _ (s w : List ℕ) (k rec opcode : ℕ) (l : Option Identifier) (y : Closed) (told : closes (scopeIn s w) rec l (labelsIn s w k) ≡ closedAnswer y) (old : List ℕ) (at : ℕ) (new : List ℕ) where
   pub closing-to : (r : ℕ) → y ≡ C.Yes → Put old at (opcode ∷ []) r new → Emits instruction (closingOp s w k rec opcode l) old at (E.To r) new
   unfolding closingOp _>>=_ instruction imm
-  closing-to r d p = wrote instruction (closingOp s w k rec opcode l) old at new (opOf s opcode M.Nothing) r p (rw (told, d))
+  closing-to r d p = wrote instruction (closingOp s w k rec opcode l) old at new (record { opcode = opcode; imm = Syntax.noImm }) r p (rw (told, d))
 
   pub closing-not : (n q : ℕ) → y ≡ C.Refused n q → Emits instruction (closingOp s w k rec opcode l) old at (E.Refused n q) new
   unfolding closingOp _>>=_
@@ -253,9 +253,10 @@ module _ (s w : List ℕ) (rec : ℕ) (x : Syntax.Index Identifier) (t : Syntax.
   indirect-stops n q d = halts instruction (instrOp (scopeIn s w) [] [] rec (Syntax.indirect x t)) old at new n q (rw (told, d))
 
   module _ (table : ℕ) (d : y ≡ R.To table) (z : TypeAt) (says : typeNo (scopeIn s w) rec t ≡ typeAnswer z) where
-    pub indirect-to : (n : TypeNo) (r : ℕ) → z ≡ N.To n → Put old at (instruction (opOf s 0x11 (M.Indirect n table))) r new → Indirect (E.To r)
-    unfolding instrOp _>>=_
-    indirect-to n r e p = wrote instruction (instrOp (scopeIn s w) [] [] rec (Syntax.indirect x t)) old at new (opOf s 0x11 (M.Indirect n table)) r p (rw (told, d, says, e))
+    pub indirect-to : (n : TypeNo) (a r : ℕ) (mid : List ℕ) → z ≡ N.To n → Put old at (0x11 ∷ []) a mid → Put mid a (imm (Syntax.indirectImm (typeNoOf n) table)) r new → Indirect (E.To r)
+    unfolding instrOp _>>=_ instruction
+    indirect-to n a r mid e p q =
+        wrote instruction (instrOp (scopeIn s w) [] [] rec (Syntax.indirect x t)) old at new (record { opcode = 0x11; imm = Syntax.indirectImm (typeNoOf n) table }) r (put-cons p q) (rw (told, d, says, e))
 
     pub indirect-not : (n q : ℕ) → z ≡ N.Refused n q → Indirect (E.Refused n q)
     unfolding instrOp _>>=_

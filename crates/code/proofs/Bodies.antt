@@ -32,19 +32,19 @@ use Rattle.instr.specs.declared.Form.the-variants as F
 use Rattle.space.specs.Area.{labels}
 use Rattle.space.specs.Kept.{Kept}
 use Rattle.space.proofs.Kept.{kept-same, kept-then, kept-less}
-use Rattle.signatures.specs.Table.{typesIn}
+use Rattle.signatures.specs.Table.{typesIn, Recalled}
 use Rattle.walk.specs.Walk.{onBody, bodyFrom, wholeBody}
-use Rattle.scope.specs.Scope.{scopeIn, Recalled, localsIn, FewLocals, labelsIn}
+use Rattle.scope.specs.Scope.{scopeIn, localsIn, FewLocals, labelsIn}
 use Rattle.scope.specs.declared.Locals.{Locals}
 use Rattle.scope.proofs.Frames.{scope-kept, locals-kept, recalled-left, recalled-right, recalled-scope}
 use Rattle.binary.specs.declared.Emitted.the-variants as E
 use Rattle.binary.proofs.Emitting.{wrote, halts}
-use Rattle.entries.proofs.Elements.{after, concat-snoc}
-use Rattle.code.specs.Turns.{recordOf, plainRecord, readUses, Stepped, Ended, Halted, Turned, AnyLocals}
+use Rattle.operands.proofs.Elements.{after, concat-snoc}
+use Rattle.plain.specs.Turns.{recordOf, plainRecord, readUses, Stepped, Ended, Halted, Turned, AnyLocals}
 use Rattle.code.specs.Body.{Resolvable, EmitsBody}
-use Rattle.code.specs.declared.turn.Turn.{Turn}
-use Rattle.code.specs.declared.turn.Turn.the-variants as T
-use Rattle.code.proofs.Turns.{turned-fault}
+use Rattle.plain.specs.declared.turn.Turn.{Turn}
+use Rattle.plain.specs.declared.turn.Turn.the-variants as T
+use Rattle.plain.proofs.Turns.{turned-fault}
 
 -- ## `one_record`
 

@@ -8,9 +8,9 @@ use Rattle.definition.specs.Types.{bodyUses}
 use Rattle.definition.specs.Names.{body}
 use Rattle.definition.specs.Binary.{instruction}
 use Rattle.space.specs.Kept.{Kept}
-use Rattle.signatures.specs.Table.{typesIn}
+use Rattle.signatures.specs.Table.{typesIn, Recalled}
 use Rattle.walk.specs.Walk.{bodyFrom, wholeBody}
-use Rattle.scope.specs.Scope.{scopeIn, Recalled, localsIn}
+use Rattle.scope.specs.Scope.{scopeIn, localsIn}
 use Rattle.scope.specs.declared.Locals.{Locals}
 use Rattle.binary.specs.Emits.{Emits}
 use Rattle.binary.specs.declared.Emitted.{Emitted}

@@ -1,7 +1,6 @@
 // Instructions that open or close a block or have a type use.
-use crate::turn::Turn;
 use binary::Emitted;
-use binary::Imm;
+use plain::Turn;
 use scope::BlockAt;
 use scope::Closed;
 use scope::TypeAt;
@@ -26,10 +25,11 @@ ghost use Rattle.definition.specs.Binary as Binary;
 ghost use Rattle.token.specs.Views.{idOf, indexOf};
 ghost use Rattle.token.specs.Known.{Gets};
 ghost use Rattle.typeuse.specs.Views.{useOf};
-ghost use Rattle.signatures.specs.Table.{typesIn};
-ghost use Rattle.scope.specs.Scope.{scopeIn, Recalled, blockUses};
+ghost use Rattle.signatures.specs.Table.{typesIn, Recalled};
+ghost use Rattle.scope.specs.Scope.{scopeIn};
+ghost use Rattle.uses.specs.Uses.{blockUses};
 ghost use Rattle.binary.specs.Emits.{Emits};
-ghost use Rattle.code.specs.Turns.{recordOf, readUses, AnyLocals};
+ghost use Rattle.plain.specs.Turns.{recordOf, readUses, AnyLocals};
 ghost use Rattle.code.specs.Code.{closingOp};
 
 // A block, a loop or an if.
@@ -142,7 +142,7 @@ pub fn else_record(
     match token::known_identifier(s, here) {
         PartAt::Got(label, next) => {
             let e = emit_closing(s, work, out, at, k, 0x05, label, rec);
-            crate::turn::go_on(e, next, k)
+            plain::go_on(e, next, k)
         }
         PartAt::Fault(_) => Turn::Done,
     }
@@ -166,7 +166,7 @@ pub fn end_record(
     match token::known_identifier(s, here) {
         PartAt::Got(label, next) => {
             let e = emit_closing(s, work, out, at, k, 0x0B, label, rec);
-            crate::turn::go_on(e, next, k - 1)
+            plain::go_on(e, next, k - 1)
         }
         PartAt::Fault(_) => Turn::Done,
     }
@@ -187,13 +187,10 @@ fn emit_indirect(
 {
     match scope::item_no(s, work, Space::Tables, x, rec) {
         Resolved::To(table) => match scope::type_no(s, work, t, rec) {
-            TypeAt::To(n) => Emitted::To(binary::put_instruction(
-                out,
-                at,
-                s,
-                0x11,
-                Imm::Indirect(n, table),
-            )),
+            TypeAt::To(n) => {
+                let a = emit::put(out, at, 0x11);
+                Emitted::To(binary::put_indirect(out, a, n, table))
+            }
             TypeAt::Refused(n, q) => Emitted::Refused(n, q),
         },
         Resolved::Refused(n, q) => Emitted::Refused(n, q),
@@ -216,7 +213,7 @@ pub fn indirect_record(
         IndexAt::Got(x, a) => match typeuse::read_type_use(s, a) {
             UseAt::Got(t, next) => {
                 let e = emit_indirect(s, work, out, at, x, t, rec);
-                crate::turn::go_on(e, next, k)
+                plain::go_on(e, next, k)
             }
             UseAt::Fault(_) => Turn::Done,
         },

@@ -1,14 +1,14 @@
 // A body: its instructions up to its end.
-use crate::turn::Turn;
 use binary::Emitted;
 use instr::Form;
+use plain::Turn;
 use scope::Locals;
 use token::ByteAt;
 ghost use Prim.Native.Nat.{_≤_, _<_};
 ghost use lib.ListN.{length};
 ghost use Rattle.definition.specs.Instructions as Instructions;
 ghost use Rattle.scope.specs.Scope.{localsIn, FewLocals};
-ghost use Rattle.code.specs.Turns.{Turned};
+ghost use Rattle.plain.specs.Turns.{Turned};
 ghost use Rattle.code.specs.Body.{Resolvable, EmitsBody};
 
 // One record of a body where k blocks are open. Its end, FF, is no opcode either.
@@ -32,9 +32,7 @@ fn one_record(
             Form::Elsing => crate::block::else_record(s, work, out, at, a, k, rec),
             Form::Ending => crate::block::end_record(s, work, out, at, a, k, rec),
             Form::Calling => crate::block::indirect_record(s, work, out, at, a, k, rec),
-            Form::Operands(what) => {
-                crate::plain::plain_record(s, work, out, at, a, k, l, b, what, rec)
-            }
+            Form::Operands(what) => { plain::plain_record(s, work, out, at, a, k, l, b, what, rec) }
         },
         ByteAt::Fault(_) => Turn::Done,
     }

@@ -5,12 +5,12 @@ use mathlib.Core.Bool.{Bool}
 use mathlib.Core.List.{List, [], _∷_, _++_, map, map-append, append-assoc, append-nil}
 use mathlib.Core.Option.{Option, none}
 use lib.ListN.{length}
-use Rattle.definition.specs.Basic.{if_then_else_, Answer, ok, refused, _>>=_, each, concatMap}
+use Rattle.definition.specs.Basic.{Answer, ok, refused, _>>=_, each, concatMap}
 use Rattle.definition.specs.Syntax as Syntax
 use Rattle.definition.specs.Syntax.{Bytes, Identifier, Space, ExternType, Index, number, active, Plain, Instr, TypeUse, TypeNo, Item, Field, typeF, importF, ownF, exportF, startF, elemF, dataF}
 use Rattle.definition.specs.Syntax.{ownFunc, ownTable, ownMem, ownGlobal}
 use Rattle.definition.specs.Token as Token
-use Rattle.definition.specs.Spaces.{ownSpace, externSpace, sourceSpace}
+use Rattle.definition.specs.Spaces.{sourceSpace}
 use Rattle.definition.specs.Read.{fieldBody, sourceBody, ownBody}
 use Rattle.definition.specs.Deinline.{Numbered, exactly, pages, zeroOffset, fieldsOf, sourceFields}
 use Rattle.definition.specs.Names.{Scope, numberIn, itemNo, typeNo, externNo, constOp, ownItem, resolve, resolveAll}
@@ -30,7 +30,6 @@ use Rattle.typeuse.specs.declared.List as Code
 use Rattle.sources.specs.Views.{countOf, nameOf, externIs, ownOf}
 use Rattle.sources.specs.declared.seen.Seen.{Seen}
 use Rattle.sources.specs.declared.import.Extern.{Extern}
-use Rattle.sources.specs.declared.import.Extern.the-variants as X
 use Rattle.sources.specs.declared.source.Own.{Own}
 use Rattle.sources.specs.declared.source.Own.the-variants as O
 use Rattle.sources.specs.declared.source.Source.the-variants as S
@@ -40,17 +39,14 @@ use Rattle.fields.specs.declared.field.Field.the-variants as F
 use Rattle.walk.specs.Walk.{bodyFrom, bodyIn, fieldsHere}
 use Rattle.walk.specs.declared.Cursor.{Cursor}
 use Rattle.entries.specs.Entry.{entryOf, exportEntries}
-use Rattle.content.specs.Entry.{oneOf, typeBytes, answerOf, Entries, entriesOf, tagged, both, entryIn, threeIn, firstOf, itemIn, secondOf, thirdOf, threeOf, three, externSpaceOf, ownSpaceOf}
+use Rattle.counting.specs.Counting.{externSpaceOf, ownSpaceOf}
+use Rattle.counting.proofs.Counts.{extern-brings, own-brings}
+use Rattle.content.specs.Entry.{oneOf, typeBytes, answerOf, Entries, entriesOf, tagged, both, entryIn, threeIn, firstOf, itemIn, secondOf, thirdOf, threeOf, three}
 use Rattle.function.specs.Function.{codeOf, funcField}
 use Rattle.content.specs.declared.entry.Entry.{Entry}
 use Rattle.content.specs.declared.entry.Entry.the-variants as E
 
 -- ## Lists of fields
-
-concat-append : {A B : Type 0} (f : A → List B) (xs ys : List A) → concatMap f (xs ++ ys) ≡ concatMap f xs ++ concatMap f ys
-unfolding concatMap
-concat-append f [] ys = refl
-concat-append f (x ∷ xs) ys = rw (concat-append f xs ys) (sym (append-assoc (f x) (concatMap f xs) (concatMap f ys)))
 
 both-none : {A : Type 0} (a : Answer (List A)) → both a (ok []) ≡ a
 unfolding both
@@ -289,20 +285,6 @@ module _ (Γ : Scope Identifier) (s : Bytes) (r : ℕ) where
       item-three es K.Mems n _ (E.InlineData w n d) (E.InlineMem w d)
       (item-two _ _ (E.InlineData w n d) (E.InlineMem w d) (single 11 _ (data-single Γ r none (active (number n) (zeroOffset w)) (partOf s d))) refl)
 
-own-space : (s : Bytes) (o : Own) → ownSpace (ownOf s o) ≡ spaceOf (ownSpaceOf o)
-unfolding ownSpace
-own-space s (O.Func t ls) = refl
-own-space s (O.Table t) = refl
-own-space s (O.Mem l) = refl
-own-space s (O.Global t c) = refl
-
-extern-space : (s : Bytes) (x : Extern) → externSpace (externIs s x) ≡ spaceOf (externSpaceOf x)
-unfolding externSpace
-extern-space s (X.Func t) = refl
-extern-space s (X.Table t) = refl
-extern-space s (X.Mem l) = refl
-extern-space s (X.Global t) = refl
-
 -- ## One record
 
 pub entries-here : (Γ : Scope Identifier) (s : Bytes) (c next : Cursor) (f : Read.Field) (here : ℕ)
@@ -314,7 +296,7 @@ entries-here Γ s c next (F.Export n k x) here = one-entry Γ s (c .rec) _ (E.Ex
 entries-here Γ s c next (F.Start x) here = one-entry Γ s (c .rec) _ (E.Start x) (start-in Γ s (c .rec) x)
 entries-here Γ s c next (F.Elem i m xs) here = one-entry Γ s (c .rec) _ (E.Elem m xs) (elem-in Γ s (c .rec) (idOf s i) m xs)
 entries-here Γ s c next (F.Data i m d) here = one-entry Γ s (c .rec) _ (E.Data m d) (data-in Γ s (c .rec) (idOf s i) m d)
-entries-here Γ s c next (F.Item i es (S.Own o)) here = rw (own-space s o) (own-three Γ s (c .rec) es (idOf s i) o (c .seen) (countOf (c .seen) (spaceOf (ownSpaceOf o))) here)
-entries-here Γ s c next (F.Item i es (S.Imported n x)) here = rw (extern-space s x) (extern-three Γ s (c .rec) es (idOf s i) n x (countOf (c .seen) (spaceOf (externSpaceOf x))))
+entries-here Γ s c next (F.Item i es (S.Own o)) here = rw (← own-brings s o) (own-three Γ s (c .rec) es (idOf s i) o (c .seen) (countOf (c .seen) (spaceOf (ownSpaceOf o))) here)
+entries-here Γ s c next (F.Item i es (S.Imported n x)) here = rw (← extern-brings s x) (extern-three Γ s (c .rec) es (idOf s i) n x (countOf (c .seen) (spaceOf (externSpaceOf x))))
 entries-here Γ s c next (F.Item i es (S.TableOf w xs)) here = table-three Γ s (c .rec) es (idOf s i) w xs (countOf (c .seen) Syntax.tables)
 entries-here Γ s c next (F.Item i es (S.MemOf w d)) here = mem-three Γ s (c .rec) es (idOf s i) w d (countOf (c .seen) Syntax.mems)

@@ -1,5 +1,3 @@
 pub mod Threes
 pub mod Fields
 pub mod Uses
-pub mod Pieces
-pub mod Arms

@@ -1,6 +1,6 @@
 -- The entries of a field, by what a match on it gives.
 use Prim.Native.Nat.{ℕ}
-use mathlib.Core.Path.{_≡_, sym, _∙_}
+use mathlib.Core.Path.{_≡_}
 use mathlib.Core.Bool.{Bool}
 use Rattle.token.specs.Views.{spaceOf}
 use Rattle.token.specs.declared.text.Part.{Part}
@@ -14,7 +14,8 @@ use Rattle.sources.specs.declared.source.Source.{Source}
 use Rattle.sources.specs.declared.source.Source.the-variants as S
 use Rattle.fields.specs.declared.field.Field.{Field}
 use Rattle.fields.specs.declared.field.Field.the-variants as F
-use Rattle.content.specs.Entry.{sectionNo, sourceSpaceOf, exportsOf, firstOf, secondOf, thirdOf, itemIn, secondIn, thirdIn, threeOf, three}
+use Rattle.counting.specs.Counting.{sourceSpaceOf}
+use Rattle.content.specs.Entry.{sectionNo, exportsOf, firstOf, secondOf, thirdOf, itemIn, secondIn, thirdIn, threeOf, three}
 use Rattle.content.specs.declared.entry.Entry.{Entry}
 use Rattle.content.specs.declared.entry.Entry.the-variants as E
 use Rattle.content.specs.declared.entry.ItemIn.{ItemIn}
@@ -23,9 +24,6 @@ use Rattle.content.specs.declared.entry.Three.{Three}
 
 pub is-section : (n : ℕ) (e v : Entry) → e ≡ v → n ≡ sectionNo v → n ≡ sectionNo e
 is-section n e v p d = rw p d
-
-pub is-space : (k : Kind.Space) (x v : Source) → x ≡ v → k ≡ sourceSpaceOf v → k ≡ sourceSpaceOf x
-is-space k x v p d = rw p d
 
 pub is-item : (i : ItemIn) (f v : Field) → f ≡ v → i ≡ itemIn v → i ≡ itemIn f
 is-item i f v p d = rw p d
@@ -66,13 +64,16 @@ module _ (r : Entry) (x : Source) (here : ℕ) where
 
 -- ## All three, by what is found in a field
 
-three-by : (f : Field) (seen : Seen) (here : ℕ) (e : Entry) (i : ItemIn) → e ≡ firstOf f seen → i ≡ itemIn f → threeOf e (secondIn i seen) (thirdIn i here) ≡ three f seen here
-unfolding three
-three-by f seen here e i d told = rw (d, told)
+module _ (r : Three) (e : Entry) (i : ItemIn) (seen : Seen) (here : ℕ) where
+  -- an item has two more
+  pub more-item : (x : Source) (a b : Entry) → r ≡ threeOf e a b → i ≡ I.Item x → a ≡ secondOf x seen → b ≡ thirdOf x here → r ≡ threeOf e (secondIn i seen) (thirdIn i here)
+  more-item x a b g is p q = rw (is, ← p, ← q) g
 
-module _ (r : Three) (f : Field) (seen : Seen) (here : ℕ) (e : Entry) (i : ItemIn) where
-  pub three-item : (x : Source) (a b : Entry) → r ≡ threeOf e a b → i ≡ I.Item x → e ≡ firstOf f seen → i ≡ itemIn f → a ≡ secondOf x seen → b ≡ thirdOf x here → r ≡ three f seen here
-  three-item x a b g is d told p q = rw (g, p, q) (three-by f seen here e (I.Item x) d (sym is ∙ told))
+  -- any other field has none
+  pub more-other : r ≡ threeOf e E.Nothing E.Nothing → i ≡ I.Other → r ≡ threeOf e (secondIn i seen) (thirdIn i here)
+  more-other g is = rw is g
 
-  pub three-other : r ≡ threeOf e E.Nothing E.Nothing → i ≡ I.Other → e ≡ firstOf f seen → i ≡ itemIn f → r ≡ three f seen here
-  three-other g is d told = g ∙ three-by f seen here e I.Other d (sym is ∙ told)
+  -- the entries of the field that it was found in
+  pub more-all : (f : Field) → r ≡ threeOf e (secondIn i seen) (thirdIn i here) → e ≡ firstOf f seen → i ≡ itemIn f → r ≡ three f seen here
+  unfolding three
+  more-all f g d told = rw (← d, ← told) g

@@ -1,5 +1,5 @@
--- What is known of every type use of a record's fields is known of those of its entries; and its functions are small, with bodies that read to
--- their ends.
+-- What is known of every type use of a record's fields is known of those of its entries; and the heads of its functions are small and can be
+-- read, as their bodies can to their ends.
 use Prim.Native.Nat.{ℕ, _+_, _-_, _≤_, _<_}
 use mathlib.Core.Path.{_≡_, refl}
 use mathlib.Core.Bool.{true}
@@ -20,13 +20,14 @@ use Rattle.sources.specs.declared.seen.Seen.{Seen}
 use Rattle.sources.specs.declared.source.Own.{Own}
 use Rattle.sources.specs.declared.source.Own.the-variants as O
 use Rattle.sources.specs.declared.source.Source.the-variants as S
+use Rattle.known.specs.Known.{ReadableHead}
 use Rattle.fields.specs.Views.{fieldOf}
 use Rattle.fields.specs.declared.field.Field as Read
 use Rattle.fields.specs.declared.field.Field.the-variants as F
 use Rattle.walk.specs.Walk.{bodyFrom, wholeField, fieldsHere}
 use Rattle.walk.specs.declared.Cursor.{Cursor}
-use Rattle.scope.specs.Scope.{Recalled}
-use Rattle.content.specs.Entry.{usesOf, FewIn, WholeIn, firstOf, itemIn, secondOf, thirdOf, three}
+use Rattle.signatures.specs.Table.{Recalled}
+use Rattle.content.specs.Entry.{usesOf, HeadIn, WholeIn, firstOf, itemIn, secondOf, thirdOf, three}
 use Rattle.content.specs.declared.entry.Three.{Three}
 
 -- ## Every use
@@ -40,10 +41,6 @@ module _ (P : ℕ → FuncType → Type 0) where
   pub all-first : (us vs : Uses) → All (us ++ vs) → All us
   all-first [] vs a = tt
   all-first ((r, t) ∷ us) vs a = (a .0, all-first us vs (a .1))
-
-  pub all-rest : (us vs : Uses) → All (us ++ vs) → All vs
-  all-rest [] vs a = a
-  all-rest ((r, t) ∷ us) vs a = all-rest us vs (a .1)
 
   -- P holds of each use of the three entries
   pub record AllThree (s : Bytes) (r : ℕ) (t : Three) : Type 0 where
@@ -85,30 +82,30 @@ module _ (P : ℕ → FuncType → Type 0) where
     uses-here (F.Item i es (S.TableOf w xs)) here a = record { first = tt; second = tt; third = tt }
     uses-here (F.Item i es (S.MemOf w d)) here a = record { first = tt; second = tt; third = tt }
 
--- ## Functions are small
+-- ## Heads are small, and can be read
 
-pub record FewThree (s : Bytes) (t : Three) : Type 0 where
-  pub first : FewIn s (t .first)
-  pub second : FewIn s (t .second)
-  pub third : FewIn s (t .third)
+pub record HeadThree (s : Bytes) (t : Three) : Type 0 where
+  pub first : HeadIn s (t .first)
+  pub second : HeadIn s (t .second)
+  pub third : HeadIn s (t .third)
 
-pub few-here : (s : Bytes) (seen : Seen) (f : Read.Field) (here : ℕ)
+pub head-here : (s : Bytes) (seen : Seen) (f : Read.Field) (here : ℕ)
     → ((i : Part) (es : Code.List) (t : TypeUse) (ls : Code.List) → f ≡ F.Item i es (S.Own (O.Func t ls)) → (length (useOf s t .params) ≤ 64) × (length (listOf Token.param s ls) ≤ 64))
-    → FewThree s (three f seen here)
+    → ReadableHead s f → HeadThree s (three f seen here)
 unfolding three firstOf itemIn secondOf thirdOf
-few-here s seen (F.Type i ps rs) here h = record { first = tt; second = tt; third = tt }
-few-here s seen (F.Import n i x) here h = record { first = tt; second = tt; third = tt }
-few-here s seen (F.Export n k x) here h = record { first = tt; second = tt; third = tt }
-few-here s seen (F.Start x) here h = record { first = tt; second = tt; third = tt }
-few-here s seen (F.Elem i m xs) here h = record { first = tt; second = tt; third = tt }
-few-here s seen (F.Data i m d) here h = record { first = tt; second = tt; third = tt }
-few-here s seen (F.Item i es (S.Own (O.Func t ls))) here h = record { first = tt; second = tt; third = h i es t ls refl }
-few-here s seen (F.Item i es (S.Own (O.Table t))) here h = record { first = tt; second = tt; third = tt }
-few-here s seen (F.Item i es (S.Own (O.Mem l))) here h = record { first = tt; second = tt; third = tt }
-few-here s seen (F.Item i es (S.Own (O.Global t c))) here h = record { first = tt; second = tt; third = tt }
-few-here s seen (F.Item i es (S.Imported n x)) here h = record { first = tt; second = tt; third = tt }
-few-here s seen (F.Item i es (S.TableOf w xs)) here h = record { first = tt; second = tt; third = tt }
-few-here s seen (F.Item i es (S.MemOf w d)) here h = record { first = tt; second = tt; third = tt }
+head-here s seen (F.Type i ps rs) here h known = record { first = tt; second = tt; third = tt }
+head-here s seen (F.Import n i x) here h known = record { first = tt; second = tt; third = tt }
+head-here s seen (F.Export n k x) here h known = record { first = tt; second = tt; third = tt }
+head-here s seen (F.Start x) here h known = record { first = tt; second = tt; third = tt }
+head-here s seen (F.Elem i m xs) here h known = record { first = tt; second = tt; third = tt }
+head-here s seen (F.Data i m d) here h known = record { first = tt; second = tt; third = tt }
+head-here s seen (F.Item i es (S.Own (O.Func t ls))) here h known = record { first = tt; second = tt; third = (let few = h i es t ls refl in record { few-params = few .0; few-locals = few .1; params = known .0; locals = known .1 }) }
+head-here s seen (F.Item i es (S.Own (O.Table t))) here h known = record { first = tt; second = tt; third = tt }
+head-here s seen (F.Item i es (S.Own (O.Mem l))) here h known = record { first = tt; second = tt; third = tt }
+head-here s seen (F.Item i es (S.Own (O.Global t c))) here h known = record { first = tt; second = tt; third = tt }
+head-here s seen (F.Item i es (S.Imported n x)) here h known = record { first = tt; second = tt; third = tt }
+head-here s seen (F.Item i es (S.TableOf w xs)) here h known = record { first = tt; second = tt; third = tt }
+head-here s seen (F.Item i es (S.MemOf w d)) here h known = record { first = tt; second = tt; third = tt }
 
 -- ## Bodies read to their ends
 

@@ -1,5 +1,5 @@
 -- What a field puts into the sections, entry by entry.
-use Prim.Native.Nat.{ℕ, _+_, _-_, _≤_}
+use Prim.Native.Nat.{ℕ, _+_, _-_}
 use mathlib.Core.Path.{_≡_}
 use mathlib.Core.Bool.{true}
 use mathlib.Core.List.{List, [], _∷_, _++_, map}
@@ -18,23 +18,23 @@ use Rattle.token.specs.Views.{partOf, indexOf, spaceOf}
 use Rattle.coretypes.specs.Views.{limitsIs, tableTypeIs, globalTypeIs}
 use Rattle.typeuse.specs.Views.{listOf, useOf}
 use Rattle.typeuse.specs.declared.List as Code
+use Rattle.typeuse.specs.declared.TypeUse.{TypeUse}
 use Rattle.expr.specs.Views.{plainIs}
 use Rattle.sources.specs.Views.{countOf, nameOf, externIs}
 use Rattle.sources.specs.declared.seen.Seen.{Seen}
-use Rattle.sources.specs.declared.import.Extern.{Extern}
-use Rattle.sources.specs.declared.import.Extern.the-variants as X
 use Rattle.sources.specs.declared.source.Own.{Own}
 use Rattle.sources.specs.declared.source.Own.the-variants as O
 use Rattle.sources.specs.declared.source.Source.{Source}
 use Rattle.sources.specs.declared.source.Source.the-variants as S
 use Rattle.token.specs.declared.index.Space as Kind
-use Rattle.token.specs.declared.index.Space.the-variants as K
 use Rattle.fields.specs.Views.{modeOf}
 use Rattle.fields.specs.declared.field.Field.{Field}
 use Rattle.fields.specs.declared.field.Field.the-variants as F
 use Rattle.walk.specs.Walk.{bodyFrom, wholeBody}
+use Rattle.frames.specs.Locals.{Head}
 use Rattle.entries.specs.Entry.{entryOf, exportEntries}
 use Rattle.function.specs.Function.{codeOf, funcField}
+use Rattle.counting.specs.Counting.{sourceSpaceOf}
 use Rattle.content.specs.declared.entry.Entry.{Entry}
 use Rattle.content.specs.declared.entry.Entry.the-variants as E
 use Rattle.content.specs.declared.entry.ItemIn.{ItemIn}
@@ -110,66 +110,35 @@ usesOf s r (E.Code t ls here) = usedAt r (Types.useOf (useOf s t)) ++ Types.body
 usesOf s r (E.Data m d) = []
 usesOf s r (E.InlineData w n d) = []
 
--- a function has at most 64 parameters and 64 locals
-abbrev pub FewIn : Bytes → Entry → Type 0
-FewIn s E.Nothing = Unit {0}
-FewIn s (E.Type ps rs) = Unit {0}
-FewIn s (E.Import n x) = Unit {0}
-FewIn s (E.Func t) = Unit {0}
-FewIn s (E.Table t) = Unit {0}
-FewIn s (E.InlineTable w xs) = Unit {0}
-FewIn s (E.Mem l) = Unit {0}
-FewIn s (E.InlineMem w d) = Unit {0}
-FewIn s (E.Global t c) = Unit {0}
-FewIn s (E.Export n k x) = Unit {0}
-FewIn s (E.Exports es k n) = Unit {0}
-FewIn s (E.Start x) = Unit {0}
-FewIn s (E.Elem m xs) = Unit {0}
-FewIn s (E.InlineElem w n xs) = Unit {0}
-FewIn s (E.Code t ls here) = (length (useOf s t .params) ≤ 64) × (length (listOf Token.param s ls) ≤ 64)
-FewIn s (E.Data m d) = Unit {0}
-FewIn s (E.InlineData w n d) = Unit {0}
+-- what holds of the parts of a code entry; nothing is said of other entries
+abbrev pub onCode : (TypeUse → Code.List → ℕ → Type 0) → Entry → Type 0
+onCode p E.Nothing = Unit {0}
+onCode p (E.Type ps rs) = Unit {0}
+onCode p (E.Import n x) = Unit {0}
+onCode p (E.Func t) = Unit {0}
+onCode p (E.Table t) = Unit {0}
+onCode p (E.InlineTable w xs) = Unit {0}
+onCode p (E.Mem l) = Unit {0}
+onCode p (E.InlineMem w d) = Unit {0}
+onCode p (E.Global t c) = Unit {0}
+onCode p (E.Export n k x) = Unit {0}
+onCode p (E.Exports es k n) = Unit {0}
+onCode p (E.Start x) = Unit {0}
+onCode p (E.Elem m xs) = Unit {0}
+onCode p (E.InlineElem w n xs) = Unit {0}
+onCode p (E.Code t ls here) = p t ls here
+onCode p (E.Data m d) = Unit {0}
+onCode p (E.InlineData w n d) = Unit {0}
+
+-- a function's head is small and can be read
+abbrev pub HeadIn : Bytes → Entry → Type 0
+HeadIn s e = onCode (λ t ls here. Head s t ls) e
 
 -- a function's body reads to its end; `r` is the function's record
 abbrev pub WholeIn : Bytes → ℕ → Entry → Type 0
-WholeIn s r E.Nothing = Unit {0}
-WholeIn s r (E.Type ps rs) = Unit {0}
-WholeIn s r (E.Import n x) = Unit {0}
-WholeIn s r (E.Func t) = Unit {0}
-WholeIn s r (E.Table t) = Unit {0}
-WholeIn s r (E.InlineTable w xs) = Unit {0}
-WholeIn s r (E.Mem l) = Unit {0}
-WholeIn s r (E.InlineMem w d) = Unit {0}
-WholeIn s r (E.Global t c) = Unit {0}
-WholeIn s r (E.Export n k x) = Unit {0}
-WholeIn s r (E.Exports es k n) = Unit {0}
-WholeIn s r (E.Start x) = Unit {0}
-WholeIn s r (E.Elem m xs) = Unit {0}
-WholeIn s r (E.InlineElem w n xs) = Unit {0}
-WholeIn s r (E.Code t ls here) = wholeBody (4096 - (r + 1)) 0 s here ≡ true
-WholeIn s r (E.Data m d) = Unit {0}
-WholeIn s r (E.InlineData w n d) = Unit {0}
+WholeIn s r e = onCode (λ t ls here. wholeBody (4096 - (r + 1)) 0 s here ≡ true) e
 
 -- ## The entries of a field
-
--- the space of an item, among the code's values
-abbrev pub externSpaceOf : Extern → Kind.Space
-externSpaceOf (X.Func t) = K.Funcs
-externSpaceOf (X.Table t) = K.Tables
-externSpaceOf (X.Mem l) = K.Mems
-externSpaceOf (X.Global t) = K.Globals
-
-abbrev pub ownSpaceOf : Own → Kind.Space
-ownSpaceOf (O.Func t ls) = K.Funcs
-ownSpaceOf (O.Table t) = K.Tables
-ownSpaceOf (O.Mem l) = K.Mems
-ownSpaceOf (O.Global t c) = K.Globals
-
-abbrev pub sourceSpaceOf : Source → Kind.Space
-sourceSpaceOf (S.Own o) = ownSpaceOf o
-sourceSpaceOf (S.Imported n x) = externSpaceOf x
-sourceSpaceOf (S.TableOf w xs) = K.Tables
-sourceSpaceOf (S.MemOf w d) = K.Mems
 
 -- the exports of the next item of a space
 abbrev pub exportsOf : Code.List → Kind.Space → Seen → Entry

@@ -16,7 +16,7 @@ use token::Space;
 use typeuse::List;
 use typeuse::TypeUse;
 ghost use mathlib.Core.Path.{_≡_};
-ghost use Rattle.content.specs.Entry.{sectionNo, externSpaceOf, ownSpaceOf, sourceSpaceOf, exportsOf, firstOf, itemIn, secondOf, thirdOf, threeOf, three};
+ghost use Rattle.content.specs.Entry.{sectionNo, exportsOf, firstOf, itemIn, secondOf, thirdOf, secondIn, thirdIn, threeOf, three};
 
 // Entries of one section. The inline forms have the number of their item.
 pub enum Entry {
@@ -65,40 +65,6 @@ pub fn section_of(e: Entry) -> u8
     }
 }
 
-// The space of an item.
-fn extern_space(x: Extern) -> Space
-    ensures { λ r. ⌜ r ≡ externSpaceOf x ⌝ }
-{
-    match x {
-        Extern::Func(_) => Space::Funcs,
-        Extern::Table(_) => Space::Tables,
-        Extern::Mem(_) => Space::Mems,
-        Extern::Global(_) => Space::Globals,
-    }
-}
-
-fn own_space(o: Own) -> Space
-    ensures { λ r. ⌜ r ≡ ownSpaceOf o ⌝ }
-{
-    match o {
-        Own::Func(_, _) => Space::Funcs,
-        Own::Table(_) => Space::Tables,
-        Own::Mem(_) => Space::Mems,
-        Own::Global(_, _) => Space::Globals,
-    }
-}
-
-fn source_space(x: Source) -> Space
-    ensures { λ r. ⌜ r ≡ sourceSpaceOf x ⌝ }
-{
-    match x {
-        Source::Own(o) => own_space(o),
-        Source::Imported(_, e) => extern_space(e),
-        Source::TableOf(_, _) => Space::Tables,
-        Source::MemOf(_, _) => Space::Mems,
-    }
-}
-
 // The exports of the next item of a space: they have its number.
 fn exports_of(exports: List, k: Space, seen: Seen) -> Entry
     ensures { λ r. ⌜ r ≡ exportsOf exports k seen ⌝ }
@@ -121,7 +87,7 @@ pub fn first_of(f: Field, seen: Seen) -> Entry
             id: _,
             exports,
             source,
-        } => exports_of(exports, source_space(source), seen),
+        } => exports_of(exports, counting::source_space(source), seen),
         Field::Export { name, space, index } => Entry::Export(name, space, index),
         Field::Start(x) => Entry::Start(x),
         Field::Elem { id: _, mode, funcs } => Entry::Elem(mode, funcs),
@@ -228,13 +194,19 @@ fn together(first: Entry, second: Entry, third: Entry) -> Three
     }
 }
 
+// The first entry, and those of an item.
+fn with_item(first: Entry, i: ItemIn, seen: Seen, here: usize) -> Three
+    ensures { λ r. ⌜ r ≡ threeOf first (secondIn i seen) (thirdIn i here) ⌝ }
+{
+    match i {
+        ItemIn::Item(x) => together(first, second_of(x, seen), third_of(x, here)),
+        ItemIn::Other => together(first, Entry::Nothing, Entry::Nothing),
+    }
+}
+
 // The entries of a field whose head ends at `here`.
 pub fn entries_of(f: Field, seen: Seen, here: usize) -> Three
     ensures { λ r. ⌜ r ≡ three f seen here ⌝ }
 {
-    let first = first_of(f, seen);
-    match item_in(f) {
-        ItemIn::Item(x) => together(first, second_of(x, seen), third_of(x, here)),
-        ItemIn::Other => together(first, Entry::Nothing, Entry::Nothing),
-    }
+    with_item(first_of(f, seen), item_in(f), seen, here)
 }

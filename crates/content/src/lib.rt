@@ -1,8 +1,6 @@
 // What a field puts into the sections: up to three entries, each of one section.
-pub mod emitters;
 pub mod entry;
 
-pub use emitters::EndsAt;
 pub use entry::Entry;
 pub use entry::ItemIn;
 pub use entry::Three;

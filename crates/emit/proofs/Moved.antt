@@ -2,7 +2,7 @@
 use Prim.Native.Nat.{ℕ, suc, _+_, _-_, _≤_, _<_}
 use mathlib.Core.Path.{_≡_, refl, sym, _∙_, ap}
 use mathlib.Core.List.{List, [], _∷_}
-use lib.ListN.{length, getD, set, take, drop, length-set, length-take, length-drop, drop-of-length-le}
+use lib.ListN.{length, getD, set, take, drop, length-set, length-drop, drop-of-length-le}
 use lib.Seq.{sets, drop-cons, getD-take, getD-drop, getD-set-other, length-take-le}
 use native.Mathlib.Omega.{arith}
 use Rattle.emit.proofs.Laws.{set-before}

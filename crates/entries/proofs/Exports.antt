@@ -25,8 +25,9 @@ use Rattle.binary.specs.Emits.{Emits}
 use Rattle.binary.specs.declared.Emitted.{Emitted}
 use Rattle.binary.specs.declared.Emitted.the-variants as E
 use Rattle.binary.proofs.Emitting.{wrote, halts, emits-map, put-emits}
-use Rattle.entries.specs.Entry.{entryOf, constBytes, exportEntries, Lists}
-use Rattle.entries.proofs.Elements.{elements-none, elements-more, elements-fault, concat-snoc}
+use Rattle.entries.specs.Entry.{entryOf, exportEntries, Lists}
+use Rattle.operands.specs.Operands.{constBytes}
+use Rattle.operands.proofs.Elements.{elements-none, elements-more, elements-fault, concat-snoc}
 
 -- ## `emit_export`
 

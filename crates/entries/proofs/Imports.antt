@@ -19,7 +19,7 @@ use Rattle.typeuse.specs.declared.TypeUse.{TypeUse}
 use Rattle.sources.specs.Views.{externIs}
 use Rattle.sources.specs.declared.import.Extern.{Extern}
 use Rattle.sources.specs.declared.import.Extern.the-variants as X
-use Rattle.scope.specs.Scope.{Recalled}
+use Rattle.signatures.specs.Table.{Recalled}
 use Rattle.scope.specs.Answers.{typeAnswer}
 use Rattle.scope.specs.declared.types.TypeAt.{TypeAt}
 use Rattle.scope.specs.declared.types.TypeAt.the-variants as T

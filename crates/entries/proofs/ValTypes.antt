@@ -22,7 +22,7 @@ use Rattle.typeuse.specs.declared.LocalAt.the-variants as L
 use Rattle.signatures.specs.Table.{typed, typesOf, signatureOf}
 use Rattle.signatures.specs.declared.entry.Signature.{Signature}
 use Rattle.signatures.proofs.Lists.{types-are}
-use Rattle.entries.proofs.Elements.{elements-none, elements-more, elements-fault}
+use Rattle.operands.proofs.Elements.{elements-none, elements-more, elements-fault}
 
 -- ## One value type
 

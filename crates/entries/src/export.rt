@@ -70,5 +70,5 @@ pub fn emit_start(out: &mut [u8], at: usize, s: &[u8], work: &[u32], x: Index, r
     requires { ⌜ 16384 ≤ length (now work) ⌝ }
     ensures { λ r. ⌜ Emits entryOf (Names.resolve (scopeIn (now (s .entry)) (now (work .entry))) rec (startF (indexOf (now (s .entry)) x))) (now (out .entry)) at r (now (out .exit)) ⌝ }
 {
-    crate::indices::emit_func(out, at, s, work, x, rec)
+    operands::emit_func(out, at, s, work, x, rec)
 }

@@ -26,6 +26,6 @@ pub fn emit_global(
     requires { ⌜ 16384 ≤ length (now work) ⌝ }
     ensures { λ r. ⌜ Emits entryOf (Names.resolve (scopeIn (now (s .entry)) (now (work .entry))) rec (ownF none (ownGlobal (globalTypeIs t) (plainIs (now (s .entry)) c)) [])) (now (out .entry)) at r (now (out .exit)) ⌝ }
 {
-    let a = binary::put_global_type(out, at, t);
-    crate::constant::emit_const(out, a, s, work, c, rec)
+    let a = binary_types::put_global_type(out, at, t);
+    operands::emit_const(out, a, s, work, c, rec)
 }

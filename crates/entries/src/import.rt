@@ -20,8 +20,8 @@ ghost use Rattle.emit.specs.Put.{Put};
 ghost use Rattle.coretypes.specs.Views.{limitsIs, tableTypeIs, globalTypeIs};
 ghost use Rattle.typeuse.specs.Views.{useOf};
 ghost use Rattle.sources.specs.Views.{nameOf, externIs};
-ghost use Rattle.signatures.specs.Table.{typesIn};
-ghost use Rattle.scope.specs.Scope.{scopeIn, Recalled};
+ghost use Rattle.signatures.specs.Table.{typesIn, Recalled};
+ghost use Rattle.scope.specs.Scope.{scopeIn};
 ghost use Rattle.binary.specs.Views.{typeNoOf};
 ghost use Rattle.binary.specs.Emits.{Emits};
 ghost use Rattle.entries.specs.Entry.{entryOf};
@@ -37,21 +37,21 @@ fn put_table(out: &mut [u8], at: usize, t: TableType) -> usize
     ensures { λ r. ⌜ Put (now (out .entry)) at (0x01 ∷ Binary.tableType (tableTypeIs t)) r (now (out .exit)) ⌝ }
 {
     let a = emit::put(out, at, 0x01);
-    binary::put_table_type(out, a, t)
+    binary_types::put_table_type(out, a, t)
 }
 
 fn put_mem(out: &mut [u8], at: usize, l: Limits) -> usize
     ensures { λ r. ⌜ Put (now (out .entry)) at (0x02 ∷ Binary.limits (limitsIs l)) r (now (out .exit)) ⌝ }
 {
     let a = emit::put(out, at, 0x02);
-    binary::put_limits(out, a, l)
+    binary_types::put_limits(out, a, l)
 }
 
 fn put_global(out: &mut [u8], at: usize, t: GlobalType) -> usize
     ensures { λ r. ⌜ Put (now (out .entry)) at (0x03 ∷ Binary.globalType (globalTypeIs t)) r (now (out .exit)) ⌝ }
 {
     let a = emit::put(out, at, 0x03);
-    binary::put_global_type(out, a, t)
+    binary_types::put_global_type(out, a, t)
 }
 
 fn emit_func_type(

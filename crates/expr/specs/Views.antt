@@ -1,6 +1,6 @@
 -- What the answers of the readers mean.
 use Prim.Native.Nat.{ℕ}
-use mathlib.Core.List.{List, [], _∷_}
+use mathlib.Core.List.{[], _∷_}
 use Rattle.definition.specs.Syntax as Syntax
 use Rattle.definition.specs.Syntax.{Bytes, Identifier, nothing, label, labels, local, item, access, int32, int64, raw}
 use Rattle.definition.specs.Reader.{Step, got, fault, Reader, byte, many, _>>=_}

@@ -1,20 +1,12 @@
-// Element and data segments.
-use crate::field::Field;
-use crate::field::FieldAt;
+// Where a segment stands.
 use expr::Plain;
 use expr::PlainAt;
-use sources::Seen;
 use token::ByteAt;
 use token::Index;
 use token::IndexAt;
-use token::PartAt;
-use token::Space;
-use typeuse::Elem;
-use typeuse::ListAt;
 ghost use mathlib.Core.Path.{_≡_};
 ghost use Rattle.definition.specs.Records as Records;
-ghost use Rattle.sources.specs.Views.{roomOf};
-ghost use Rattle.fields.specs.Views.{modeAt, fieldAt};
+ghost use Rattle.fields.specs.Views.{modeAt};
 
 pub enum Mode {
     Passive,
@@ -39,7 +31,7 @@ fn active_mode(s: &[u8], at: usize) -> ModeAt
     }
 }
 
-fn read_mode(s: &[u8], at: usize) -> ModeAt
+pub fn read_mode(s: &[u8], at: usize) -> ModeAt
     ensures { λ r. ⌜ Records.mode (now (s .entry)) at ≡ modeAt (now (s .entry)) r ⌝ }
 {
     match token::read_byte(s, at) {
@@ -53,41 +45,5 @@ fn read_mode(s: &[u8], at: usize) -> ModeAt
             ModeAt::Fault(4)
         }
         ByteAt::Fault(e) => ModeAt::Fault(e),
-    }
-}
-
-pub fn read_elem(s: &[u8], at: usize, seen: Seen) -> FieldAt
-    ensures { λ r. ⌜ Records.elemRec (roomOf seen) (now (s .entry)) at ≡ fieldAt (now (s .entry)) r ⌝ }
-{
-    if !sources::has_room(seen, Space::Elems) {
-        return FieldAt::Fault(7);
-    }
-    match token::read_identifier(s, at) {
-        PartAt::Got(id, a) => match read_mode(s, a) {
-            ModeAt::Got(mode, b) => match typeuse::read_list(s, b, 1024, Elem::Index) {
-                ListAt::Got(funcs, c) => FieldAt::Got(Field::Elem { id, mode, funcs }, c),
-                ListAt::Fault(e) => FieldAt::Fault(e),
-            },
-            ModeAt::Fault(e) => FieldAt::Fault(e),
-        },
-        PartAt::Fault(e) => FieldAt::Fault(e),
-    }
-}
-
-pub fn read_data(s: &[u8], at: usize, seen: Seen) -> FieldAt
-    ensures { λ r. ⌜ Records.dataRec (roomOf seen) (now (s .entry)) at ≡ fieldAt (now (s .entry)) r ⌝ }
-{
-    if !sources::has_room(seen, Space::Datas) {
-        return FieldAt::Fault(7);
-    }
-    match token::read_identifier(s, at) {
-        PartAt::Got(id, a) => match read_mode(s, a) {
-            ModeAt::Got(mode, b) => match token::read_data(s, b) {
-                PartAt::Got(bytes, c) => FieldAt::Got(Field::Data { id, mode, bytes }, c),
-                PartAt::Fault(e) => FieldAt::Fault(e),
-            },
-            ModeAt::Fault(e) => FieldAt::Fault(e),
-        },
-        PartAt::Fault(e) => FieldAt::Fault(e),
     }
 }

@@ -1,27 +1,29 @@
 -- Entries of locals: one more, and those of a list.
 use Prim.Native.Nat.{ℕ, zero, suc, _+_, _-_, _*_, _≤_, _<_}
 use mathlib.Core.Path.{_≡_, refl, sym, _∙_, ap}
-use mathlib.Core.Bool.{Bool, true, false, not}
+use mathlib.Core.Bool.{Bool, true, false}
 use mathlib.Core.List.{List, [], _∷_, _++_, append-assoc, append-nil}
-use mathlib.Core.Option.{none}
 use lib.ListN.{length, length-map}
 use native.Mathlib.Omega.{arith}
 use native.Mathlib.Nat.{add-zero}
 use Rattle.definition.specs.Basic.{sameBytes}
 use Rattle.definition.specs.Syntax.{Bytes}
+use Rattle.definition.specs.Reader.{many}
 use Rattle.definition.specs.Token.{param}
 use Rattle.definition.specs.Names.{taken, distinct}
+use Rattle.token.specs.Known.{Gets}
 use Rattle.token.specs.Views.{idOf}
 use Rattle.token.specs.declared.text.Part.{Part}
 use Rattle.typeuse.specs.Views.{localAt, elements}
 use Rattle.typeuse.specs.declared.Local.{Local}
 use Rattle.typeuse.specs.declared.LocalAt.{LocalAt}
 use Rattle.typeuse.specs.declared.LocalAt.the-variants as O
-use Rattle.space.specs.Area.{entry, entryWords, names}
+use Rattle.space.specs.Area.{entryWords, names}
 use Rattle.space.specs.Kept.{Kept}
 use Rattle.space.proofs.Kept.{kept-same, kept-then}
 use Rattle.space.proofs.Walk.{entry-written}
 use Rattle.names.proofs.Tables.{words-kept, names-low, names-snoc}
+use Rattle.runs.proofs.Running.{first-readable, rest-readable}
 use Rattle.frames.specs.Locals.{idsAt, Clash, More, PutsOne, PutsAll}
 use Rattle.frames.specs.declared.locals.EntriesAt.{EntriesAt}
 use Rattle.frames.specs.declared.locals.EntriesAt.the-variants as E
@@ -81,16 +83,17 @@ ids-length s here n = length-map (elements param s here n) (λ p. p .id)
 
 -- ## A list
 
--- so many entries stand, and the rest decides
+-- so many entries stand, and the rest, which can be read, decides
 pub record Putting (s w₀ : List ℕ) (from place n : ℕ) (w : List ℕ) (here left count : ℕ) : Type 0 where
   pub same : distinct sameBytes (names count s w 11536) (idsAt s here left) ≡ distinct sameBytes (names from s w₀ 11536) (idsAt s place n)
   pub all : names count s w 11536 ++ idsAt s here left ≡ names from s w₀ 11536 ++ idsAt s place n
   pub sum : count + length (idsAt s here left) ≡ from + length (idsAt s place n)
   pub low : from + length (idsAt s place n) ≤ 128
   pub kept : Kept 11536 w₀ w
+  pub readable : Gets (many left param s here)
 
-pub putting-begin : (s w : List ℕ) (from place n : ℕ) → from + length (elements param s place n) ≤ 128 → Putting s w from place n w place n from
-putting-begin s w from place n h = record { same = refl; all = refl; sum = refl; low = (let e = ids-length s place n in omega arith); kept = kept-same 11536 w }
+pub putting-begin : (s w : List ℕ) (from place n : ℕ) → from + length (elements param s place n) ≤ 128 → Gets (many n param s place) → Putting s w from place n w place n from
+putting-begin s w from place n h g = record { same = refl; all = refl; sum = refl; low = (let e = ids-length s place n in omega arith); kept = kept-same 11536 w; readable = g }
 
 module _ {s w₀ : List ℕ} {from place n : ℕ} {w : List ℕ} {here left count : ℕ} (v : Putting s w₀ from place n w here left count) where
   pub putting-long : length w ≡ length w₀
@@ -98,6 +101,10 @@ module _ {s w₀ : List ℕ} {from place n : ℕ} {w : List ℕ} {here left coun
 
   pub putting-area : 16384 ≤ length w₀ → 16384 ≤ length w
   putting-area h = omega (arith, v .kept .long)
+
+  -- the next one can be read
+  pub putting-readable : 0 < left → Gets (param s here)
+  putting-readable h = first-readable s here left (v .readable) h
 
   -- none is left
   putting-end : (rec : ℕ) → idsAt s here left ≡ [] → PutsAll s w₀ from place n rec (E.Now count) w
@@ -136,6 +143,7 @@ module _ {s w₀ : List ℕ} {from place n : ℕ} {w : List ℕ} {here left coun
               sum = (let e = ap length ids in let a = v .sum in let b = o .one in omega arith);
               low = v .low;
               kept = kept-then (v .kept) (o .kept);
+              readable = rest-readable s here left (v .readable) r told x next h d;
             }
 
         pub putting-stops : (k j : ℕ) → q ≡ E.Refused k j → PutsAll s w₀ from place n rec (E.Refused k j) w′

@@ -1,18 +1,20 @@
 -- The locals of a function in the work area: what was written, or that an identifier comes twice.
-use Prim.Native.Nat.{ℕ, _+_}
+use Prim.Native.Nat.{ℕ, _+_, _≤_}
 use mathlib.Core.Path.{_≡_}
 use mathlib.Core.Bool.{Bool, true, false}
 use mathlib.Core.List.{List, [], _∷_, _++_, map}
-use mathlib.Core.Option.{Option, none, some}
+use mathlib.Core.Option.{Option, none}
 use lib.ListN.{length, replicate}
-use Rattle.definition.specs.Basic.{Answer, ok, refused, sameBytes, at}
+use Rattle.definition.specs.Basic.{ok, refused, sameBytes, at}
 use Rattle.definition.specs.Syntax.{Bytes, Identifier}
 use Rattle.definition.specs.Token.{param}
 use Rattle.definition.specs.Names.{Namespace, taken, distinct, paramCount, distinctLocals}
 use Rattle.token.specs.Views.{idOf}
 use Rattle.token.specs.declared.text.Part.{Part}
-use Rattle.typeuse.specs.Views.{elements}
+use Rattle.typeuse.specs.Known.{Readable}
+use Rattle.typeuse.specs.Views.{elements, listOf, useOf}
 use Rattle.typeuse.specs.declared.List as Code
+use Rattle.typeuse.specs.declared.TypeUse.{TypeUse}
 use Rattle.space.specs.Area.{names}
 use Rattle.space.specs.Kept.{Kept}
 use Rattle.signatures.specs.Table.{typesIn}
@@ -23,6 +25,13 @@ use Rattle.frames.specs.declared.locals.EntriesAt.{EntriesAt}
 use Rattle.frames.specs.declared.locals.EntriesAt.the-variants as E
 use Rattle.frames.specs.declared.locals.LocalsAt.{LocalsAt}
 use Rattle.frames.specs.declared.locals.LocalsAt.the-variants as L
+
+-- a function's head: at most 64 parameters and 64 locals, and all of them can be read
+pub record Head (s : Bytes) (t : TypeUse) (ls : Code.List) : Type 0 where
+  pub few-params : length (useOf s t .params) ≤ 64
+  pub few-locals : length (listOf param s ls) ≤ 64
+  pub params : Readable s (t .params)
+  pub locals : Readable s ls
 
 -- ## Identifiers
 

@@ -1,4 +1,5 @@
-// The locals of a function: its parameters and then its locals, from word 11536 on.
+// The locals of a function: its parameters and then its locals, from word 11536 on. They were read before, so of their names only the
+// lengths are looked at.
 use binary::TypeNo;
 use scope::Locals;
 use token::Part;
@@ -10,10 +11,11 @@ ghost use Prim.Native.Nat.{_+_, _≤_, _<_};
 ghost use lib.ListN.{length};
 ghost use Rattle.definition.specs.Token as Token;
 ghost use Rattle.definition.specs.Names as Names;
+ghost use Rattle.typeuse.specs.Known.{Readable};
 ghost use Rattle.typeuse.specs.Views.{listOf, useOf};
 ghost use Rattle.signatures.specs.Table.{typesIn};
 ghost use Rattle.binary.specs.Views.{typeNoOf};
-ghost use Rattle.frames.specs.Locals.{idsOf, nameless, PutsOne, PutsAll, SetsLocals};
+ghost use Rattle.frames.specs.Locals.{Head, idsOf, nameless, PutsOne, PutsAll, SetsLocals};
 
 // How many entries there are now, or a refusal's number and record.
 pub enum EntriesAt {
@@ -36,14 +38,14 @@ fn put_local(s: &[u8], work: &mut [u32], count: u32, id: Part, rec: u32) -> Entr
 
 // An entry for each of a list, after so many.
 fn put_locals(s: &[u8], work: &mut [u32], from: u32, l: List, rec: u32) -> EntriesAt
-    requires { ⌜ (length (now s) ≤ 65536) × (16384 ≤ length (now work)) × (from + length (listOf Token.param (now s) l) ≤ 128) ⌝ }
+    requires { ⌜ (length (now s) ≤ 65536) × (16384 ≤ length (now work)) × (from + length (listOf Token.param (now s) l) ≤ 128) × Readable (now s) l ⌝ }
     ensures { λ r. ⌜ PutsAll (now (s .entry)) (now (work .entry)) from (l .at) (l .count) rec r (now (work .exit)) ⌝ }
 {
     let mut at = l.at;
     let mut left = l.count;
     let mut count = from;
     while 0 < left {
-        match typeuse::read_local(s, at) {
+        match typeuse::known_local(s, at) {
             LocalAt::Got(x, next) => match put_local(s, work, count, x.id, rec) {
                 EntriesAt::Now(more) => {
                     at = next;
@@ -69,7 +71,7 @@ pub enum LocalsAt {
 
 // The parameters of an inline type bring their identifiers.
 fn set_inline(s: &[u8], work: &mut [u32], params: List, ls: List, rec: u32) -> LocalsAt
-    requires { ⌜ (length (now s) ≤ 65536) × (16384 ≤ length (now work)) × (length (listOf Token.param (now s) params) ≤ 64) × (length (listOf Token.param (now s) ls) ≤ 64) ⌝ }
+    requires { ⌜ (length (now s) ≤ 65536) × (16384 ≤ length (now work)) × (length (listOf Token.param (now s) params) ≤ 64) × (length (listOf Token.param (now s) ls) ≤ 64) × Readable (now s) params × Readable (now s) ls ⌝ }
     ensures { λ r. ⌜ SetsLocals (now (s .entry)) (now (work .entry)) rec (idsOf (now (s .entry)) params ++ idsOf (now (s .entry)) ls) r (now (work .exit)) ⌝ }
 {
     match put_locals(s, work, 0, params, rec) {
@@ -83,7 +85,7 @@ fn set_inline(s: &[u8], work: &mut [u32], params: List, ls: List, rec: u32) -> L
 
 // Without one the parameters of the named type are nameless places.
 fn set_nameless(s: &[u8], work: &mut [u32], n: TypeNo, ls: List, rec: u32) -> LocalsAt
-    requires { ⌜ (length (now s) ≤ 65536) × (16384 ≤ length (now work)) × (length (listOf Token.param (now s) ls) ≤ 64) ⌝ }
+    requires { ⌜ (length (now s) ≤ 65536) × (16384 ≤ length (now work)) × (length (listOf Token.param (now s) ls) ≤ 64) × Readable (now s) ls ⌝ }
     ensures { λ r. ⌜ SetsLocals (now (s .entry)) (now (work .entry)) rec (nameless (now (s .entry)) (now (work .entry)) n ++ idsOf (now (s .entry)) ls) r (now (work .exit)) ⌝ }
 {
     let nameless = signatures::param_count(s, work, n.0);
@@ -95,7 +97,7 @@ fn set_nameless(s: &[u8], work: &mut [u32], n: TypeNo, ls: List, rec: u32) -> Lo
 
 // The locals of a function of this type.
 pub fn set_locals(s: &[u8], work: &mut [u32], n: TypeNo, t: TypeUse, ls: List, rec: u32) -> LocalsAt
-    requires { ⌜ (length (now s) ≤ 65536) × (16384 ≤ length (now work)) × (length (useOf (now s) t .params) ≤ 64) × (length (listOf Token.param (now s) ls) ≤ 64) ⌝ }
+    requires { ⌜ (length (now s) ≤ 65536) × (16384 ≤ length (now work)) × Head (now s) t ls ⌝ }
     ensures { λ r. ⌜ SetsLocals (now (s .entry)) (now (work .entry)) rec (Names.localsOf (typesIn (now (s .entry)) (now (work .entry))) (typeNoOf n) (useOf (now (s .entry)) t) (listOf Token.param (now (s .entry)) ls)) r (now (work .exit)) ⌝ }
 {
     if signatures::is_inline(s, t) {

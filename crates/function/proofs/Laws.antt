@@ -4,12 +4,12 @@ use mathlib.Core.Path.{_≡_, refl, sym, _∙_, ap}
 use mathlib.Core.List.{List, [], _∷_, _++_}
 use lib.ListN.{length, take, drop}
 use native.Mathlib.Omega.{arith}
-use Rattle.definition.specs.Basic.{Answer, ok, refused, _>>=_, concatMap}
+use Rattle.definition.specs.Basic.{Answer, ok, _>>=_, concatMap}
 use Rattle.definition.specs.Syntax as Syntax
-use Rattle.definition.specs.Syntax.{Bytes, Identifier, Op, TypeNo}
+use Rattle.definition.specs.Syntax.{Bytes, Op, TypeNo}
 use Rattle.definition.specs.Token as Token
-use Rattle.definition.specs.Names.{Scope, Namespace, typeNo, localsOf, distinctLocals, body, ownItem, resolve}
-use Rattle.definition.specs.Binary.{u, instruction, vec, run, runs, expr, sized, func-code}
+use Rattle.definition.specs.Names.{typeNo, localsOf, body, ownItem, resolve}
+use Rattle.definition.specs.Binary.{u, instruction, vec, run, runs, expr, func-code}
 use Rattle.typeuse.specs.Views.{listOf, useOf}
 use Rattle.typeuse.specs.declared.List as Code
 use Rattle.typeuse.specs.declared.TypeUse.{TypeUse}
@@ -17,12 +17,12 @@ use Rattle.emit.specs.Put.{Put, past}
 use Rattle.emit.proofs.Laws.{put-then}
 use Rattle.space.specs.Kept.{Kept}
 use Rattle.space.proofs.Kept.{kept-then, kept-less}
-use Rattle.binary.specs.Locals.{localTypes}
+use Rattle.runs.specs.Locals.{localTypes}
 use Rattle.binary.specs.Views.{typeNoOf}
 use Rattle.binary.specs.Emits.{Emits, Wrote}
 use Rattle.binary.specs.declared.Emitted.{Emitted}
 use Rattle.binary.specs.declared.Emitted.the-variants as E
-use Rattle.binary.proofs.Emitting.{was-wrote, has-halted, wrote, halts}
+use Rattle.binary.proofs.Emitting.{was-wrote, has-halted}
 use Rattle.signatures.specs.Table.{typesIn}
 use Rattle.walk.specs.Walk.{bodyFrom}
 use Rattle.scope.specs.Scope.{scopeIn, localsIn, FewLocals}
@@ -36,7 +36,7 @@ use Rattle.frames.specs.declared.locals.LocalsAt.{LocalsAt}
 use Rattle.frames.specs.declared.locals.LocalsAt.the-variants as L
 use Rattle.code.specs.Body.{Resolvable, EmitsBody}
 use Rattle.code.proofs.Bodies.{resolvable-kept}
-use Rattle.function.specs.Function.{codeOf, funcField, bodyAnswer, codeBytes, sizedBytes, EmitsCode, Measured, MeasuredBy, MeasuresCode, MeasuredAt, MeasuresSized, EmitsAgain, AreaBy, typedAnswer, EmitsTyped, EmitsFunc}
+use Rattle.function.specs.Function.{funcField, bodyAnswer, codeBytes, sizedBytes, EmitsCode, Measured, MeasuresCode, MeasuresSized, EmitsAgain, typedAnswer, EmitsTyped, EmitsFunc}
 use Rattle.binary.specs.declared.instructions.TypeNo as Number
 use Rattle.function.proofs.Sized.{sized-place, put-beyond, put-short, put-again, put-moved, moved-room}
 

@@ -1,14 +1,14 @@
 -- A function's entry in the code section, by the work area.
 use Prim.Native.Nat.{ℕ, _+_, _-_}
 use mathlib.Core.Path.{_≡_}
-use mathlib.Core.List.{List, [], _∷_, _++_}
-use mathlib.Core.Option.{Option, none, some}
+use mathlib.Core.List.{List, [], _++_}
+use mathlib.Core.Option.{none}
 use lib.ListN.{length}
 use Rattle.definition.specs.Basic.{Answer, ok, refused, _>>=_}
 use Rattle.definition.specs.Syntax as Syntax
 use Rattle.definition.specs.Syntax.{Bytes, Identifier, Op, Item}
 use Rattle.definition.specs.Token as Token
-use Rattle.definition.specs.Names.{Namespace, Scope, localsOf, distinctLocals, body, resolve}
+use Rattle.definition.specs.Names.{localsOf, distinctLocals, body, resolve}
 use Rattle.signatures.specs.Table.{typesIn}
 use Rattle.definition.specs.Binary.{u, vec, run, runs, expr, sized, func-code}
 use Rattle.typeuse.specs.Views.{listOf, useOf}
@@ -16,7 +16,7 @@ use Rattle.typeuse.specs.declared.List as Code
 use Rattle.typeuse.specs.declared.TypeUse.{TypeUse}
 use Rattle.emit.specs.Put.{past}
 use Rattle.space.specs.Kept.{Kept}
-use Rattle.binary.specs.Locals.{localTypes}
+use Rattle.runs.specs.Locals.{localTypes}
 use Rattle.binary.specs.Emits.{Emits}
 use Rattle.binary.specs.declared.Emitted.{Emitted}
 use Rattle.binary.specs.declared.Emitted.the-variants as E

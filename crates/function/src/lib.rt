@@ -10,14 +10,15 @@ ghost use Prim.Native.Nat.{_+_, _-_, _≤_, _<_};
 ghost use mathlib.Core.Path.{_≡_};
 ghost use mathlib.Core.List.{_++_};
 ghost use lib.ListN.{length, take, drop};
-ghost use Rattle.definition.specs.Token as Token;
 ghost use Rattle.definition.specs.Types as Types;
 ghost use Rattle.definition.specs.Binary.{u};
 ghost use Rattle.emit.specs.Put.{Put, past};
-ghost use Rattle.typeuse.specs.Views.{listOf, useOf};
+ghost use Rattle.typeuse.specs.Known.{Readable};
+ghost use Rattle.typeuse.specs.Views.{useOf};
 ghost use Rattle.binary.specs.Views.{typeNoOf};
-ghost use Rattle.signatures.specs.Table.{typesIn};
-ghost use Rattle.scope.specs.Scope.{Recalled, FewLocals};
+ghost use Rattle.signatures.specs.Table.{typesIn, Recalled};
+ghost use Rattle.scope.specs.Scope.{FewLocals};
+ghost use Rattle.frames.specs.Locals.{Head};
 ghost use Rattle.code.specs.Body.{Resolvable};
 ghost use Rattle.function.specs.Function.{bodyAnswer, codeBytes, sizedBytes, EmitsCode, MeasuresCode, MeasuresSized, EmitsAgain, EmitsTyped, EmitsFunc};
 
@@ -32,10 +33,10 @@ fn emit_code(
     rec: u32,
     l: Locals,
 ) -> Emitted
-    requires { ⌜ (length (now s) ≤ 65536) × (16384 ≤ length (now work)) × FewLocals l × (rec < 4096) × Resolvable (now s) (now work) (rec + 1) 0 here ⌝ }
+    requires { ⌜ (length (now s) ≤ 65536) × (16384 ≤ length (now work)) × FewLocals l × (rec < 4096) × Resolvable (now s) (now work) (rec + 1) 0 here × Readable (now s) ls ⌝ }
     ensures { λ r. ⌜ EmitsCode (codeBytes (now (s .entry)) ls) (bodyAnswer (now (s .entry)) (now (work .entry)) rec here l) (now (work .entry)) (now (out .entry)) at r (now (work .exit)) (now (out .exit)) ⌝ }
 {
-    let a = binary::put_runs(out, at, s, ls);
+    let a = runs::put_runs(out, at, s, ls);
     match code::emit_body(s, work, out, a, here, rec + 1, l) {
         Emitted::To(b) => Emitted::To(emit::put(out, b, 0x0B)),
         Emitted::Refused(n, q) => Emitted::Refused(n, q),
@@ -44,7 +45,7 @@ fn emit_code(
 
 // How long they are.
 fn measure_code(s: &[u8], work: &mut [u32], ls: List, here: usize, rec: u32, l: Locals) -> Emitted
-    requires { ⌜ (length (now s) ≤ 65536) × (16384 ≤ length (now work)) × FewLocals l × (rec < 4096) × Resolvable (now s) (now work) (rec + 1) 0 here ⌝ }
+    requires { ⌜ (length (now s) ≤ 65536) × (16384 ≤ length (now work)) × FewLocals l × (rec < 4096) × Resolvable (now s) (now work) (rec + 1) 0 here × Readable (now s) ls ⌝ }
     ensures { λ r. ⌜ MeasuresCode (codeBytes (now (s .entry)) ls) (bodyAnswer (now (s .entry)) (now (work .entry)) rec here l) (now (work .entry)) r (now (work .exit)) ⌝ }
 {
     let mut none = [0u8; 1];
@@ -61,7 +62,7 @@ fn measure_sized(
     rec: u32,
     l: Locals,
 ) -> Emitted
-    requires { ⌜ (length (now s) ≤ 65536) × (16384 ≤ length (now work)) × FewLocals l × (rec < 4096) × Resolvable (now s) (now work) (rec + 1) 0 here ⌝ }
+    requires { ⌜ (length (now s) ≤ 65536) × (16384 ≤ length (now work)) × FewLocals l × (rec < 4096) × Resolvable (now s) (now work) (rec + 1) 0 here × Readable (now s) ls ⌝ }
     ensures { λ r. ⌜ MeasuresSized (codeBytes (now (s .entry)) ls) (bodyAnswer (now (s .entry)) (now (work .entry)) rec here l) (now (work .entry)) at r (now (work .exit)) ⌝ }
 {
     match measure_code(s, work, ls, here, rec, l) {
@@ -102,7 +103,7 @@ fn emit_again(
     rec: u32,
     l: Locals,
 ) -> Emitted
-    requires { ⌜ (length (now s) ≤ 65536) × (16384 ≤ length (now work)) × FewLocals l × (rec < 4096) × Resolvable (now s) (now work) (rec + 1) 0 here ⌝ }
+    requires { ⌜ (length (now s) ≤ 65536) × (16384 ≤ length (now work)) × FewLocals l × (rec < 4096) × Resolvable (now s) (now work) (rec + 1) 0 here × Readable (now s) ls ⌝ }
     ensures { λ r. ⌜ EmitsAgain (codeBytes (now (s .entry)) ls) (bodyAnswer (now (s .entry)) (now (work .entry)) rec here l) (now (work .entry)) (now (out .entry)) at n r (now (work .exit)) (now (out .exit)) ⌝ }
 {
     let a = leb::put_u(out, at, n as u64);
@@ -121,7 +122,7 @@ fn emit_sized(
     rec: u32,
     l: Locals,
 ) -> Emitted
-    requires { ⌜ (length (now s) ≤ 65536) × (16384 ≤ length (now work)) × FewLocals l × (rec < 4096) × Resolvable (now s) (now work) (rec + 1) 0 here ⌝ }
+    requires { ⌜ (length (now s) ≤ 65536) × (16384 ≤ length (now work)) × FewLocals l × (rec < 4096) × Resolvable (now s) (now work) (rec + 1) 0 here × Readable (now s) ls ⌝ }
     ensures { λ r. ⌜ EmitsCode (sizedBytes (now (s .entry)) ls) (bodyAnswer (now (s .entry)) (now (work .entry)) rec here l) (now (work .entry)) (now (out .entry)) at r (now (work .exit)) (now (out .exit)) ⌝ }
 {
     if out.len() <= at {
@@ -145,7 +146,7 @@ fn emit_sized(
 }
 
 // The entry of a function whose type's number is known: its locals, and then its code.
-fn emit_typed(
+pub fn emit_typed(
     s: &[u8],
     work: &mut [u32],
     out: &mut [u8],
@@ -156,7 +157,7 @@ fn emit_typed(
     here: usize,
     rec: u32,
 ) -> Emitted
-    requires { ⌜ (length (now s) ≤ 65536) × (16384 ≤ length (now work)) × (rec < 4096) × Resolvable (now s) (now work) (rec + 1) 0 here × (length (useOf (now s) t .params) ≤ 64) × (length (listOf Token.param (now s) ls) ≤ 64) ⌝ }
+    requires { ⌜ (length (now s) ≤ 65536) × (16384 ≤ length (now work)) × (rec < 4096) × Resolvable (now s) (now work) (rec + 1) 0 here × Head (now s) t ls ⌝ }
     ensures { λ r. ⌜ EmitsTyped (now (s .entry)) (now (work .entry)) rec (typeNoOf n) t ls here (now (out .entry)) at r (now (work .exit)) (now (out .exit)) ⌝ }
 {
     match frames::set_locals(s, work, n, t, ls, rec) {
@@ -176,7 +177,7 @@ pub fn emit_func(
     here: usize,
     rec: u32,
 ) -> Emitted
-    requires { ⌜ (length (now s) ≤ 65536) × (16384 ≤ length (now work)) × (rec < 4096) × Recalled (now work) (typesIn (now s) (now work)) (Types.usedAt rec (Types.useOf (useOf (now s) t))) × Resolvable (now s) (now work) (rec + 1) 0 here × (length (useOf (now s) t .params) ≤ 64) × (length (listOf Token.param (now s) ls) ≤ 64) ⌝ }
+    requires { ⌜ (length (now s) ≤ 65536) × (16384 ≤ length (now work)) × (rec < 4096) × Recalled (now work) (typesIn (now s) (now work)) (Types.usedAt rec (Types.useOf (useOf (now s) t))) × Resolvable (now s) (now work) (rec + 1) 0 here × Head (now s) t ls ⌝ }
     ensures { λ r. ⌜ EmitsFunc (now (s .entry)) (now (work .entry)) rec t ls here (now (out .entry)) at r (now (work .exit)) (now (out .exit)) ⌝ }
 {
     match scope::type_no(s, work, t, rec) {

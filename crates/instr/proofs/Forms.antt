@@ -1,12 +1,9 @@
 -- The code's tests of an opcode say what the definition's ranges say: compared at every byte, by computing.
 use mathlib.Core.Path.{_≡_, refl, ap, sym, _∙_}
-use mathlib.Core.Bool.{Bool, true, false}
 use mathlib.Core.Option.{Option, none, some}
 use Prim.Native.Nat.{ℕ, _≤_, _<_}
-use lib.Dec.{T, eqb, ltb}
-use lib.ListN.{length, replicate}
+use lib.Dec.{eqb, ltb}
 use borrow.Author.Tests.{eqb-true, lt-ltb, le-ltb}
-use native.Mathlib.Omega.{arith}
 use Rattle.definition.specs.Basic.{if_then_else_, between}
 use Rattle.definition.specs.Instructions as Instructions
 use Rattle.definition.specs.Instructions.{opening, elsing, ending, calling, operands, formOf, formIn, opcodes}

@@ -1,10 +1,10 @@
 -- How `search` follows the definition past an answer of this crate.
-use mathlib.Core.Path.{_≡_, refl}
+use mathlib.Core.Path.{_≡_}
 use mathlib.Core.Option.{Option}
 use Prim.Native.Nat.{ℕ}
 use Rattle.definition.specs.Syntax as Syntax
 use Rattle.definition.specs.Syntax.{Bytes, Identifier}
-use Rattle.definition.specs.Reader.{Step, got, fault, onward}
+use Rattle.definition.specs.Reader.{Step, fault, onward}
 use Rattle.definition.specs.Instructions as Instructions
 use Rattle.instr.specs.Views.{formIs, instrIs, instrAt}
 use Rattle.instr.specs.declared.Form.{Form}

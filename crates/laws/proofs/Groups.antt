@@ -12,7 +12,7 @@ use native.Mathlib.Decide.{decLt}
 use native.Mathlib.Nat.{mul-assoc, pow-suc, div-lt-iff-lt-mul}
 use Rattle.definition.specs.Syntax.{Bytes}
 use Rattle.definition.specs.Reader.{Step, got, fault, byte}
-use Rattle.definition.specs.Token.{groups, u32, u64}
+use Rattle.definition.specs.Token.{groups, u32}
 use Rattle.definition.specs.Binary.{unsigned, low7, over128, fits7, signed}
 use Rattle.laws.proofs.Readers.{byte-in, byte-out}
 
@@ -92,14 +92,10 @@ groups-within zero bound scale value s at e = refused (groups-none bound scale v
 groups-within (suc left) bound scale value s at e =
     reads left bound scale value s at e (λ now d. groups-within left bound (scale * 128) now s (at + 1) d) (decLt at (length s))
 
--- the same of a u32, and of a u64
+-- the same of a u32
 pub u32-within : (s : Bytes) (at : ℕ) {v next : ℕ} → u32 s at ≡ got v next → Within (2 ^ 32) s at v next
 unfolding u32
 u32-within s at e = groups-within 5 (2 ^ 32) 1 0 s at e
-
-pub u64-within : (s : Bytes) (at : ℕ) {v next : ℕ} → u64 s at ≡ got v next → Within (2 ^ 64) s at v next
-unfolding u64
-u64-within s at e = groups-within 10 (2 ^ 64) 1 0 s at e
 
 -- ## Writing, unsigned
 

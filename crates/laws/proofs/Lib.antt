@@ -7,7 +7,6 @@ pub mod Table
 pub mod Groups
 pub mod Reading
 pub mod Interning
-pub mod Lengths
 pub mod Bodies
 pub mod Sets
 pub mod Passes

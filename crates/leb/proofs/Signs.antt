@@ -5,14 +5,14 @@ use mathlib.Core.Bool.{true, false}
 use lib.Bits.{bitAnd, and-mask}
 use lib.Dec.{T, leb·suc-suc}
 use lib.IntN.{ℤ, pos, negsuc, natAbs, _-ℤ_}
-use lib.Signed.{nonNeg, ltZ, leZ, shrZ, mag-shr}
+use lib.Signed.{nonNeg, ltZ, leZ}
 use borrow.Author.Tests.{ltb-true, ltb-false, lt-ltb, le-ltb}
 use native.Mathlib.Nat.{zero-add}
 use native.Mathlib.Omega.{arith}
 use mir.Syntax.{w8, w64}
 use mir.Val.{Fits, SFits, toZ, ofZ}
-use mir.ValLaws.{toZ-ofZ, toZ-pos, sfits-le}
-use Rattle.definition.specs.Binary.{low7, over128, fits7, integer}
+use mir.ValLaws.{toZ-ofZ, toZ-pos}
+use Rattle.definition.specs.Binary.{low7, fits7, integer}
 use Rattle.laws.proofs.Groups.{low7-small}
 
 -- ## `low7`

@@ -1,14 +1,12 @@
 -- The code of the lengths, and its loop over the sections.
 use Prim.Native.Nat.{ℕ, zero, suc, _+_, _-_, _≤_, _<_}
-use mathlib.Core.Path.{_≡_, refl, sym, _∙_}
-use lib.Dec.{eqb}
+use mathlib.Core.Path.{_≡_, refl}
 use lib.ListN.{length, getD}
 use native.Mathlib.Omega.{arith}
 use borrow.Author.Tests.{eq-eqb, ne-eqb}
-use Rattle.definition.specs.Basic.{if_then_else_}
 use Rattle.definition.specs.Binary.{u}
 use Rattle.emit.specs.Put.{past}
-use Rattle.sections.specs.declared.tally.Tally.{Tally}
+use Rattle.parts.specs.declared.tally.Tally.{Tally}
 use Rattle.module.specs.Length.{contentLen, sizedLen, sectionLen, lensFrom, moduleLen}
 
 -- ## One section

@@ -12,9 +12,9 @@ use Rattle.emit.specs.Put.{Put, past}
 use Rattle.emit.proofs.Laws.{put-is, put-room}
 use Rattle.space.proofs.Kept.{kept-same}
 use Rattle.content.specs.Entry.{Entries}
-use Rattle.sections.specs.Parts.{startOf, partIn}
-use Rattle.sections.proofs.Keeping.{start-up, start-within}
-use Rattle.module.specs.Write.{Writes, Held, allEntries}
+use Rattle.parts.specs.Parts.{startOf, partIn}
+use Rattle.parts.proofs.Keeping.{part-within}
+use Rattle.contents.specs.Write.{Writes, Held, allEntries}
 
 -- a length that did not saturate
 exact : (n size room : ℕ) → size ≡ past 0 n → size ≤ room → room < 2 ^ 63 → n ≡ size
@@ -28,17 +28,11 @@ put-first old new bs at to size p z e h =
     let p′ : Put old 0 bs to new = rw z at p in
     ap (take size) (put-room p′ (omega arith) .1) ∙ take-at bs (drop (0 + length bs) old) size n
 
--- a part stands within the kept bytes, and so does what begins with it and ends within them
-pub part-within : (kept : Bytes) (k a : ℕ) → a ≡ startOf (length kept) k → a ≤ length kept
-part-within kept k a e = rw e (start-within (length kept) k)
-
+-- what begins with a part and ends within the kept bytes stands within them
 pub part-end : (kept : Bytes) (k a b size : ℕ) → a ≡ startOf (length kept) k → b ≤ length kept → size ≤ b - a → a + size ≤ length kept
 part-end kept k a b size e g h = let w = part-within kept k a e in omega arith
 
 module _ (kept : Bytes) (k a b : ℕ) (h : k < 12) (from : a ≡ startOf (length kept) k) (to : b ≡ startOf (length kept) (k + 1)) where
-  pub part-order : a ≤ b
-  part-order = rw (from, to) (start-up (length kept) k h)
-
   part-is : partIn kept k ≡ take (b - a) (drop a kept)
   unfolding partIn
   part-is = rw (from, to) refl

@@ -1,5 +1,5 @@
 -- The lengths that a tally gives are those of the definition, up to 2 ^ 63.
-use Prim.Native.Nat.{ℕ, zero, suc, _+_, _-_, _^_, _≤_, _<_, min, max}
+use Prim.Native.Nat.{ℕ, zero, suc, _+_, _-_, _^_, _≤_, _<_}
 use mathlib.Core.Path.{_≡_, refl, sym, _∙_, ap}
 use mathlib.Core.Bool.{Bool, true, false}
 use mathlib.Core.List.{List, [], _∷_, _++_}
@@ -13,10 +13,10 @@ use Rattle.definition.specs.Syntax.{Bytes, Item}
 use Rattle.definition.specs.Binary.{u, sized, entries, inSection, joined, content, sectionOf, section, preamble, sectionNumbers, sections, module′}
 use Rattle.emit.specs.Put.{past}
 use Rattle.content.specs.Entry.{Entries}
-use Rattle.sections.specs.Tally.{tallies, noTally, Twelve}
-use Rattle.sections.specs.declared.tally.Tally.{Tally}
-use Rattle.sections.proofs.Tallies.{size-is, count-is}
-use Rattle.module.specs.Length.{Good, Counted, contentLen, sizedLen, sectionLen, lensFrom, moduleLen, sectionsFrom}
+use Rattle.parts.specs.Tally.{tallies, noTally, Twelve}
+use Rattle.parts.specs.declared.tally.Tally.{Tally}
+use Rattle.parts.proofs.Tallies.{size-is, count-is}
+use Rattle.module.specs.Length.{Counted, contentLen, sizedLen, sectionLen, lensFrom, moduleLen, sectionsFrom}
 use Rattle.module.proofs.Full.{u-few, good-items}
 
 -- ## Numbers that saturate
@@ -140,9 +140,6 @@ module _ {t : Tally} {es : Entries} (c : Counted t es) where
       sections-from n (k + 1) (past o (sectionLen t k)) (omega arith)
       ∙ rw (section-long k (omega arith), past-measured o (length (section es k)))
       (past-past o (length (section es k)) (length (sectionsFrom n (k + 1) es)) ∙ ap (past o) (sym (length-append (section es k) (sectionsFrom n (k + 1) es))))
-
-  pub sections-long : lensFrom 11 1 0 t ≡ past 0 (length (concatMap (section es) sectionNumbers))
-  sections-long = rw (← sections-are es) (sections-from 11 1 0 (omega arith))
 
 -- the module's length
 pub module-long : (t : Tally) (is : List Item) → t ≡ tallies noTally (concatMap entries is) → moduleLen t ≡ past 0 (length (module′ is))

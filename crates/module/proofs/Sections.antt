@@ -1,19 +1,19 @@
 -- A section: its entries, its content, its head; and all of them.
-use Prim.Native.Nat.{ℕ, zero, suc, _+_, _-_, _*_, _^_, _≤_, _<_, min, max}
+use Prim.Native.Nat.{ℕ, zero, suc, _+_, _-_, _*_, _^_, _≤_, _<_}
 use mathlib.Core.Path.{_≡_, refl, sym, _∙_, ap}
-use mathlib.Core.Bool.{Bool, true, false}
+use mathlib.Core.Bool.{false}
 use mathlib.Core.List.{List, [], _∷_, _++_, map, append-assoc, append-nil}
 use lib.Dec.{eqb}
 use lib.ListN.{length, drop, getD, length-append}
 use native.Mathlib.Decide.{decLe}
 use native.Mathlib.Omega.{arith}
 use borrow.Author.Tests.{eq-eqb, ne-eqb}
-use Rattle.definition.specs.Basic.{if_then_else_, Answer, ok, refused, concatMap, _>>=_}
+use Rattle.definition.specs.Basic.{Answer, ok, refused, concatMap, _>>=_}
 use Rattle.definition.specs.Syntax.{Bytes, FuncType, Item, typeI}
 use Rattle.definition.specs.Names.{resolveAll}
-use Rattle.definition.specs.Binary.{u, sized, funcType, entries, inSection, joined, content, sectionOf, section, preamble, sections, module′}
+use Rattle.definition.specs.Binary.{u, sized, funcType, entries, inSection, joined, content, sectionOf, section, preamble, module′}
 use Rattle.emit.specs.Put.{Put, past}
-use Rattle.emit.proofs.Laws.{put-none, put-then, put-cons, put-is, put-skip}
+use Rattle.emit.proofs.Laws.{put-none, put-then, put-is, put-skip}
 use Rattle.space.specs.Kept.{Kept}
 use Rattle.space.proofs.Kept.{kept-same, kept-then, kept-less}
 use Rattle.signatures.specs.Table.{typesIn}
@@ -21,16 +21,16 @@ use Rattle.walk.specs.Walk.{begin, fieldsIn}
 use Rattle.walk.proofs.Steps.{ahead-kept}
 use Rattle.scope.specs.Scope.{scopeIn}
 use Rattle.content.specs.Entry.{Entries, entriesOf}
-use Rattle.sections.specs.Tally.{tallies, noTally}
-use Rattle.sections.specs.Content.{Fine, kept, bytesIn, typeEntries}
-use Rattle.sections.specs.declared.tally.Tally.{Tally}
-use Rattle.sections.proofs.Keeping.{section-append, joined-append}
+use Rattle.parts.specs.Tally.{tallies, noTally}
+use Rattle.parts.specs.Content.{kept, bytesIn, typeEntries}
+use Rattle.parts.specs.declared.tally.Tally.{Tally}
+use Rattle.parts.proofs.Keeping.{section-append, joined-append}
 use Rattle.module.specs.Length.{Counted, contentLen, moduleLen, sectionsFrom}
-use Rattle.module.specs.Added.{typeBytes}
-use Rattle.module.specs.Write.{Writes, Writable, Held, Counts, allEntries, addedIn, keptItems, moduleItems}
+use Rattle.contents.specs.Added.{typeBytes}
+use Rattle.contents.specs.Write.{Writes, Writable, Held, Counts, allEntries, addedIn, keptItems, moduleItems}
 use Rattle.module.proofs.Full.{good-items}
 use Rattle.module.proofs.Lengths.{size-of, count-of, content-long, module-is, module-long}
-use Rattle.module.proofs.Emitting.{scope-same, types-same, recalled-same}
+use Rattle.contents.proofs.Emitting.{scope-same, types-same, recalled-same}
 
 -- ## The added types
 

@@ -1,7 +1,7 @@
 -- How long sections and the module are, by the tally of their entries.
 use Prim.Native.Nat.{ℕ, zero, suc, _+_, _≤_}
 use mathlib.Core.Path.{_≡_}
-use mathlib.Core.List.{List, [], _∷_, _++_}
+use mathlib.Core.List.{[], _++_}
 use lib.Dec.{eqb}
 use lib.ListN.{length, getD}
 use Rattle.definition.specs.Basic.{if_then_else_}
@@ -9,8 +9,8 @@ use Rattle.definition.specs.Syntax.{Bytes}
 use Rattle.definition.specs.Binary.{u, inSection, joined, section}
 use Rattle.emit.specs.Put.{past}
 use Rattle.content.specs.Entry.{Entries}
-use Rattle.sections.specs.Tally.{tallies, noTally}
-use Rattle.sections.specs.declared.tally.Tally.{Tally}
+use Rattle.parts.specs.Tally.{tallies, noTally}
+use Rattle.parts.specs.declared.tally.Tally.{Tally}
 
 -- no section has more entries than bytes
 pub record Good (es : Entries) : Type 0 where

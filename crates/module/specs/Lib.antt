@@ -1,3 +1,1 @@
 pub mod Length
-pub mod Added
-pub mod Write

@@ -1,8 +1,8 @@
 // How long the module is, by the tally of its sections' entries. Lengths saturate, as places do.
-use sections::Tally;
+use parts::Tally;
 ghost use mathlib.Core.Path.{_≡_};
 ghost use Prim.Native.Nat.{_<_};
-ghost use Rattle.module.specs.Length.{contentLen, sizedLen, sectionLen, lensFrom, moduleLen};
+ghost use Rattle.module.specs.Length.{contentLen, sizedLen, sectionLen, moduleLen};
 
 // The start section holds no count.
 pub fn content_len(k: u8, size: usize, count: u64) -> usize

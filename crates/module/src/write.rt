@@ -1,17 +1,17 @@
 // The bytes of the module. `declared` is the number of types that fields declare, and `t` the tally of all entries.
-use crate::added::put_types;
-use crate::contents::emit_fields;
 use crate::length::content_len;
-use sections::Tally;
+use contents::emit_fields;
+use contents::put_types;
+use parts::Tally;
 ghost use mathlib.Core.Path.{_≡_};
 ghost use mathlib.Core.List.{_∷_};
 ghost use Prim.Native.Nat.{_≤_, _<_};
 ghost use lib.ListN.{length};
 ghost use Rattle.definition.specs.Binary as Binary;
 ghost use Rattle.emit.specs.Put.{Put, past};
-ghost use Rattle.sections.specs.Tally.{tallies, noTally};
+ghost use Rattle.parts.specs.Tally.{tallies, noTally};
 ghost use Rattle.module.specs.Length.{Counted, sectionsFrom};
-ghost use Rattle.module.specs.Write.{Writes, Writable, Held, Counts, allEntries, addedIn, moduleItems};
+ghost use Rattle.contents.specs.Write.{Writes, Writable, Held, Counts, allEntries, addedIn, moduleItems};
 
 // The magic and the version.
 fn put_preamble(out: &mut [u8], at: usize) -> usize
@@ -62,8 +62,8 @@ fn put_entries(
     requires { ⌜ (k < 12) × Writable (now s) (now work) × Held (now kept) (allEntries declared (now s) (now work)) × (size ≡ past 0 (length (Binary.joined (Binary.inSection k (allEntries declared (now s) (now work)))))) ⌝ }
     ensures { λ r. ⌜ Writes (Binary.joined (Binary.inSection k (allEntries declared (now (s .entry)) (now (work .entry))))) (now (out .entry)) at r (now (out .exit)) (now (work .entry)) (now (work .exit)) ⌝ }
 {
-    let a = sections::parts::start_of(kept.len(), k);
-    let b = sections::parts::start_of(kept.len(), k + 1);
+    let a = parts::start_of(kept.len(), k);
+    let b = parts::start_of(kept.len(), k + 1);
     if size <= b - a {
         return emit::copy(out, at, &kept[a..a + size]);
     }

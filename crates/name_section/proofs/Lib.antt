@@ -1,4 +1,1 @@
-pub mod Maps
-pub mod Locals
-pub mod Walking
 pub mod Subsections

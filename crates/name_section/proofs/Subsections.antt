@@ -16,17 +16,17 @@ use Rattle.space.specs.Kept.{Kept}
 use Rattle.names.specs.Register.{tableOf}
 use Rattle.walk.specs.Walk.{fieldsIn}
 use Rattle.scope.specs.Scope.{scopeIn}
-use Rattle.sections.specs.Tally.{reached, noTally}
-use Rattle.sections.specs.declared.tally.Tally.{Tally}
+use Rattle.parts.specs.Tally.{reached, noTally}
+use Rattle.parts.specs.declared.tally.Tally.{Tally}
 use Rattle.module.specs.Length.{contentLen, sizedLen, sectionLen}
 use Rattle.module.proofs.Full.{u-only, first-some}
 use Rattle.module.proofs.Lengths.{past-past, past-measured, past-none, past-from, content-long, sized-long, entries-long}
-use Rattle.module.proofs.Emitting.{scope-same}
+use Rattle.contents.proofs.Emitting.{scope-same}
 use Rattle.module.proofs.Sections.{counted-put, headed-put, past-some}
 use Rattle.definition.specs.NameSection.{NameMap, namedFrom, functions, localNamesFrom, nameAssoc, indirectNameAssoc, subsections, sectionName, customOf, nameSection}
-use Rattle.name_section.specs.Maps.{first, Adds, Names, LocalNames}
+use Rattle.name_maps.specs.Maps.{first, Adds, Names, LocalNames}
 use Rattle.name_section.specs.Section.{functionEntries, localEntries, Measured, SizeOf, NameTally, lengthOf, subsectionsLen, nameLen, namesIn}
-use Rattle.name_section.specs.declared.map.Reached.{Reached}
+use Rattle.name_maps.specs.declared.map.Reached.{Reached}
 
 -- ## Entries
 

@@ -1,6 +1,4 @@
 // The name section (a custom section of the standard's appendix): the identifiers of functions, parameters and locals, for a debugger.
-pub mod functions;
-pub mod map;
 pub mod section;
 
 pub use section::measure;

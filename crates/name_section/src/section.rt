@@ -1,17 +1,17 @@
 // The section: its name, and its subsections 1 (functions) and 2 (locals). A subsection has the form of a section.
-use crate::functions::put_locals;
-use crate::map::Reached;
-use crate::map::put_functions;
 use module::length::content_len;
 use module::length::sized_len;
 use module::write::put_head;
-use sections::Tally;
+use name_maps::Reached;
+use name_maps::put_functions;
+use name_maps::put_locals;
+use parts::Tally;
 ghost use mathlib.Core.Path.{_≡_};
 ghost use Prim.Native.Nat.{_≤_, _<_};
 ghost use lib.ListN.{length};
 ghost use Rattle.definition.specs.Binary as Binary;
 ghost use Rattle.emit.specs.Put.{Put};
-ghost use Rattle.module.specs.Write.{Writable};
+ghost use Rattle.contents.specs.Write.{Writable};
 ghost use Rattle.definition.specs.NameSection.{sectionName};
 ghost use Rattle.name_section.specs.Section.{functionEntries, localEntries, NameTally, lengthOf, subsectionsLen, nameLen, namesIn, SizeOf};
 
@@ -43,8 +43,8 @@ pub fn measure(s: &[u8], work: &[u32]) -> Tally
         sizes: [0; 12],
         counts: [0; 12],
     };
-    let t = sections::tally::reach(none, 1, f.at, f.count);
-    sections::tally::reach(t, 2, l.at, l.count)
+    let t = parts::reach(none, 1, f.at, f.count);
+    parts::reach(t, 2, l.at, l.count)
 }
 
 // How long both subsections are.

@@ -11,8 +11,9 @@ use native.Mathlib.Omega.{arith}
 use Rattle.definition.specs.Basic.{sameBytes, isSome}
 use Rattle.definition.specs.Syntax.{Identifier, Space, funcs, tables, mems, globals, types, elems, datas, code}
 use Rattle.definition.specs.Names.{Namespace, find, taken}
-use Rattle.token.specs.Views.{partOf, idOf}
+use Rattle.token.specs.Views.{partOf, idOf, spaceOf}
 use Rattle.token.specs.declared.text.Part.{Part}
+use Rattle.token.specs.declared.index.Space as Kind
 use Rattle.sources.specs.Views.{countOf}
 use Rattle.sources.specs.declared.seen.Seen.{Seen}
 use Rattle.sources.specs.declared.import.Extern.{Extern}
@@ -22,7 +23,7 @@ use Rattle.sources.specs.declared.source.Source.the-variants as S
 use Rattle.typeuse.specs.declared.List as Code
 use Rattle.fields.specs.declared.field.Field.{Field}
 use Rattle.fields.specs.declared.field.Field.the-variants as F
-use Rattle.stream.specs.Counting.{oneMore, externBrings, ownBrings}
+use Rattle.counting.specs.Counting.{oneMore, externSpaceOf, ownSpaceOf}
 use Rattle.space.specs.Area.{found}
 use Rattle.space.specs.declared.table.Found.{Found}
 use Rattle.space.specs.declared.table.Found.the-variants as X
@@ -100,12 +101,12 @@ module _ (seen : Seen) where
   unfolding Fit
   fit-second j k a b h m e = rw e (h .1 .0)
 
-module _ (seen : Seen) (i : Part) (x : Source) (h : Fit seen (sourceItems i x)) (j : Space) where
-  pub fit-own : (o : Own) → x ≡ S.Own o → j ≡ ownBrings o → countOf seen j < 256
+module _ (seen : Seen) (i : Part) (x : Source) (h : Fit seen (sourceItems i x)) (j : Kind.Space) where
+  pub fit-own : (o : Own) → x ≡ S.Own o → j ≡ ownSpaceOf o → countOf seen (spaceOf j) < 256
   unfolding Fit
   fit-own o d e = rw e ((rw d at h) .0)
 
-  pub fit-imported : (n : _) (y : Extern) → x ≡ S.Imported n y → j ≡ externBrings y → countOf seen j < 256
+  pub fit-imported : (n : _) (y : Extern) → x ≡ S.Imported n y → j ≡ externSpaceOf y → countOf seen (spaceOf j) < 256
   unfolding Fit
   fit-imported n y d e = rw e ((rw d at h) .0)
 
@@ -121,7 +122,7 @@ module _ (seen : Seen) (f : Field) (h : Fit seen (brought f)) where
   unfolding Fit
   fit-type i ps rs d = (rw d at h) .0
 
-  pub fit-import : (n : _) (i : Part) (x : Extern) (j : Space) → f ≡ F.Import n i x → j ≡ externBrings x → countOf seen j < 256
+  pub fit-import : (n : _) (i : Part) (x : Extern) (j : Kind.Space) → f ≡ F.Import n i x → j ≡ externSpaceOf x → countOf seen (spaceOf j) < 256
   unfolding Fit
   fit-import n i x j d e = rw e ((rw d at h) .0)
 

@@ -2,15 +2,13 @@
 use Prim.Native.Nat.{ℕ, zero, suc, _+_, _*_, _-_, _≤_, _<_, min}
 use mathlib.Core.Path.{_≡_, refl, sym, _∙_, ap}
 use mathlib.Core.Bool.{Bool, true, false}
-use mathlib.Core.List.{List, [], _∷_, _++_, map, append-assoc, map-append}
+use mathlib.Core.List.{List, [], _∷_, _++_, map}
 use mathlib.Core.Option.{Option, none, some}
 use lib.ListN.{length, getD, set, take, length-set}
-use lib.Dec.{ltb}
 use lib.Seq.{sets, getD-set-same, getD-set-other, take-all}
 use borrow.Author.Tests.{ltb-true}
 use native.Mathlib.Omega.{arith}
 use Rattle.definition.specs.Basic.{if_then_else_, Answer, ok, refused, _>>=_, sameBytes}
-use Rattle.definition.specs.Syntax as Syntax
 use Rattle.definition.specs.Syntax.{Bytes, Identifier, Space, funcs, tables, mems, globals, types, elems, datas, code, Field, exportF, number, Instr}
 use Rattle.definition.specs.Reader.{got}
 use Rattle.definition.specs.Records.{fieldRec}
@@ -21,7 +19,6 @@ use Rattle.token.specs.Views.{idOf}
 use Rattle.token.specs.declared.text.Part.{Part}
 use Rattle.sources.specs.Views.{countOf, noneSeen, roomOf, externIs, ownOf, sourceOf}
 use Rattle.sources.specs.declared.seen.Seen.{Seen}
-use Rattle.sources.specs.declared.import.Extern.{Extern}
 use Rattle.sources.specs.declared.source.Own.{Own}
 use Rattle.sources.specs.declared.source.Source.{Source}
 use Rattle.sources.specs.declared.source.Source.the-variants as S
@@ -30,19 +27,19 @@ use Rattle.typeuse.specs.Views.{listOf}
 use Rattle.fields.specs.Views.{fieldOf}
 use Rattle.fields.specs.declared.field.Field as Code
 use Rattle.fields.specs.declared.field.Field.the-variants as F
-use Rattle.stream.specs.Counting.{up, oneMore, externBrings, ownBrings}
-use Rattle.stream.proofs.Counts.{extern-brings, own-brings}
+use Rattle.counting.specs.Counting.{up, oneMore, externBrings, ownBrings}
+use Rattle.counting.proofs.Counts.{extern-brings, own-brings}
 use Rattle.laws.proofs.Sets.{sets-more}
 use Rattle.space.specs.Area.{entry, entryWords, names}
 use Rattle.space.specs.Kept.{Kept}
 use Rattle.space.proofs.Kept.{kept-then, kept-same, kept-set}
 use Rattle.definition.specs.Read.{fieldBody}
+use Rattle.known.proofs.Gives.{roomy, RoomyField, Rooms}
 use Rattle.walk.specs.Walk.{bodyIn, counting, seenWith, begin, cursorAfter, visitIn, visitOf, fieldsHere, fieldsAhead, fieldsIn}
 use Rattle.walk.specs.declared.Cursor.{Cursor}
 use Rattle.walk.specs.declared.Met.{Met}
 use Rattle.walk.specs.declared.What.the-variants as W
 use Rattle.walk.proofs.Steps.{visit-done, visit-read, visit-fields, visit-next}
-use Rattle.walk.proofs.Gives.{roomy, RoomyField, Rooms}
 use Rattle.names.specs.Register.{base, tableAt, tableOf, Entry, registerIn, nameless, sourceItems, brought, Fit, Puts, Tables}
 use Rattle.names.specs.declared.register.Registered.{Registered}
 use Rattle.names.specs.declared.register.Registered.the-variants as R

@@ -7,8 +7,9 @@ use native.Mathlib.Omega.{arith}
 use Rattle.definition.specs.Basic.{if_then_else_, ok, refused, sameBytes}
 use Rattle.definition.specs.Syntax.{Space, tables, mems, types, elems, datas}
 use Rattle.definition.specs.Names.{taken}
-use Rattle.token.specs.Views.{idOf}
+use Rattle.token.specs.Views.{idOf, spaceOf}
 use Rattle.token.specs.declared.text.Part.{Part}
+use Rattle.token.specs.declared.index.Space as Kind
 use Rattle.sources.specs.Views.{countOf}
 use Rattle.sources.specs.declared.seen.Seen.{Seen}
 use Rattle.sources.specs.declared.import.Extern.{Extern}
@@ -18,7 +19,7 @@ use Rattle.sources.specs.declared.source.Source.the-variants as S
 use Rattle.typeuse.specs.declared.List as Code
 use Rattle.fields.specs.declared.field.Field.{Field}
 use Rattle.fields.specs.declared.field.Field.the-variants as F
-use Rattle.stream.specs.Counting.{oneMore, externBrings, ownBrings}
+use Rattle.counting.specs.Counting.{oneMore, externSpaceOf, ownSpaceOf}
 use Rattle.space.specs.Area.{entryWords, names}
 use Rattle.space.proofs.Kept.{kept-same, kept-then}
 use Rattle.names.specs.Register.{base, tableAt, Entry, registerIn, nameless, sourceItems, brought, Puts}
@@ -73,10 +74,10 @@ module _ (s w : List ℕ) (seen : Seen) (r : ℕ) (j : Space) (a b : Part) (q : 
 -- ## What the answers say
 
 module _ (s w : List ℕ) (seen : Seen) (r : ℕ) (q : Registered) (w′ : List ℕ) where
-  pub of-own : (i : Part) (x : Source) (j : Space) (o : Own) → x ≡ S.Own o → j ≡ ownBrings o → Puts s w seen r ((j, i) ∷ []) q w′ → Puts s w seen r (sourceItems i x) q w′
+  pub of-own : (i : Part) (x : Source) (j : Kind.Space) (o : Own) → x ≡ S.Own o → j ≡ ownSpaceOf o → Puts s w seen r ((spaceOf j, i) ∷ []) q w′ → Puts s w seen r (sourceItems i x) q w′
   of-own i x j o d e h = rw (d, ← e) h
 
-  pub of-imported : (i : Part) (x : Source) (j : Space) (n : _) (y : Extern) → x ≡ S.Imported n y → j ≡ externBrings y → Puts s w seen r ((j, i) ∷ []) q w′ → Puts s w seen r (sourceItems i x) q w′
+  pub of-imported : (i : Part) (x : Source) (j : Kind.Space) (n : _) (y : Extern) → x ≡ S.Imported n y → j ≡ externSpaceOf y → Puts s w seen r ((spaceOf j, i) ∷ []) q w′ → Puts s w seen r (sourceItems i x) q w′
   of-imported i x j n y d e h = rw (d, ← e) h
 
   pub of-table : (i : Part) (x : Source) (wide : Bool) (xs : Code.List) → x ≡ S.TableOf wide xs → Puts s w seen r ((elems, nameless) ∷ (tables, i) ∷ []) q w′ → Puts s w seen r (sourceItems i x) q w′
@@ -88,7 +89,7 @@ module _ (s w : List ℕ) (seen : Seen) (r : ℕ) (q : Registered) (w′ : List 
   pub of-type : (f : Field) (i : Part) (ps rs : Code.List) → f ≡ F.Type i ps rs → Puts s w seen r ((types, i) ∷ []) q w′ → Puts s w seen r (brought f) q w′
   of-type f i ps rs d h = rw d h
 
-  pub of-import : (f : Field) (j : Space) (n : _) (i : Part) (x : Extern) → f ≡ F.Import n i x → j ≡ externBrings x → Puts s w seen r ((j, i) ∷ []) q w′ → Puts s w seen r (brought f) q w′
+  pub of-import : (f : Field) (j : Kind.Space) (n : _) (i : Part) (x : Extern) → f ≡ F.Import n i x → j ≡ externSpaceOf x → Puts s w seen r ((spaceOf j, i) ∷ []) q w′ → Puts s w seen r (brought f) q w′
   of-import f j n i x d e h = rw (d, ← e) h
 
   pub of-item : (f : Field) (i : Part) (es : Code.List) (x : Source) → f ≡ F.Item i es x → Puts s w seen r (sourceItems i x) q w′ → Puts s w seen r (brought f) q w′

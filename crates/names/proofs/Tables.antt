@@ -2,27 +2,26 @@
 use Prim.Native.Nat.{ℕ, zero, suc, _+_, _*_, _≤_, _<_, min}
 use mathlib.Core.Path.{_≡_, refl, sym, _∙_, ap}
 use mathlib.Core.Bool.{Bool, true, false}
-use mathlib.Core.List.{List, [], _∷_, _++_, map, append-assoc, append-nil}
-use mathlib.Core.Option.{Option, none, some}
+use mathlib.Core.List.{List, [], _∷_, _++_, append-assoc, append-nil}
 use lib.ListN.{length, getD, set, length-set}
 use lib.Seq.{getD-set-same, getD-set-other}
-use lib.Dec.{eqb, ltb}
+use lib.Dec.{eqb}
 use borrow.Author.Tests.{eqb-true, eqb-false, lt-ltb}
 use native.Mathlib.Omega.{arith}
 use native.Mathlib.Decide.{decLe}
-use Rattle.definition.specs.Basic.{if_then_else_, Answer, ok, refused, sameBytes}
-use Rattle.definition.specs.Syntax.{Bytes, Identifier, Space, funcs, tables, mems, globals, types, elems, datas, code, sameSpace}
-use Rattle.definition.specs.Names.{Namespace, Items, taken, space}
+use Rattle.definition.specs.Basic.{if_then_else_}
+use Rattle.definition.specs.Syntax.{Identifier, Space, funcs, tables, mems, globals, types, elems, datas, code, sameSpace}
+use Rattle.definition.specs.Names.{Namespace, Items, space}
 use Rattle.token.specs.Views.{partOf, idOf}
 use Rattle.token.specs.declared.text.Part.{Part}
-use Rattle.sources.specs.Views.{countOf, noneSeen}
+use Rattle.sources.specs.Views.{countOf}
 use Rattle.sources.specs.declared.seen.Seen.{Seen}
-use Rattle.stream.specs.Counting.{up, oneMore}
+use Rattle.counting.specs.Counting.{up, oneMore}
 use Rattle.space.specs.Area.{tagOf, entry, entryWords, names}
 use Rattle.space.specs.Kept.{Kept}
-use Rattle.space.proofs.Kept.{kept-set, kept-then, kept-same}
+use Rattle.space.proofs.Kept.{kept-set, kept-then}
 use Rattle.space.proofs.Walk.{entry-written}
-use Rattle.names.specs.Register.{base, tableAt, Entry, registerIn, Fit}
+use Rattle.names.specs.Register.{base, tableAt}
 use Rattle.names.proofs.Items.{base-low}
 
 -- ## Words that are not written

@@ -4,8 +4,7 @@ use mathlib.Core.Path.{_≡_}
 use mathlib.Core.List.{List, [], _∷_}
 use lib.ListN.{getD}
 use Rattle.definition.specs.Basic.{if_then_else_, Answer, ok, refused, sameBytes}
-use Rattle.definition.specs.Syntax as Syntax
-use Rattle.definition.specs.Syntax.{Bytes, Identifier, Space, funcs, tables, mems, globals, types, elems, datas, code}
+use Rattle.definition.specs.Syntax.{Bytes, Identifier, Space, tables, mems, types, elems, datas, code}
 use Rattle.definition.specs.Names.{Namespace, Items, taken, space}
 use Rattle.token.specs.Views.{idOf}
 use Rattle.token.specs.declared.text.Part.{Part}
@@ -15,7 +14,7 @@ use Rattle.sources.specs.declared.source.Source.{Source}
 use Rattle.sources.specs.declared.source.Source.the-variants as S
 use Rattle.fields.specs.declared.field.Field.{Field}
 use Rattle.fields.specs.declared.field.Field.the-variants as F
-use Rattle.stream.specs.Counting.{oneMore, externBrings, ownBrings}
+use Rattle.counting.specs.Counting.{oneMore, externBrings, ownBrings}
 use Rattle.space.specs.Area.{entryWords, names}
 use Rattle.space.specs.Kept.{Kept}
 use Rattle.names.specs.declared.register.Registered.{Registered}

@@ -75,7 +75,7 @@ fn register_with(
 {
     match register_item(s, work, seen, segment, nameless(), rec) {
         Registered::Done => {
-            let more = stream::counting::one_more(seen, segment);
+            let more = counting::one_more(seen, segment);
             register_item(s, work, more, k, id, rec)
         }
         Registered::Refused(n, r) => Registered::Refused(n, r),
@@ -94,15 +94,8 @@ fn register_source(
     ensures { λ r. ⌜ Puts (now (s .entry)) (now (work .entry)) seen rec (sourceItems id x) r (now (work .exit)) ⌝ }
 {
     match x {
-        Source::Own(o) => register_item(s, work, seen, stream::counting::own_space(o), id, rec),
-        Source::Imported(_, e) => register_item(
-            s,
-            work,
-            seen,
-            stream::counting::extern_space(e),
-            id,
-            rec,
-        ),
+        Source::Own(o) => register_item(s, work, seen, counting::own_space(o), id, rec),
+        Source::Imported(_, e) => register_item(s, work, seen, counting::extern_space(e), id, rec),
         Source::TableOf(_, _) => register_with(s, work, seen, Space::Elems, Space::Tables, id, rec),
         Source::MemOf(_, _) => register_with(s, work, seen, Space::Datas, Space::Mems, id, rec),
     }
@@ -122,7 +115,7 @@ pub fn register_field(s: &[u8], work: &mut [u32], seen: Seen, f: Field, rec: u32
             s,
             work,
             seen,
-            stream::counting::extern_space(what),
+            counting::extern_space(what),
             id,
             rec,
         ),

@@ -1,6 +1,6 @@
 -- Demand 1 of the assembler: a refusal reports length 0 and keeps the output, and the work area is all zeros after every call.
 use Prim.Native.Nat.{ℕ, _<_}
-use mathlib.Core.Path.{_≡_, refl, sym, _∙_, ap}
+use mathlib.Core.Path.{_≡_, refl, _∙_, ap}
 use mathlib.Core.Bool.{Bool, true, false}
 use mathlib.Core.List.{List, [], _++_}
 use lib.Dec.{ltb}
@@ -11,7 +11,7 @@ use Rattle.definition.specs.Syntax.{Bytes, Identifier, Rec}
 use Rattle.definition.specs.Read.{read}
 use Rattle.definition.specs.Assemble.{refusal, Maker, moduleIn, namedModuleIn, say, sayRead, assembleBy, outputAfter, workAfter, outcome, callBy, call, callNames}
 use Rattle.assembler.specs.Run.{outcomeOf}
-use Rattle.assembler.specs.declared.Said.{Said}
+use Rattle.writers.specs.declared.Said.{Said}
 use Rattle.promises.specs.Promise.{Assembles, AssemblesNames}
 
 -- what has a number other than 0 writes nothing

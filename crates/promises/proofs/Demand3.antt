@@ -1,19 +1,19 @@
 -- Demand 3 of the assembler: two streams that differ only in identifiers, equal in the one where they are equal in the other, get the same answer
 -- from any two calls that keep the promise. The premises are those of `demand-3-call`, over the definition.
-use Prim.Native.Nat.{ℕ, _≤_, min}
+use Prim.Native.Nat.{ℕ, _≤_}
 use mathlib.Core.Path.{_≡_, refl, sym, _∙_, ap}
 use mathlib.Core.List.{List, _++_, append-assoc}
 use lib.ListN.{length, take, drop, getD, replicate, length-take}
 use lib.Seq.{take-append-seam}
 use native.Mathlib.Omega.{arith}
 use Rattle.definition.specs.Syntax.{Bytes}
-use Rattle.definition.specs.Assemble.{assembleBy, assemble, outputAfter, workAfter, outcome, callBy, call, callNames}
+use Rattle.definition.specs.Assemble.{assemble, outputAfter, workAfter, outcome, callBy, call}
 use Rattle.renaming.specs.Renamed.{Renamed, SaysTheSame, namesOf, SaysTheSameBefore}
 use Rattle.renaming.proofs.Demand3.{same-said, demand-3-call}
 use Rattle.renaming.proofs.Demand3Names.{demand-3-names}
 use Rattle.assembler.specs.Run.{outcomeOf}
-use Rattle.assembler.specs.Export.{answerOf, lent, handedOn, exportedBy, exported}
-use Rattle.assembler.specs.declared.Said.{Said}
+use Rattle.assembler.specs.Export.{lent, handedOn, exportedBy, exported}
+use Rattle.writers.specs.declared.Said.{Said}
 use Rattle.promises.specs.Promise.{Assembles, AssemblesNames, Exports, SameAnswer, SameExport}
 
 -- ## What two calls leave, by the definition

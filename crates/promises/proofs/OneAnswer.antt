@@ -4,7 +4,6 @@ use mathlib.Core.Path.{_≡_, refl, sym, _∙_}
 use mathlib.Core.List.{List}
 use lib.ListN.{length}
 use native.Mathlib.Omega.{arith}
-use Rattle.definition.specs.Syntax.{Bytes}
 use Rattle.definition.specs.Reader.{Step}
 use Rattle.emit.specs.Put.{Put}
 use Rattle.leb.specs.Views.{u32At, u64At}
@@ -18,7 +17,7 @@ use Rattle.stream.specs.declared.pass.Count.{Count}
 use Rattle.stream.specs.declared.pass.Count.the-variants as C
 use Rattle.assembler.specs.Run.{outcomeOf}
 use Rattle.assembler.specs.Export.{handed}
-use Rattle.assembler.specs.declared.Said.{Said}
+use Rattle.writers.specs.declared.Said.{Said}
 use Rattle.promises.specs.Promise.{Assembles, AssemblesNames, Exports, ExportsNames}
 
 -- ## The assembler

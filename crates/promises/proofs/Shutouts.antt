@@ -1,17 +1,17 @@
 -- What the promise shuts out, by document 01's samples S1 and S7: where there is room, a call has one answer on their streams, to the last byte.
 use Prim.Native.Nat.{ℕ, _≤_, _<_}
-use mathlib.Core.Path.{_≡_, refl, sym, _∙_, ap}
+use mathlib.Core.Path.{_≡_, refl, _∙_, ap}
 use mathlib.Core.List.{List, [], _∷_, _++_}
 use lib.Dec.{leb, ltb}
 use lib.ListN.{length, drop}
 use borrow.Author.Tests.{le-ltb, le-leb}
 use native.Mathlib.Omega.{arith}
-use Rattle.definition.specs.Basic.{if_then_else_, Answer, ok, refused}
+use Rattle.definition.specs.Basic.{if_then_else_, ok, refused}
 use Rattle.definition.specs.Syntax.{Bytes}
 use Rattle.definition.specs.Assemble as Assemble
-use Rattle.definition.specs.Assemble.{refusal, say, assembleBy, assemble, outputAfter, outcome, callBy, call}
+use Rattle.definition.specs.Assemble.{refusal, say, assemble, outputAfter, outcome, callBy, call}
 use Rattle.renaming.proofs.Examples.{computing, S7}
-use Rattle.assembler.specs.declared.Said.{Said}
+use Rattle.writers.specs.declared.Said.{Said}
 use Rattle.promises.specs.Promise.{Assembles}
 
 -- ## The samples, by the definition

@@ -7,7 +7,7 @@ use Rattle.definition.specs.Syntax.{Bytes}
 use Rattle.definition.specs.Assemble.{call, callNames}
 use Rattle.assembler.specs.Run.{outcomeOf}
 use Rattle.assembler.specs.Export.{handed, exported, exportedNames}
-use Rattle.assembler.specs.declared.Said.{Said}
+use Rattle.writers.specs.declared.Said.{Said}
 
 -- the `ensures` of `assembler::assemble`: `work` and `old` are what was lent, `r` is the answer, `out` and `w` are what was lent after the call
 abbrev pub Assembles : Bytes → List ℕ → Bytes → Said → Bytes → List ℕ → Type 0

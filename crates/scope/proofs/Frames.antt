@@ -1,14 +1,13 @@
 -- What stays as it was where later words are written: the scope, the locals, the labels, the numbers of uses. And what one more entry brings.
 use Prim.Native.Nat.{ℕ, zero, suc, _+_, _-_, _*_, _≤_, _<_, min}
-use mathlib.Core.Path.{_≡_, refl, sym, _∙_, ap, fun-ext}
-use mathlib.Core.List.{List, [], _∷_, _++_, tail, append-assoc, append-nil}
-use mathlib.Core.Option.{Option, none, some}
-use lib.ListN.{length, getD, replicate}
+use mathlib.Core.Path.{_≡_, refl, _∙_, ap, fun-ext}
+use mathlib.Core.List.{List, [], _∷_, _++_, tail}
+use lib.ListN.{length, getD}
 use native.Mathlib.Omega.{arith}
 use native.Mathlib.Numerals.{add-one}
-use Rattle.definition.specs.Syntax.{Bytes, Identifier, Space, FuncType, code}
+use Rattle.definition.specs.Syntax.{Identifier, Space, FuncType, code}
 use Rattle.definition.specs.Types.{Uses}
-use Rattle.definition.specs.Names.{Namespace, Scope}
+use Rattle.definition.specs.Names.{Namespace}
 use Rattle.definition.specs.Basic.{sameBytes}
 use Rattle.token.specs.Views.{idOf}
 use Rattle.token.specs.declared.text.Part.{Part}
@@ -16,12 +15,12 @@ use Rattle.space.specs.Area.{entry, entryWords, names, labels}
 use Rattle.space.specs.Kept.{Kept}
 use Rattle.space.proofs.Kept.{kept-word}
 use Rattle.space.proofs.Walk.{entry-written}
-use Rattle.signatures.specs.Table.{typesIn}
+use Rattle.signatures.specs.Table.{typesIn, Recalled}
 use Rattle.signatures.proofs.Types as Signatures
 use Rattle.names.specs.Register.{base, tableOf}
 use Rattle.names.proofs.Items.{base-low}
 use Rattle.names.proofs.Tables.{code-small, words-kept}
-use Rattle.scope.specs.Scope.{scopeIn, Recalled, localsIn, labelsIn}
+use Rattle.scope.specs.Scope.{scopeIn, localsIn, labelsIn}
 use Rattle.scope.specs.declared.Locals.{Locals}
 
 -- ## Words that are kept
@@ -43,8 +42,7 @@ module _ (s w w′ : List ℕ) (m : ℕ) (k : Kept m w w′) where
   labels-kept (suc n) h = rw (entry-kept (11920 + 3 * n) (omega arith), labels-kept n (omega arith))
 
   pub types-kept : 5897 ≤ m → typesIn s w′ ≡ typesIn s w
-  unfolding typesIn
-  types-kept h = rw (kept-word k 5896 (omega arith)) (Signatures.table-kept (min (getD w 5896 0) 256) s {w = w} {w′ = w′} 520 m (omega arith) k)
+  types-kept h = Signatures.types-kept m s h k
 
   table-kept : 11280 ≤ m → (j : Space) → tableOf j s w′ ≡ tableOf j s w
   unfolding tableOf
@@ -63,7 +61,7 @@ module _ (s w w′ : List ℕ) where
 -- ## Uses
 
 module _ (w : List ℕ) (ts : List FuncType) where
-  -- of two lists the first, the second, and both
+  -- of two lists the first, and the second
   pub recalled-left : (us vs : Uses) → Recalled w ts (us ++ vs) → Recalled w ts us
   unfolding Recalled
   recalled-left [] vs h = tt
@@ -73,11 +71,6 @@ module _ (w : List ℕ) (ts : List FuncType) where
   unfolding Recalled
   recalled-right [] vs h = h
   recalled-right ((r, t) ∷ us) vs h = recalled-right us vs (h .2)
-
-  pub recalled-append : (us vs : Uses) → Recalled w ts us → Recalled w ts vs → Recalled w ts (us ++ vs)
-  unfolding Recalled
-  recalled-append [] vs h g = g
-  recalled-append ((r, t) ∷ us) vs h g = (h .0, h .1, recalled-append us vs (h .2) g)
 
   pub recalled-kept : (w′ : List ℕ) (m : ℕ) (us : Uses) → Kept m w w′ → 5896 ≤ m → Recalled w ts us → Recalled w′ ts us
   unfolding Recalled
@@ -103,23 +96,3 @@ pub labels-close : (s w : List ℕ) (k : ℕ) → tail (labelsIn s w k) ≡ labe
 unfolding labelsIn labels
 labels-close s w zero = refl
 labels-close s w (suc k) = (let e : suc k - 1 ≡ k = omega arith in rw e)
-
--- the last name, after the others
-names-snoc : (n : ℕ) (s w : List ℕ) (b : ℕ) → names (suc n) s w b ≡ names n s w b ++ (entry s w (b + 3 * n) ∷ [])
-unfolding names
-names-snoc zero s w b = (let e : b + 3 * 0 ≡ b = omega arith in rw e)
-names-snoc (suc n) s w b = (let e : b + 3 + 3 * n ≡ b + 3 * suc n = omega arith in ap (λ (l : Namespace Identifier). entry s w b ∷ l) (names-snoc n s w (b + 3) ∙ rw e))
-
--- no entry yet
-pub locals-none : (s w : List ℕ) (n : ℕ) → localsIn s w (record { nameless = n; count = 0 }) ≡ replicate n none
-unfolding localsIn names
-locals-none s w n = append-nil (replicate n none)
-
--- one local more
-pub locals-more : (s w : List ℕ) (l : Locals) (p : Part) → 11536 + 3 * l .count + 2 < length w
-    → localsIn s (entryWords s w (11536 + 3 * l .count) p) (record { nameless = l .nameless; count = l .count + 1 }) ≡ localsIn s w l ++ (idOf s p ∷ [])
-unfolding localsIn
-locals-more s w l p h =
-    let i = 11536 + 3 * l .count in
-    let a : names (l .count) s (entryWords s w i p) 11536 ≡ names (l .count) s w 11536 = names-kept s w (entryWords s w i p) i (words-kept s w i p i (omega arith)) (l .count) 11536 (omega arith) in
-    rw (add-one, names-snoc (l .count) s (entryWords s w i p) 11536, a, entry-written s w i p h) (sym (append-assoc (replicate (l .nameless) none) (names (l .count) s w 11536) (idOf s p ∷ [])))

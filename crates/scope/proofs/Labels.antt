@@ -1,12 +1,12 @@
 -- The depth of a block, and the label on an else or an end.
 use Prim.Native.Nat.{ℕ, zero, suc, _+_, _-_, _*_, _≤_, _<_}
-use mathlib.Core.Path.{_≡_, refl, sym, _∙_, ap}
+use mathlib.Core.Path.{_≡_, refl}
 use mathlib.Core.Bool.{Bool, true, false}
-use mathlib.Core.List.{List, [], _∷_}
+use mathlib.Core.List.{List, _∷_}
 use lib.ListN.{length}
 use borrow.Author.Tests.{eq-eqb, ne-eqb}
 use native.Mathlib.Omega.{arith}
-use Rattle.definition.specs.Basic.{Answer, ok, refused, _>>=_, sameBytes}
+use Rattle.definition.specs.Basic.{ok, refused, _>>=_, sameBytes}
 use Rattle.definition.specs.Syntax.{Identifier, Index}
 use Rattle.definition.specs.Names.{carries, numberIn, depthOf, closes}
 use Rattle.token.specs.Views.{partOf, idOf}

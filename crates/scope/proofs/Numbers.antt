@@ -1,10 +1,10 @@
 -- The number of a type use's type, and the type of a block.
-use Prim.Native.Nat.{ℕ, zero, suc, _+_, _≤_, _<_}
-use mathlib.Core.Path.{_≡_, refl, sym, _∙_, ap}
+use Prim.Native.Nat.{ℕ, zero, suc, _+_, _<_}
+use mathlib.Core.Path.{_≡_, refl, sym, _∙_}
 use mathlib.Core.Bool.{Bool, true, false, _&&_}
 use mathlib.Core.List.{List, [], _∷_}
 use mathlib.Core.Option.{Option, none, some}
-use lib.ListN.{length, getD}
+use lib.ListN.{getD}
 use native.Mathlib.Omega.{arith}
 use Rattle.definition.specs.Basic.{if_then_else_, Answer, ok, refused, _>>=_, at}
 use Rattle.definition.specs.Syntax as Syntax
@@ -29,10 +29,11 @@ use Rattle.typeuse.specs.declared.TypeUse.{TypeUse}
 use Rattle.space.specs.Area.{resolved}
 use Rattle.space.specs.declared.table.Resolved.{Resolved}
 use Rattle.space.specs.declared.table.Resolved.the-variants as R
-use Rattle.signatures.specs.Table.{typesIn, agreeing}
+use Rattle.signatures.specs.Table.{typesIn, agreeing, Recalled}
 use Rattle.signatures.specs.declared.table.Agreement.{Agreement}
 use Rattle.signatures.specs.declared.table.Agreement.the-variants as A
-use Rattle.scope.specs.Scope.{scopeIn, Recalled, blockUses}
+use Rattle.scope.specs.Scope.{scopeIn}
+use Rattle.uses.specs.Uses.{blockUses}
 use Rattle.scope.specs.Answers.{typeAnswer}
 use Rattle.scope.specs.declared.types.TypeAt.{TypeAt}
 use Rattle.scope.specs.declared.types.TypeAt.the-variants as T

@@ -1,5 +1,4 @@
 -- What the answers mean.
-use Prim.Native.Nat.{ℕ}
 use Rattle.definition.specs.Basic.{Answer, ok, refused}
 use Rattle.definition.specs.Syntax as Syntax
 use Rattle.binary.specs.Views.{localNoOf, typeNoOf, depthOf, blockTypeOf}

@@ -1,12 +1,10 @@
 -- What names mean, by the work area: the definition's scope, the locals of a function, and the open blocks.
-use Prim.Native.Nat.{ℕ, _+_, _≤_, _<_}
-use mathlib.Core.Path.{_≡_}
-use mathlib.Core.List.{List, [], _∷_, _++_}
-use mathlib.Core.Option.{Option, none, some}
-use lib.ListN.{length, getD, replicate}
-use Rattle.definition.specs.Basic.{if_then_else_, sameBytes}
-use Rattle.definition.specs.Syntax.{Bytes, Identifier, FuncType, TypeUse}
-use Rattle.definition.specs.Types.{Uses, typeNumber, isShort, useOf}
+use Prim.Native.Nat.{ℕ, _+_, _≤_}
+use mathlib.Core.List.{List, _++_}
+use mathlib.Core.Option.{none}
+use lib.ListN.{replicate}
+use Rattle.definition.specs.Basic.{sameBytes}
+use Rattle.definition.specs.Syntax.{Bytes, Identifier}
 use Rattle.definition.specs.Names.{Namespace, Scope}
 use Rattle.space.specs.Area.{names, labels}
 use Rattle.signatures.specs.Table.{typesIn}
@@ -17,15 +15,6 @@ use Rattle.scope.specs.declared.Locals.{Locals}
 
 unfoldable pub scopeIn : Bytes → List ℕ → Scope Identifier
 scopeIn s w = record { eq = sameBytes; names = λ k. tableOf k s w; allTypes = typesIn s w }
-
--- each use is of one of 4,096 records, and its number stands in the word of its record
-unfoldable pub Recalled : List ℕ → List FuncType → Uses → Type 0
-Recalled w ts [] = Unit {0}
-Recalled w ts ((r, t) ∷ us) = (r < 4096) × (getD w (1800 + r) 0 ≡ typeNumber t ts) × Recalled w ts us
-
--- the uses of a block: one that has a short form takes no type
-abbrev pub blockUses : TypeUse Identifier → List FuncType
-blockUses u = if isShort u then [] else useOf u
 
 -- ## Locals
 

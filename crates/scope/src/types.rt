@@ -16,10 +16,10 @@ ghost use Rattle.definition.specs.Token as Token;
 ghost use Rattle.definition.specs.Types as Types;
 ghost use Rattle.definition.specs.Names as Names;
 ghost use Rattle.binary.specs.Views.{blockTypeOf};
-ghost use Rattle.token.specs.Views.{indexOf};
 ghost use Rattle.typeuse.specs.Views.{listOf, useOf};
-ghost use Rattle.signatures.specs.Table.{typesIn};
-ghost use Rattle.scope.specs.Scope.{scopeIn, Recalled, blockUses};
+ghost use Rattle.signatures.specs.Table.{typesIn, Recalled};
+ghost use Rattle.scope.specs.Scope.{scopeIn};
+ghost use Rattle.uses.specs.Uses.{blockUses};
 ghost use Rattle.scope.specs.Answers.{typeAnswer, blockAnswer};
 
 // A type's number, or a refusal's number and record.

@@ -12,26 +12,26 @@ use Rattle.fields.specs.Views.{fieldOf}
 use Rattle.fields.specs.declared.field.Field as Code
 use Rattle.space.specs.Kept.{Kept}
 use Rattle.space.proofs.Kept.{kept-then, kept-same, kept-less}
-use Rattle.signatures.specs.Table.{typesIn}
-use Rattle.walk.specs.Walk.{begin, visitIn, visitOf, fieldsHere, fieldsAhead, fieldsIn, Ahead}
+use Rattle.signatures.specs.Table.{typesIn, Recalled}
+use Rattle.walk.specs.Walk.{begin, ReadableMet, visitIn, visitOf, fieldsHere, fieldsAhead, fieldsIn, Ahead}
 use Rattle.walk.specs.declared.Cursor.{Cursor}
 use Rattle.walk.specs.declared.Met.{Met}
 use Rattle.walk.specs.declared.What.the-variants as W
-use Rattle.walk.proofs.Steps.{visit-done, visit-fields, visit-whole, visit-ahead, ahead-kept, visit-func-few}
+use Rattle.walk.proofs.Steps.{visit-done, visit-fields, visit-whole, visit-ahead, ahead-kept, visit-func-few, visit-readable}
 use Rattle.types.proofs.Fields.{uses-append}
-use Rattle.scope.specs.Scope.{scopeIn, Recalled}
+use Rattle.scope.specs.Scope.{scopeIn}
 use Rattle.scope.proofs.Frames.{scope-kept, recalled-left, recalled-right, recalled-scope}
 use Rattle.content.specs.Entry.{Entries, entriesOf, both, three, threeIn}
 use Rattle.content.proofs.Fields.{entries-append, entries-here}
-use Rattle.content.proofs.Uses.{recalled-here, few-here, whole-here}
-use Rattle.sections.specs.Tally.{tallies, noTally, tallyOf, Twelve, Keeps, Tallied, ReadyThree, ChecksIn}
-use Rattle.sections.specs.declared.tally.Tally.{Tally}
-use Rattle.sections.specs.declared.tally.Verdict.{Verdict}
-use Rattle.sections.specs.declared.tally.Verdict.the-variants as V′
-use Rattle.sections.specs.declared.tally.Checked.{Checked}
-use Rattle.sections.proofs.Tallies.{tallies-append, tallies-twelve}
-use Rattle.sections.proofs.Keeping.{keeps-none, keeps-then}
-use Rattle.sections.proofs.Checking.{was-fine, fine-kept, was-not, area-long, kept-long, checks-fine, checks-not}
+use Rattle.content.proofs.Uses.{recalled-here, head-here, whole-here}
+use Rattle.parts.specs.Tally.{tallies, noTally, tallyOf, Twelve, Keeps, Tallied, ReadyThree, ChecksIn}
+use Rattle.parts.specs.declared.tally.Tally.{Tally}
+use Rattle.parts.specs.declared.tally.Verdict.{Verdict}
+use Rattle.parts.specs.declared.tally.Verdict.the-variants as V′
+use Rattle.parts.specs.declared.tally.Checked.{Checked}
+use Rattle.parts.proofs.Tallies.{tallies-append, tallies-twelve}
+use Rattle.parts.proofs.Keeping.{keeps-none, keeps-then}
+use Rattle.checks.proofs.Checking.{was-fine, fine-kept, was-not, area-long, kept-long, checks-fine, checks-not}
 
 -- some entries before an answer's
 onto : (xs ys : Entries) (a b : Answer Entries) → a ≡ ok ys → both (ok xs) (both a b) ≡ both (ok (xs ++ ys)) b
@@ -115,16 +115,16 @@ module _ (s w₀ w : List ℕ) (old mid : Bytes) (c : Cursor) (t₀ t : Tally) (
       sweep-uses = recalled-left w₀ (typesIn s w₀) _ (uses (fieldsAhead (m .next) s)) (rw uses-are at (v .recalled))
 
       -- this field's entries are ready
-      pub sweep-ready : ReadyThree s w (c .rec) (three f (c .seen) here)
-      sweep-ready =
+      pub sweep-ready : ReadableMet s (m .what) → ReadyThree s w (c .rec) (three f (c .seen) here)
+      sweep-ready known =
           let k = kept-less 11280 11536 (omega arith) (v .kept) in
           let a = recalled-here w₀ (typesIn s w₀) s c (m .next) f here sweep-uses in
           let z = whole-here s (c .rec) (c .seen) f here (visit-whole s c m told f here is w (v .ahead)) in
-          let b = few-here s (c .seen) f here (λ i es t ls e. visit-func-few s c m told f here is i es t ls e) in
+          let b = head-here s (c .seen) f here (λ i es t ls e. visit-func-few s c m told f here is i es t ls e) (visit-readable s m f here is known) in
           record {
-            first = record { recalled = recalled-scope s w₀ w _ k (a .first); whole = z .first; few = b .first };
-            second = record { recalled = recalled-scope s w₀ w _ k (a .second); whole = z .second; few = b .second };
-            third = record { recalled = recalled-scope s w₀ w _ k (a .third); whole = z .third; few = b .third };
+            first = record { recalled = recalled-scope s w₀ w _ k (a .first); whole = z .first; head = b .first };
+            second = record { recalled = recalled-scope s w₀ w _ k (a .second); whole = z .second; head = b .second };
+            third = record { recalled = recalled-scope s w₀ w _ k (a .third); whole = z .third; head = b .third };
           }
 
       -- one that is fine

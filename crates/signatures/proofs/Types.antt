@@ -7,10 +7,10 @@ use mathlib.Core.Option.{Option, none, some}
 use lib.ListN.{length, getD}
 use borrow.Author.Tests.{lt-leb, le-leb, eq-eqb}
 use native.Mathlib.Omega.{arith}
-use Rattle.definition.specs.Basic.{if_then_else_, Answer, ok, refused, at, same, sameBytes, firstAt, later}
-use Rattle.definition.specs.Syntax.{Bytes, FuncType, TypeNo}
+use Rattle.definition.specs.Basic.{if_then_else_, at, same, sameBytes, firstAt, later}
+use Rattle.definition.specs.Syntax.{Bytes, FuncType}
 use Rattle.definition.specs.Types.{sameType, typeAt, signature}
-use Rattle.definition.specs.Names.{paramCount, agrees}
+use Rattle.definition.specs.Names.{paramCount}
 use Rattle.typeuse.specs.Views.{useOf}
 use Rattle.typeuse.specs.declared.TypeUse.{TypeUse}
 use Rattle.space.specs.Kept.{Kept}
@@ -23,7 +23,6 @@ use Rattle.signatures.specs.declared.entry.NextStep.the-variants as P
 use Rattle.signatures.specs.declared.table.TypeFound.{TypeFound}
 use Rattle.signatures.specs.declared.table.TypeFound.the-variants as T
 use Rattle.signatures.specs.declared.table.Interned.the-variants as I
-use Rattle.signatures.specs.declared.table.Agreement.{Agreement}
 use Rattle.signatures.specs.declared.table.Agreement.the-variants as A
 use Rattle.signatures.proofs.Entries.{Matching, match-differ, match-end, use-signature, inside-same, type-inside, type-written}
 
@@ -217,18 +216,3 @@ module _ (s w : List ℕ) (n m : ℕ) (total : m ≡ min (getD w 5896 0) 256) wh
       type-differs g = sym (compared ∙ rw g)
 
 pub ruleset numbers = (no-params, its-params, type-missing, type-agrees, type-differs)
-
--- ## What a comparison means for a type use with an index
-
-abbrev pub agreed : ℕ → ℕ → Agreement → Answer TypeNo
-agreed r n A.Same = ok (record { type-no = n })
-agreed r n A.Differs = refused 16 r
-agreed r n A.NoType = refused 15 r
-
-pub agrees-are : (r n : ℕ) (t : FuncType) (o : Option FuncType) (a : Agreement) → a ≡ agreeing t o → agrees r t n o ≡ agreed r n a
-agrees-are r n t none a e = rw e
-agrees-are r n t (some u) a e = go (sameType t u) e
-  where
-    go : (b : Bool) → a ≡ (if b then A.Same else A.Differs) → (if b then ok (record { type-no = n }) else refused 16 r) ≡ agreed r n a
-    go true e = rw e
-    go false e = rw e

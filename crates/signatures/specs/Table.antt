@@ -10,7 +10,7 @@ use Rattle.definition.specs.Basic.{if_then_else_, Answer, ok, refused, sameByte
 use Rattle.definition.specs.Syntax.{Bytes, ValType, FuncType}
 use Rattle.definition.specs.Reader.{Reader, _>>=_, give}
 use Rattle.definition.specs.Token.{param, valType}
-use Rattle.definition.specs.Types.{takeOrAdd, typeAt, sameType, signature}
+use Rattle.definition.specs.Types.{Uses, takeOrAdd, typeAt, typeNumber, sameType, signature}
 use Rattle.typeuse.specs.Views.{elements, listOf, useOf}
 use Rattle.typeuse.specs.declared.List as Code
 use Rattle.typeuse.specs.declared.TypeUse.{TypeUse}
@@ -160,3 +160,10 @@ pub record Denied (s : Bytes) (w : List ℕ) (count : ℕ) (t : TypeUse) (r n q 
 unfoldable pub Interns : Bytes → List ℕ → ℕ → TypeUse → ℕ → Interned → List ℕ → Type 0
 Interns s w count t r (I.Number n k) w′ = Taken s w count t r n k w′
 Interns s w count t r (I.Refused n q) w′ = Denied s w count t r n q w′
+
+-- ## Numbers of uses
+
+-- each use is of one of 4,096 records, and its number stands in the word of its record
+unfoldable pub Recalled : List ℕ → List FuncType → Uses → Type 0
+Recalled w ts [] = Unit {0}
+Recalled w ts ((r, t) ∷ us) = (r < 4096) × (getD w (1800 + r) 0 ≡ typeNumber t ts) × Recalled w ts us

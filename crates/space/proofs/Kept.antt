@@ -1,8 +1,8 @@
 -- Laws of `Kept`: nothing written, one word written, one after the other, and what a word is.
-use Prim.Native.Nat.{ℕ, zero, suc, _+_, _≤_, _<_, min}
+use Prim.Native.Nat.{ℕ, zero, suc, _≤_, _<_}
 use mathlib.Core.Path.{_≡_, refl, ap, sym, _∙_}
 use mathlib.Core.List.{List, [], _∷_}
-use lib.ListN.{length, take, getD, set, length-set}
+use lib.ListN.{take, getD, set, length-set}
 use native.Mathlib.Omega.{arith}
 use Rattle.space.specs.Kept.{Kept}
 

@@ -1,5 +1,5 @@
 -- Plain mathematics of the loops over the work area.
-use Prim.Native.Nat.{ℕ, zero, suc, _+_, _-_, _*_, _≤_, _<_, min}
+use Prim.Native.Nat.{ℕ, zero, suc, _+_, _-_, _*_, _/_, _%_, _≤_, _<_, min}
 use mathlib.Core.Path.{_≡_, refl, sym, _∙_, ap}
 use mathlib.Core.Bool.{Bool, true, false, _&&_, false≢true}
 use mathlib.Core.List.{List, [], _∷_, _++_, append-nil}
@@ -95,6 +95,12 @@ pub tag-none : (bs : List ℕ) → length bs ≡ 0 → 0 ≡ tagOf bs
 unfolding tagOf
 tag-none [] e = refl
 tag-none (b ∷ bs) e = absurd (omega arith)
+
+-- its length and its first, last and middle byte make a tag
+pub tag-is : (bs : List ℕ) (a b c : ℕ) → a ≡ getD bs 0 0 → b ≡ getD bs (length bs - 1) 0 → c ≡ getD bs (length bs / 2) 0
+    → length bs % 256 + 256 * a + 65536 * b + 16777216 * c ≡ tagOf bs
+unfolding tagOf
+tag-is bs a b c p q r = rw (p, q, r)
 
 -- ## One entry
 

@@ -2,10 +2,18 @@
 use token::Part;
 ghost use mathlib.Core.Path.{_≡_};
 ghost use Prim.Native.Nat.{_+_, _<_};
-ghost use lib.ListN.{length};
+ghost use lib.ListN.{length, getD};
 ghost use Rattle.definition.specs.Basic.{sameBytes};
 ghost use Rattle.definition.specs.Names as Names;
 ghost use Rattle.space.specs.Area.{entry, tagOf};
+
+// One byte of a name.
+fn byte_of(name: &[u8], i: usize) -> u8
+    requires { ⌜ i < length (now name) ⌝ }
+    ensures { λ r. ⌜ r ≡ getD (now (name .entry)) i 0 ⌝ }
+{
+    name[i]
+}
 
 // The tag of a name: its length and three of its bytes, in one word.
 pub fn tag_of(name: &[u8]) -> u32
@@ -15,9 +23,9 @@ pub fn tag_of(name: &[u8]) -> u32
     if n == 0 {
         return 0;
     }
-    let first = name[0] as u32;
-    let last = name[n - 1] as u32;
-    let middle = name[n / 2] as u32;
+    let first = byte_of(name, 0) as u32;
+    let last = byte_of(name, n - 1) as u32;
+    let middle = byte_of(name, n / 2) as u32;
     (n % 256) as u32 + 256 * first + 65536 * last + 16777216 * middle
 }
 

@@ -1,13 +1,13 @@
 -- The exported call hands on what the pass says.
-use mathlib.Core.Path.{_≡_, refl, sym, _∙_, ap}
+use mathlib.Core.Path.{_≡_, _∙_, ap}
 use mathlib.Core.List.{List}
 use Prim.Native.Nat.{ℕ, _≤_, _<_}
 use lib.ListN.{length, set, length-set}
 use native.Mathlib.Omega.{arith}
-use Rattle.definition.specs.Basic.{Answer, ok, refused}
+use Rattle.definition.specs.Basic.{ok, refused}
 use Rattle.definition.specs.Syntax.{Bytes}
 use Rattle.stream.specs.Pass.{counted, reading, Reads}
-use Rattle.stream.specs.Export.{numberOf, recordOf, toldIn, Told}
+use Rattle.stream.specs.Export.{toldIn, Told}
 use Rattle.stream.specs.declared.pass.Count.{Count}
 use Rattle.stream.specs.declared.pass.Count.the-variants as C
 

@@ -27,20 +27,22 @@ use Rattle.sources.specs.Views.{roomOf, noneSeen}
 use Rattle.sources.specs.declared.seen.Seen.{Seen}
 use Rattle.fields.specs.Views.{fieldOf}
 use Rattle.fields.specs.declared.field.Field.{Field}
-use Rattle.stream.specs.Uses.{mayUse, endWord}
-use Rattle.stream.specs.Pass.{bodyOf, recordPast, placeAfter, movedBy, fieldRecordAt, bodyRecordAt, Passed, usedAfter, endOf, pass, passed, endWords, areaAfter, reading, readingArea, Walks, Reads}
-use Rattle.stream.specs.Counting.{fieldSeen}
-use Rattle.stream.specs.Answers.{outsideAnswer, Kept, an-instr, an-end, keptOf, keptAnswer, keptAt, insideAnswer, endPut}
-use Rattle.stream.specs.declared.record.Place.{Place}
-use Rattle.stream.specs.declared.record.Outside.{Outside}
-use Rattle.stream.specs.declared.record.Outside.the-variants as U
-use Rattle.stream.specs.declared.record.Inside.{Inside}
-use Rattle.stream.specs.declared.record.Inside.the-variants as N
+use Rattle.records.specs.Uses.{mayUse, endWord}
+use Rattle.stream.specs.Pass.{Passed, usedAfter, endOf, pass, passed, endWords, areaAfter, reading, readingArea, Walks, Reads}
+use Rattle.records.specs.Places.{bodyOf, recordPast, placeAfter, movedBy, fieldRecordAt, bodyRecordAt}
+use Rattle.counting.specs.Counting.{fieldSeen}
+use Rattle.records.specs.Answers.{outsideAnswer, Kept, an-instr, an-end, keptOf, keptAnswer, keptAt, insideAnswer}
+use Rattle.stream.specs.Pass.{endPut}
+use Rattle.records.specs.declared.record.Place.{Place}
+use Rattle.records.specs.declared.record.Outside.{Outside}
+use Rattle.records.specs.declared.record.Outside.the-variants as U
+use Rattle.records.specs.declared.record.Inside.{Inside}
+use Rattle.records.specs.declared.record.Inside.the-variants as N
 use Rattle.stream.specs.declared.pass.Count.{Count}
 use Rattle.stream.specs.declared.pass.Count.the-variants as C
 use Rattle.stream.proofs.Model.{passed-says, pass-end, pass-fault, pass-full, pass-got}
-use Rattle.stream.proofs.Counts.{Counts, counts-none, counts-field, counts-instr, counts-end, room-same, counts-words}
-use Rattle.stream.proofs.Records.{outside, inside, body-depth}
+use Rattle.counting.proofs.Counts.{Counts, counts-none, counts-field, counts-instr, counts-end, room-same, counts-words}
+use Rattle.records.proofs.Records.{outside, inside, body-depth}
 
 -- ## Backwards through a record that was read
 

@@ -1,21 +1,20 @@
 -- The pass, one record at a time, and that it says what the definition says.
-use mathlib.Core.Path.{_≡_, refl, ap, sym, _∙_}
+use mathlib.Core.Path.{_≡_, refl, sym, _∙_}
 use Prim.Native.Nat.{ℕ, zero, suc, _+_, _-_, _≤_, _<_}
 use mathlib.Core.Bool.{Bool, true, false}
-use mathlib.Core.List.{List, [], _∷_, _++_}
-use mathlib.Core.Option.{Option, none, some}
+use mathlib.Core.List.{List, [], _++_}
 use lib.Dec.{leb}
 use lib.ListN.{length, getD}
 use borrow.Author.Tests.{lt-leb, le-leb}
 use native.Mathlib.Omega.{arith}
 use native.Mathlib.Nat.{not-suc-le-zero}
-use Rattle.definition.specs.Basic.{if_then_else_, Answer, ok, refused}
+use Rattle.definition.specs.Basic.{if_then_else_, refused}
 use Rattle.definition.specs.Syntax.{Bytes, Identifier, Rec}
 use Rattle.definition.specs.Reader.{Step, got, fault}
 use Rattle.definition.specs.Read.{Seen, nothingSeen, seenAfter, oneRecord, atEnd, beginsIn, before, withRecord, records, read}
 use Rattle.laws.specs.Steps.{total}
 use Rattle.laws.proofs.Reading.{total-before}
-use Rattle.stream.specs.Pass.{Passed, usedAfter, endOf, onRecord, pass, passed}
+use Rattle.stream.specs.Pass.{usedAfter, endOf, onRecord, pass, passed}
 
 -- ## It says what the definition says
 

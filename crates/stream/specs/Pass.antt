@@ -1,54 +1,20 @@
 -- What the reading pass says and leaves.
-use Prim.Native.Nat.{ℕ, zero, suc, _+_, _-_, min}
+use Prim.Native.Nat.{ℕ, zero, suc, _+_, _*_}
 use mathlib.Core.Bool.{Bool, false, _||_}
 use mathlib.Core.List.{List, [], _∷_, _++_}
-use mathlib.Core.Option.{Option, none, some}
 use mathlib.Core.Path.{_≡_}
 use lib.Dec.{leb, ltb}
-use lib.ListN.{length, take}
+use lib.ListN.{length, take, set}
 use lib.Seq.{sets}
 use Rattle.definition.specs.Basic.{if_then_else_, Answer, ok, refused}
-use Rattle.definition.specs.Syntax.{Bytes, Identifier, Space, funcs, tables, mems, globals, types, elems, datas, Rec, field, instr, bodyEnd}
+use Rattle.definition.specs.Syntax.{Bytes, Identifier, Rec, field, instr, bodyEnd}
 use Rattle.definition.specs.Reader.{Step, got, fault}
-use Rattle.definition.specs.Instructions.{bodyRec}
-use Rattle.definition.specs.Records.{Room}
-use Rattle.definition.specs.Spaces.{count}
-use Rattle.definition.specs.Read.{Seen, nothingSeen, seenAfter, bodyAfter, recordIn, oneRecord, atEnd, records, read}
+use Rattle.definition.specs.Read.{Seen, nothingSeen, seenAfter, oneRecord, atEnd, records, read}
 use Rattle.laws.specs.Steps.{total}
-use Rattle.stream.specs.Uses.{mayUse, endWord}
-use Rattle.stream.specs.declared.record.Place.{Place}
+use Rattle.records.specs.Uses.{mayUse, endWord}
+use Rattle.counting.specs.Counting.{countWords}
 use Rattle.stream.specs.declared.pass.Count.{Count}
 use Rattle.stream.specs.declared.pass.Count.the-variants as C
-
--- ## The running place
-
--- `depth` is 0 outside a body, and in one the number of open blocks and one more
-abbrev pub bodyOf : ℕ → Option ℕ
-bodyOf zero = none
-bodyOf (suc k) = some k
-
-abbrev pub depthOf : Option ℕ → ℕ
-depthOf none = 0
-depthOf (some k) = k + 1
-
--- the place that a record has moved on
-unfoldable pub recordPast : Place → ℕ → ℕ → Place
-recordPast p next depth = record { at = next; rec = p .rec + 1; depth = depth }
-
-unfoldable pub placeAfter : Place → Rec Identifier → ℕ → Place
-placeAfter p x next = recordPast p next (depthOf (bodyAfter (bodyOf (p .depth)) x))
-
--- what was read, and the place after it; a refusal leaves the place where it was
-abbrev pub movedBy : Place → Step (Rec Identifier) → Answer (Rec Identifier) × Place
-movedBy p (got x next) = (ok x, placeAfter p x next)
-movedBy p (fault n) = (refused n (p .rec), p)
-
--- a field's record at a place, and a record of a body
-unfoldable pub fieldRecordAt : Room → Place → Bytes → Answer (Rec Identifier) × Place
-fieldRecordAt free p s = movedBy p (recordIn free none s (p .at))
-
-unfoldable pub bodyRecordAt : Place → Bytes → Answer (Rec Identifier) × Place
-bodyRecordAt p s = movedBy p (bodyRec (p .depth - 1) s (p .at))
 
 -- ## The pass, record by record
 
@@ -87,24 +53,13 @@ passed s = pass 4096 0 nothingSeen false [] s 0
 
 -- ## The work area
 
--- words 0 to 6: how many items each index space has, 256 at most
-abbrev pub capped : Seen → Space → ℕ
-capped seen k = min (count k (seen .items)) 256
-
-unfoldable pub countWords : Seen → List ℕ
-countWords seen =
-    capped seen funcs
-    ∷ capped seen tables
-    ∷ capped seen mems
-    ∷ capped seen globals
-    ∷ capped seen types
-    ∷ capped seen elems
-    ∷ capped seen datas
-    ∷ []
-
 -- from word 8 on, two words for each body of the first 256
 unfoldable pub endWords : List ℕ → List ℕ
 endWords ends = take 512 ends
+
+-- the two words of the n-th body's end
+unfoldable pub endPut : List ℕ → ℕ → ℕ → ℕ → List ℕ
+endPut w n first second = if ltb n 256 then set (set w (8 + 2 * n) first) (8 + 2 * n + 1) second else w
 
 abbrev pub areaOf : Answer ℕ → List ℕ → List ℕ → List ℕ
 areaOf (ok n) counts w = sets w 0 counts

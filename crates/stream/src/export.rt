@@ -2,8 +2,6 @@
 use crate::pass::Count;
 use crate::pass::read_all;
 ghost use mathlib.Core.Path.{_≡_};
-ghost use Prim.Native.Nat.{ℕ, _≤_};
-ghost use lib.ListN.{length};
 ghost use Rattle.stream.specs.Export.{toldIn, Told};
 
 // The answer's two words, where there is room for them.

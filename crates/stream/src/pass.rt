@@ -1,19 +1,19 @@
 // The pass over all records.
-use crate::counting::with_field;
-use crate::record::Inside;
-use crate::record::Outside;
-use crate::record::Place;
-use crate::record::too_many;
-use crate::thin::next_field;
-use crate::thin::next_instr;
+use counting::with_field;
+use records::Inside;
+use records::Outside;
+use records::Place;
+use records::next_field;
+use records::next_instr;
+use records::too_many;
 use sources::Seen;
 ghost use mathlib.Core.Path.{_≡_};
-ghost use Prim.Native.Nat.{ℕ, _+_, _*_, _≤_, _<_, _^_};
-ghost use lib.ListN.{length, set};
+ghost use Prim.Native.Nat.{_+_, _*_, _≤_, _<_, _^_};
+ghost use lib.ListN.{length};
 ghost use lib.Seq.{sets};
 ghost use Rattle.stream.specs.Pass.{Reads, Walks};
-ghost use Rattle.stream.specs.Answers.{endPut};
-ghost use Rattle.stream.specs.Uses.{endWord};
+ghost use Rattle.stream.specs.Pass.{endPut};
+ghost use Rattle.records.specs.Uses.{endWord};
 
 pub enum Count {
     Records(u32),

@@ -23,10 +23,10 @@ use Rattle.walk.specs.declared.Cursor.{Cursor}
 use Rattle.walk.specs.declared.Met.{Met}
 use Rattle.walk.specs.declared.What.the-variants as W
 use Rattle.walk.proofs.Steps.{visit-done, visit-few, visit-next, visit-fields, visit-unused}
-use Rattle.types.specs.Uses.{Skips, usesField, endAfter, Known, Handled, Handles}
-use Rattle.types.specs.declared.taken.Used.{Used}
-use Rattle.types.specs.declared.taken.Used.the-variants as U
-use Rattle.types.proofs.Handled.{intern-on, intern-stops, known-kept, known-append, known-wide, keeps-same, handles-types, handles-stopped}
+use Rattle.uses.specs.Uses.{Skips, usesField, endAfter, Known, Handled, Handles}
+use Rattle.uses.specs.declared.Used.{Used}
+use Rattle.uses.specs.declared.Used.the-variants as U
+use Rattle.uses.proofs.Handled.{intern-on, intern-stops, known-kept, known-append, known-wide, keeps-same, handles-types, handles-stopped}
 use Rattle.types.proofs.Bodies.{after-low, after-high}
 use Rattle.types.proofs.Fields.{uses-append, record-uses}
 

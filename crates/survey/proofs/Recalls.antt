@@ -9,8 +9,8 @@ use Rattle.definition.specs.Syntax.{FuncType}
 use Rattle.definition.specs.Types.{Uses, typeNumber}
 use Rattle.space.specs.Kept.{Kept}
 use Rattle.space.proofs.Kept.{kept-word}
-use Rattle.types.specs.Uses.{Known}
-use Rattle.survey.specs.Survey.{Recalled}
+use Rattle.uses.specs.Uses.{Known}
+use Rattle.signatures.specs.Table.{Recalled}
 
 -- what is known of each use
 pub known-recalled : (w : List ℕ) (ts : List FuncType) (us : Uses) → Known 4096 w ts us → Recalled w ts us

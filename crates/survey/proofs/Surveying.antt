@@ -27,10 +27,10 @@ use Rattle.walk.proofs.Steps.{visit-ahead, ahead-kept}
 use Rattle.order.specs.Order.{standing, isLate, lateAfter}
 use Rattle.order.specs.declared.Standing.{Standing}
 use Rattle.order.proofs.Passing.{Ordering, ordering-begin, ordering-done, ordering-late, ordering-again}
-use Rattle.types.specs.Uses.{Skips, usesField, endAfter, Handles}
-use Rattle.types.specs.declared.taken.Used.{Used}
-use Rattle.types.specs.declared.taken.Used.the-variants as U
-use Rattle.types.proofs.Handled.{handles-types, handles-stopped}
+use Rattle.uses.specs.Uses.{Skips, usesField, endAfter, Handles}
+use Rattle.uses.specs.declared.Used.{Used}
+use Rattle.uses.specs.declared.Used.the-variants as U
+use Rattle.uses.proofs.Handled.{handles-types, handles-stopped}
 use Rattle.names.specs.Register.{brought, Puts}
 use Rattle.names.specs.declared.register.Registered.{Registered}
 use Rattle.names.specs.declared.register.Registered.the-variants as R

@@ -1,27 +1,27 @@
 -- What the walk over all fields leaves: the order of imports, the table of types and the number of each use at its record, and the names.
-use Prim.Native.Nat.{ℕ, _+_, _≤_, _<_}
+use Prim.Native.Nat.{ℕ, _≤_}
 use mathlib.Core.Path.{_≡_}
 use mathlib.Core.Bool.{Bool}
-use mathlib.Core.List.{List, [], _∷_}
+use mathlib.Core.List.{List, []}
 use mathlib.Core.Option.{Option, none, some}
 use lib.ListN.{length, getD}
 use Rattle.definition.specs.Basic.{if_then_else_, Answer, ok, refused, _>>=_, sameBytes}
 use Rattle.definition.specs.Syntax.{Bytes, Identifier, FuncType}
 use Rattle.definition.specs.Read.{fieldBody}
 use Rattle.definition.specs.Deinline.{Numbered, importsFrom, importOrder}
-use Rattle.definition.specs.Types.{Uses, uses, typeNumber, intern, allTypes}
+use Rattle.definition.specs.Types.{uses, intern, allTypes}
 use Rattle.definition.specs.Names.{Items, register}
 use Rattle.fields.specs.Views.{fieldOf}
 use Rattle.fields.specs.declared.field.Field.{Field}
 use Rattle.space.specs.Kept.{Kept}
-use Rattle.signatures.specs.Table.{typeTable, typesIn}
+use Rattle.signatures.specs.Table.{typeTable, typesIn, Recalled}
 use Rattle.walk.specs.Walk.{fieldsAhead, fieldsIn, Ahead}
 use Rattle.walk.specs.declared.Cursor.{Cursor}
 use Rattle.order.specs.Order.{isLate, lateAfter}
 use Rattle.order.specs.declared.Standing.{Standing}
-use Rattle.types.specs.Uses.{usesField, endAfter, Handled, Stopped}
-use Rattle.types.specs.declared.taken.Used.{Used}
-use Rattle.types.specs.declared.taken.Used.the-variants as U
+use Rattle.uses.specs.Uses.{usesField, endAfter, Handled, Stopped}
+use Rattle.uses.specs.declared.Used.{Used}
+use Rattle.uses.specs.declared.Used.the-variants as U
 use Rattle.names.specs.Register.{brought, Puts, Tables}
 use Rattle.names.specs.declared.register.Registered.{Registered}
 use Rattle.names.specs.declared.register.Registered.the-variants as R
@@ -33,11 +33,6 @@ use Rattle.survey.specs.declared.Took.{Took}
 use Rattle.survey.specs.declared.Took.the-variants as T
 use Rattle.survey.specs.declared.Surveyed.{Surveyed}
 use Rattle.survey.specs.declared.Surveyed.the-variants as Y
-
--- each use is of one of 4,096 records, and its number stands in the word of its record
-unfoldable pub Recalled : List ℕ → List FuncType → Uses → Type 0
-Recalled w ts [] = Unit {0}
-Recalled w ts ((r, t) ∷ us) = (r < 4096) × (getD w (1800 + r) 0 ≡ typeNumber t ts) × Recalled w ts us
 
 -- the order of imports, over the whole stream, and then the types
 unfoldable pub typesAfterOrder : Numbered Identifier → Answer (List FuncType)

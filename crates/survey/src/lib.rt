@@ -8,7 +8,7 @@ use late::late_after;
 use names::Registered;
 use refused::late_first;
 use refused::types_first;
-use types::Used;
+use uses::Used;
 use walk::Cursor;
 use walk::What;
 ghost use mathlib.Core.Path.{_≡_};
@@ -19,7 +19,7 @@ ghost use Rattle.definition.specs.Types as Types;
 ghost use Rattle.fields.specs.Views.{fieldOf};
 ghost use Rattle.signatures.specs.Table.{typeTable};
 ghost use Rattle.walk.specs.Walk.{bodyIn, Ahead, begin, fieldsIn};
-ghost use Rattle.types.specs.Uses.{Skips};
+ghost use Rattle.uses.specs.Uses.{Skips};
 ghost use Rattle.names.specs.Register.{brought, Fit};
 ghost use Rattle.survey.specs.Survey.{Takes, Reaches, Surveys};
 

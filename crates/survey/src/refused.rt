@@ -2,7 +2,7 @@
 use crate::Surveyed;
 use crate::late::Lateness;
 use crate::late::late_after;
-use types::Used;
+use uses::Used;
 use walk::Cursor;
 use walk::What;
 ghost use mathlib.Core.Path.{_≡_};

@@ -1,19 +1,18 @@
 -- Runs of bytes of a class: what a loop over them shows, and that they are the part of the stream that starts at their first byte.
 use mathlib.Core.Path.{_≡_, refl, ap, sym, _∙_}
 use mathlib.Core.Bool.{Bool, true, false, not}
-use mathlib.Core.List.{List, [], _∷_}
+use mathlib.Core.List.{List, _∷_}
 use Prim.Native.Nat.{ℕ, zero, suc, _+_, _-_, _≤_, _<_}
 use native.Mathlib.Omega.{arith}
-use native.Mathlib.Numerals.{add-one}
 use native.Mathlib.Nat.{add-zero}
 use native.Mathlib.Decide.{decLe}
 use lib.ListN.{length, getD, take, drop}
 use lib.Seq.{drop-cons}
-use lib.Dec.{ltb, leb}
-use borrow.Author.Tests.{ltb-true, lt-ltb, le-ltb, lt-leb, le-leb, not-true, not-false}
+use lib.Dec.{ltb}
+use borrow.Author.Tests.{ltb-true, not-true, not-false}
 use Rattle.definition.specs.Basic.{if_then_else_, between}
 use Rattle.definition.specs.Syntax.{Bytes}
-use Rattle.definition.specs.Reader.{Step, got, fault, Reader, onward, require, give, byte, byteOf, many}
+use Rattle.definition.specs.Reader.{Step, got, fault, Reader, onward, byte, byteOf, many}
 use Rattle.definition.specs.Token.{idchar, idByte, stringByte}
 use Rattle.laws.specs.Steps.{stops}
 use Rattle.laws.proofs.Readers.{byte-in, byte-out, many-got, many-fault, many-zero}

@@ -1,10 +1,10 @@
 -- How `search` follows the definition past an answer of this crate and of leb: two rules for each type of answer.
-use mathlib.Core.Path.{_≡_, refl}
+use mathlib.Core.Path.{_≡_}
 use Prim.Native.Nat.{ℕ}
 use mathlib.Core.Option.{Option}
 use Rattle.definition.specs.Syntax as Syntax
 use Rattle.definition.specs.Syntax.{Bytes, Identifier}
-use Rattle.definition.specs.Reader.{Step, got, fault, Reader, onward}
+use Rattle.definition.specs.Reader.{Step, got, fault, onward}
 use Rattle.leb.specs.Views.{u32At, u64At}
 use Rattle.leb.specs.declared.read.U32.{U32}
 use Rattle.leb.specs.declared.read.U32.the-variants as U32

@@ -7,7 +7,7 @@ use lib.ListN.{take, drop}
 use Rattle.definition.specs.Basic.{if_then_else_}
 use Rattle.definition.specs.Syntax as Syntax
 use Rattle.definition.specs.Syntax.{Bytes, Identifier, absent, number, named}
-use Rattle.definition.specs.Reader.{Step, got, fault, Reader, _>>=_, _>>_, give, require, choose}
+use Rattle.definition.specs.Reader.{Step, got, fault, Reader, give, require, choose, _>>=_, _>>_}
 use Rattle.definition.specs.Token as Token
 use Rattle.token.specs.declared.byte.ByteAt.{ByteAt}
 use Rattle.token.specs.declared.byte.ByteAt.the-variants as B

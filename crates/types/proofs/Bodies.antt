@@ -1,7 +1,7 @@
 -- Laws of the walk over a body.
 use Prim.Native.Nat.{ℕ, zero, suc, _+_, _-_, _≤_, _<_}
 use mathlib.Core.Path.{_≡_, refl, sym, _∙_, ap}
-use mathlib.Core.Bool.{Bool, true, false}
+use mathlib.Core.Bool.{Bool, false}
 use mathlib.Core.List.{List, [], _∷_, _++_, append-nil, append-assoc}
 use lib.ListN.{length}
 use mir.Syntax.{w32}
@@ -21,10 +21,10 @@ use Rattle.instr.specs.declared.Instr.the-variants as N
 use Rattle.instr.specs.declared.BodyAt.{BodyAt}
 use Rattle.instr.specs.declared.BodyAt.the-variants as B
 use Rattle.walk.specs.Walk.{onBody, bodyFrom, afterBody, usesIn}
-use Rattle.types.specs.Uses.{nested, Nests, Skips, Handled, Handles}
-use Rattle.types.specs.declared.taken.Used.{Used}
-use Rattle.types.specs.declared.taken.Used.the-variants as U
-use Rattle.types.proofs.Handled.{handled-none, handled-then, handled-wide, stopped-then, stopped-first, handles-types, handles-stopped, handles-then}
+use Rattle.uses.specs.Uses.{nested, Nests, Skips, Handled, Handles}
+use Rattle.uses.specs.declared.Used.{Used}
+use Rattle.uses.specs.declared.Used.the-variants as U
+use Rattle.uses.proofs.Handled.{handled-none, handled-then, handled-wide, stopped-then, stopped-first, handles-types, handles-stopped, handles-then}
 
 -- ## Open blocks
 
@@ -72,10 +72,6 @@ module _ (s : Bytes) (r k here : ℕ) (h : r < 4096) where
 from-none : (s : Bytes) (r k here : ℕ) → 4096 ≤ r → bodyFrom (4096 - r) k s here ≡ []
 unfolding bodyFrom
 from-none s r k here h = let e : 4096 - r ≡ 0 = omega arith in rw e
-
-after-none : (s : Bytes) (r k here : ℕ) → 4096 ≤ r → afterBody (4096 - r) k r s here ≡ record { at = here; rec = r }
-unfolding afterBody
-after-none s r k here h = let e : 4096 - r ≡ 0 = omega arith in rw e
 
 -- the record after a body is no earlier than its first, and no later than the records may be
 pub after-low : (left k r : ℕ) (s : Bytes) (here : ℕ) → r ≤ afterBody left k r s here .rec

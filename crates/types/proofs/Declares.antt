@@ -22,7 +22,7 @@ use Rattle.sources.specs.declared.seen.Seen.{Seen}
 use Rattle.fields.specs.Views.{fieldOf}
 use Rattle.fields.specs.declared.field.Field.{Field}
 use Rattle.fields.specs.declared.field.Field.the-variants as F
-use Rattle.stream.specs.Counting.{up, oneMore}
+use Rattle.counting.specs.Counting.{up, oneMore}
 use Rattle.space.specs.Kept.{Kept}
 use Rattle.space.proofs.Kept.{kept-same, kept-then, kept-less}
 use Rattle.signatures.specs.Table.{typesOf, signatureOf, typeTable, Adds}

@@ -23,10 +23,10 @@ use Rattle.fields.specs.Views.{fieldOf}
 use Rattle.fields.specs.declared.field.Field.{Field}
 use Rattle.fields.specs.declared.field.Field.the-variants as F
 use Rattle.walk.specs.Walk.{bodyFrom, bodyIn, afterBody}
-use Rattle.types.specs.Uses.{Skips, usesOwn, usesSource, usesField, endAfter, Handles}
-use Rattle.types.specs.declared.taken.Used.{Used}
-use Rattle.types.specs.declared.taken.Used.the-variants as U
-use Rattle.types.proofs.Handled.{handles-none}
+use Rattle.uses.specs.Uses.{Skips, usesOwn, usesSource, usesField, endAfter, Handles}
+use Rattle.uses.specs.declared.Used.{Used}
+use Rattle.uses.specs.declared.Used.the-variants as U
+use Rattle.uses.proofs.Handled.{handles-none}
 
 module _ (rec : ℕ) (s : Bytes) (w : List ℕ) (k : ℕ) where
   -- ## What is imported

@@ -1,10 +1,10 @@
 // The uses of a function: its own, and then those of its body.
-use crate::taken::Used;
-use crate::taken::use_instr;
-use crate::taken::use_type;
 use instr::BodyAt;
 use instr::Instr;
 use typeuse::TypeUse;
+use uses::Used;
+use uses::use_instr;
+use uses::use_type;
 ghost use mathlib.Core.Path.{_≡_};
 ghost use mathlib.Core.List.{_++_};
 ghost use Prim.Native.Nat.{_+_, _-_, _≤_, _<_};
@@ -12,7 +12,7 @@ ghost use lib.ListN.{length};
 ghost use Rattle.definition.specs.Types as Types;
 ghost use Rattle.typeuse.specs.Views.{useOf};
 ghost use Rattle.walk.specs.Walk.{bodyFrom, afterBody};
-ghost use Rattle.types.specs.Uses.{Handles, Nests, nested, Skips};
+ghost use Rattle.uses.specs.Uses.{Handles, Nests, nested, Skips};
 
 // How many blocks are open after an instruction.
 fn depth_after(i: Instr, depth: u32) -> u32

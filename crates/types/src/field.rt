@@ -1,11 +1,11 @@
 // The uses of a field.
 use crate::body::use_func;
-use crate::taken::Used;
-use crate::taken::use_type;
 use fields::Field;
 use sources::Extern;
 use sources::Own;
 use sources::Source;
+use uses::Used;
+use uses::use_type;
 ghost use Prim.Native.Nat.{_+_, _≤_, _<_};
 ghost use lib.ListN.{length};
 ghost use Rattle.definition.specs.Types as Types;
@@ -13,7 +13,7 @@ ghost use Rattle.definition.specs.Read as Read;
 ghost use Rattle.sources.specs.Views.{externIs, ownOf, sourceOf};
 ghost use Rattle.fields.specs.Views.{fieldOf};
 ghost use Rattle.walk.specs.Walk.{bodyIn};
-ghost use Rattle.types.specs.Uses.{Handles, Skips, usesOwn, usesSource, usesField, endAfter};
+ghost use Rattle.uses.specs.Uses.{Handles, Skips, usesOwn, usesSource, usesField, endAfter};
 
 // What is imported.
 fn use_extern(s: &[u8], work: &mut [u32], count: u32, x: Extern, rec: u32) -> Used

@@ -2,8 +2,6 @@
 pub mod body;
 pub mod declared;
 pub mod field;
-pub mod taken;
 
 pub use declared::declare_all;
 pub use field::use_field;
-pub use taken::Used;

@@ -1,5 +1,5 @@
 -- What lists and type uses that are known to be readable tell.
-use mathlib.Core.Path.{_≡_, refl, ap, _∙_}
+use mathlib.Core.Path.{_≡_, refl, ap, _∙_, subst}
 use mathlib.Core.List.{List}
 use Prim.Native.Nat.{ℕ, zero, suc, _+_, _-_, _*_, _^_, _≤_, _<_}
 use native.Mathlib.Omega.{arith}
@@ -29,10 +29,14 @@ use Rattle.token.specs.declared.index.IndexAt.the-variants as XA
 use Rattle.token.proofs.Runs.{Single, class-single}
 use Rattle.token.proofs.Skips.{gave}
 use Rattle.token.proofs.Gets.{gets-first, gets-rest, length-is, length-then, run-known, run-fits}
+use Rattle.typeuse.specs.Known.{Readable, ReadableList, ReadableUse}
 use Rattle.typeuse.specs.Views.{elements, listAt}
 use Rattle.typeuse.specs.declared.List as Code
 use Rattle.typeuse.specs.declared.ListAt.{ListAt}
 use Rattle.typeuse.specs.declared.ListAt.the-variants as LA
+use Rattle.typeuse.specs.declared.TypeUse.{TypeUse}
+use Rattle.typeuse.specs.declared.UseAt.{UseAt}
+use Rattle.typeuse.specs.declared.UseAt.the-variants as UA
 use Rattle.typeuse.proofs.Lists.{elements-are}
 
 -- ## So many of a thing
@@ -174,3 +178,13 @@ module _ (s : Bytes) (at : ℕ) where
         (gets-rest _ (counted 64 param s a) (gets-rest _ (optional s at) g _ a (e ∙ ap (indexAt s) d)) _ b (f ∙ ap (listAt param s) c))
 
 pub ruleset known-uses = (use-index, use-params, use-results)
+
+-- ## Lists that were read can be read
+
+pub list-readable : (s : Bytes) (r : ListAt) (l : Code.List) (a : ℕ) → r ≡ LA.Got l a → ReadableList s r → Readable s l
+list-readable s r l a d v = subst (ReadableList s) d v
+
+pub use-readable : (s : Bytes) (r : UseAt) (t : TypeUse) (a : ℕ) → r ≡ UA.Got t a → ReadableUse s r → Readable s (t .params)
+use-readable s r t a d v = subst (ReadableUse s) d v
+
+pub ruleset readables = (list-readable, use-readable)

@@ -16,6 +16,7 @@ ghost use Rattle.definition.specs.Token as Token;
 ghost use Rattle.laws.specs.Steps.{stops};
 ghost use Rattle.token.specs.Known.{Gets};
 ghost use Rattle.token.specs.Views.{skip};
+ghost use Rattle.typeuse.specs.Known.{ReadableList, ReadableUse};
 ghost use Rattle.typeuse.specs.Views.{localAt, listAt, useAt};
 
 // A parameter or a local.
@@ -77,7 +78,7 @@ fn pass_strings(s: &[u8], at: usize, n: u32) -> Skip
 // The parameters of a signature, or a function's locals.
 pub fn known_local_list(s: &[u8], at: usize) -> ListAt
     requires { ⌜ Gets (Token.counted 64 Token.param (now s) at) ⌝ }
-    ensures { λ r. ⌜ Token.counted 64 Token.param (now (s .entry)) at ≡ listAt Token.param (now (s .entry)) r ⌝ }
+    ensures { λ r. ⌜ (Token.counted 64 Token.param (now (s .entry)) at ≡ listAt Token.param (now (s .entry)) r) × ReadableList (now (s .entry)) r ⌝ }
 {
     match leb::read_u32(s, at) {
         U32::Got(count, next) => match pass_locals(s, next, count) {
@@ -115,7 +116,7 @@ pub fn known_strings(s: &[u8], at: usize) -> ListAt
 
 pub fn known_type_use(s: &[u8], at: usize) -> UseAt
     requires { ⌜ Gets (Token.typeUse (now s) at) ⌝ }
-    ensures { λ r. ⌜ Token.typeUse (now (s .entry)) at ≡ useAt (now (s .entry)) r ⌝ }
+    ensures { λ r. ⌜ (Token.typeUse (now (s .entry)) at ≡ useAt (now (s .entry)) r) × ReadableUse (now (s .entry)) r ⌝ }
 {
     match token::known_optional(s, at) {
         IndexAt::Got(index, a) => match known_local_list(s, a) {

@@ -12,7 +12,8 @@ use Rattle.definition.specs.Basic.{if_then_else_, Answer, ok, refused}
 use Rattle.definition.specs.Syntax.{Bytes, Identifier, Rec}
 use Rattle.definition.specs.Read.{read}
 use Rattle.laws.specs.Steps.{total}
-use Rattle.stream.specs.Pass.{passed, endWords, countWords, areaAfter, counted, reading, readingArea, Reads}
+use Rattle.stream.specs.Pass.{passed, endWords, areaAfter, counted, reading, readingArea, Reads}
+use Rattle.counting.specs.Counting.{countWords}
 use Rattle.stream.specs.declared.pass.Count.{Count}
 use Rattle.stream.specs.declared.pass.Count.the-variants as C
 use Rattle.stream.proofs.Model.{passed-says}

@@ -22,12 +22,13 @@ use Rattle.definition.specs.Deinline.{Numbered, sourceFields, fieldsOf, bodyOf,
 use Rattle.definition.specs.Types.{declaredBy, declared}
 use Rattle.laws.proofs.Backwards.{came}
 use Rattle.laws.proofs.Reading.{records-end, records-full, accepted-next}
-use Rattle.stream.specs.Pass.{usedAfter, endOf, pass, passed, countWords, Reads}
+use Rattle.known.proofs.Gives.{RoomyField, roomy}
+use Rattle.stream.specs.Pass.{usedAfter, endOf, pass, passed, Reads}
+use Rattle.counting.specs.Counting.{countWords}
 use Rattle.stream.specs.declared.pass.Count.{Count}
 use Rattle.stream.specs.declared.pass.Count.the-variants as C
 use Rattle.stream.proofs.Model.{pass-end, pass-got}
 use Rattle.walk.specs.Walk.{begin, endsFrom, fieldsIn}
-use Rattle.walk.proofs.Gives.{RoomyField, roomy}
 use Rattle.walk.proofs.Join.{no-field, fields-in}
 use Rattle.walk.proofs.Begin.{area-is, left}
 

@@ -1,5 +1,5 @@
 -- Where the walk goes on by the work area is where the model goes on.
-use mathlib.Core.Path.{_≡_, refl, ap, sym, _∙_}
+use mathlib.Core.Path.{_≡_, refl, ap, sym, _∙_, subst}
 use Prim.Native.Nat.{ℕ, zero, suc, _+_, _-_, _*_, _≤_, _<_}
 use mathlib.Core.Bool.{Bool, true, false}
 use mathlib.Core.List.{List, [], _∷_, _++_}
@@ -23,16 +23,17 @@ use Rattle.sources.specs.declared.seen.Seen.{Seen}
 use Rattle.sources.specs.declared.source.Own.the-variants as O
 use Rattle.sources.specs.declared.source.Source.{Source}
 use Rattle.sources.specs.declared.source.Source.the-variants as S
+use Rattle.known.specs.Known.{ReadableHead, ReadableField}
 use Rattle.fields.specs.Views.{fieldOf, fieldAt}
 use Rattle.fields.specs.declared.field.Field.{Field}
 use Rattle.fields.specs.declared.field.Field.the-variants as F
 use Rattle.fields.specs.declared.field.FieldAt.{FieldAt}
 use Rattle.fields.specs.declared.field.FieldAt.the-variants as FA
-use Rattle.stream.specs.Uses.{anyUse, endWord}
-use Rattle.stream.specs.Pass.{bodyOf}
-use Rattle.stream.specs.Counting.{oneMore, sourceBrings, fieldSeen}
-use Rattle.stream.specs.Answers.{fieldDepth}
-use Rattle.stream.proofs.Counts.{extern-brings, own-brings}
+use Rattle.records.specs.Uses.{anyUse, endWord}
+use Rattle.records.specs.Places.{bodyOf}
+use Rattle.counting.specs.Counting.{oneMore, sourceBrings, fieldSeen}
+use Rattle.records.specs.Answers.{fieldDepth}
+use Rattle.counting.proofs.Counts.{extern-brings, own-brings}
 use Rattle.walk.specs.Walk.{begin, onVisit, onBody, afterBody, bodyIn, afterField, counting, seenWith, cursorAfter, visitAt, visitIn, endOf, endHere, endsFrom, Ahead, endRecord, endIn, usesIn, stopIn, cursorIn}
 use Rattle.walk.specs.declared.Cursor.{Cursor}
 use Rattle.walk.specs.declared.Stop.{Stop}
@@ -222,3 +223,7 @@ module _ (s : Bytes) (c : Cursor) where
         some-left l ∙ a ∙ rw (k, b)
 
 pub ruleset visit-ways = (visit-none, visit-full, visit-end, visit-fault, visit-got)
+
+-- the lists of the head that was read can be read again
+pub visit-head : (s : Bytes) (r : FieldAt) (f : Field) (here : ℕ) → r ≡ FA.Got f here → ReadableField s r → ReadableHead s f
+visit-head s r f here d v = subst (ReadableField s) d v

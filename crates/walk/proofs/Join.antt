@@ -24,16 +24,16 @@ use Rattle.laws.proofs.Backwards.{came, passed}
 use Rattle.laws.proofs.Reading.{records-end, records-full, accepted-next, Next}
 use Rattle.sources.specs.Views.{countOf, roomOf}
 use Rattle.sources.specs.declared.seen.Seen.{Seen}
-use Rattle.stream.specs.Uses.{mayUse, anyUse, endWord}
+use Rattle.known.proofs.Gives.{Roomy, RoomyField, roomy}
+use Rattle.records.specs.Uses.{mayUse, anyUse, endWord}
 use Rattle.stream.specs.Pass as Pass
 use Rattle.stream.specs.Pass.{Passed, pass}
-use Rattle.stream.specs.Counting.{oneMore}
+use Rattle.counting.specs.Counting.{oneMore}
 use Rattle.stream.proofs.Model.{pass-end, pass-got}
-use Rattle.stream.proofs.Counts.{Holds, Counts, holds-more, counts-none, room-same}
+use Rattle.counting.proofs.Counts.{Holds, Counts, holds-more, counts-none, room-same}
 use Rattle.walk.specs.Walk.{bodyFrom, afterBody, wholeBody, bodyIn, afterField, bodies, counting, seenWith, begin, cursorAfter, wholeField, sound, Visited, visitAt, fieldsHere, fieldsFrom, fieldsAhead, fieldsIn, endOf, endHere, endsFrom}
 use Rattle.walk.specs.declared.Cursor.{Cursor}
 use Rattle.walk.specs.declared.Stop.{Stop}
-use Rattle.walk.proofs.Gives.{Roomy, RoomyField, roomy}
 use Rattle.walk.proofs.Steps.{sound-met}
 
 -- ## Records of a stream that is accepted

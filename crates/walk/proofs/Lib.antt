@@ -1,5 +1,4 @@
 pub mod Cursors
-pub mod Gives
 pub mod Steps
 pub mod Join
 pub mod Begin

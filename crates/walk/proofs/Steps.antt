@@ -1,5 +1,5 @@
 -- What a visit tells a caller. `told` is the visit's promise, and `is` is what a match on the answer gives.
-use mathlib.Core.Path.{_≡_, refl, ap, sym, _∙_}
+use mathlib.Core.Path.{_≡_, refl, ap, sym, _∙_, subst}
 use Prim.Native.Nat.{ℕ, zero, suc, _+_, _-_, _*_, _≤_, _<_}
 use mathlib.Core.Bool.{Bool, true, false, not, _&&_, _||_, false≢true}
 use mathlib.Core.List.{List, [], _∷_, _++_}
@@ -26,18 +26,18 @@ use Rattle.typeuse.specs.declared.TypeUse as Use
 use Rattle.sources.specs.Views.{roomOf}
 use Rattle.sources.specs.declared.source.Own.the-variants as O
 use Rattle.sources.specs.declared.source.Source.the-variants as S
+use Rattle.known.specs.Known.{ReadableHead}
 use Rattle.fields.specs.Views.{fieldOf}
 use Rattle.fields.specs.declared.field.Field.{Field}
 use Rattle.fields.specs.declared.field.Field.the-variants as F
-use Rattle.stream.specs.Uses.{mayUse, anyUse, endWord}
+use Rattle.known.proofs.Gives.{func-few}
+use Rattle.records.specs.Uses.{mayUse, anyUse, endWord}
 use Rattle.space.specs.Kept.{Kept}
-use Rattle.walk.specs.Walk.{onVisit, bodyIn, bodies, cursorAfter, wholeField, onField, sound, Visited, visitStep, visitAt, visitIn, visitOf, metOf, fieldsHere, fieldsFrom, fieldsAhead, endOf, endHere, endsFrom, Ahead, usesIn}
+use Rattle.walk.specs.Walk.{onVisit, bodyIn, bodies, cursorAfter, wholeField, onField, sound, Visited, visitStep, visitAt, visitIn, visitOf, ReadableMet, metOf, fieldsHere, fieldsFrom, fieldsAhead, endOf, endHere, endsFrom, Ahead, usesIn}
 use Rattle.walk.specs.declared.Cursor.{Cursor}
 use Rattle.walk.specs.declared.Met.{Met}
-use Rattle.walk.specs.declared.What.{What}
 use Rattle.walk.specs.declared.What.the-variants as W
 use Rattle.walk.proofs.Cursors.{end-words}
-use Rattle.walk.proofs.Gives.{func-few}
 
 -- ## Backwards through a visit
 
@@ -260,6 +260,10 @@ module _ (s : Bytes) (c : Cursor) (r : Met) (told : visitIn (c .left) c s ≡ vi
               few = omega (arith, o, left-less, at-met .0, v .few);
               sound = sound-parts w v .1;
             }
+
+-- the lists of a function's head that was met can be read again
+pub visit-readable : (s : Bytes) (r : Met) (f : Field) (here : ℕ) → r .what ≡ W.Field f here → ReadableMet s (r .what) → ReadableHead s f
+visit-readable s r f here is v = subst (ReadableMet s) is v
 
 -- ## The work area
 

@@ -17,11 +17,12 @@ use Rattle.definition.specs.Read.{openAfter, fieldBody, isStart}
 use Rattle.definition.specs.Deinline.{Numbered, fieldsOf}
 use Rattle.sources.specs.Views.{countOf, roomOf, noneSeen}
 use Rattle.sources.specs.declared.seen.Seen.{Seen}
+use Rattle.known.specs.Known.{ReadableHead}
 use Rattle.fields.specs.Views.{fieldOf}
 use Rattle.fields.specs.declared.field.Field.{Field}
-use Rattle.stream.specs.Uses.{anyUse, endWord}
-use Rattle.stream.specs.Counting.{oneMore, fieldSeen}
-use Rattle.stream.specs.Answers.{fieldDepth}
+use Rattle.records.specs.Uses.{anyUse, endWord}
+use Rattle.counting.specs.Counting.{oneMore, fieldSeen}
+use Rattle.records.specs.Answers.{fieldDepth}
 use Rattle.walk.specs.declared.Cursor.{Cursor}
 use Rattle.walk.specs.declared.Stop.{Stop}
 use Rattle.walk.specs.declared.Met.{Met}
@@ -137,6 +138,11 @@ metOf s W.Done next = none
 
 abbrev pub visitOf : Bytes → Met → Option Visited
 visitOf s m = metOf s (m .what) (m .next)
+
+-- the lists of a function's head that was met can be read again
+abbrev pub ReadableMet : Bytes → What → Type 0
+ReadableMet s (W.Field f here) = ReadableHead s f
+ReadableMet s W.Done = Unit {0}
 
 -- ## All fields
 

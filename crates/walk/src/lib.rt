@@ -3,8 +3,8 @@ use fields::Field;
 use fields::FieldAt;
 use sources::Seen;
 ghost use mathlib.Core.Path.{_≡_};
-ghost use Prim.Native.Nat.{ℕ, _+_, _≤_, _<_};
-ghost use Rattle.walk.specs.Walk.{Ahead, visitIn, visitOf, begin, endRecord, endIn, usesIn, stopIn, cursorIn};
+ghost use Prim.Native.Nat.{_+_, _≤_, _<_};
+ghost use Rattle.walk.specs.Walk.{Ahead, visitIn, visitOf, ReadableMet, begin, endRecord, endIn, usesIn, stopIn, cursorIn};
 
 // Where a walk stands: the byte and the number of the next record, how many own functions came before it, how many fields it may
 // still visit, and what the fields before have brought.
@@ -96,9 +96,9 @@ fn next_cursor(work: &[u32], c: Cursor, f: Field, here: usize) -> Cursor
     requires { ⌜ (c .rec < 4096) × (1 ≤ c .left) × (c .own + c .left ≤ 4096) ⌝ }
     ensures { λ r. ⌜ r ≡ cursorIn (now (work .entry)) c f here ⌝ }
 {
-    let depth = stream::field_depth(f);
+    let depth = records::field_depth(f);
     let stop = next_stop(work, c, depth, here);
-    let seen = stream::with_field(c.seen, f);
+    let seen = counting::with_field(c.seen, f);
     Cursor {
         at: stop.at,
         rec: stop.rec,
@@ -111,7 +111,7 @@ fn next_cursor(work: &[u32], c: Cursor, f: Field, here: usize) -> Cursor
 // What stands at a cursor, and where the walk goes on; nothing where the stream, the records or the fields end.
 pub fn visit(s: &[u8], work: &[u32], c: Cursor) -> Met
     requires { ⌜ Ahead (now s) (now work) c ⌝ }
-    ensures { λ r. ⌜ visitIn (c .left) c (now (s .entry)) ≡ visitOf (now (s .entry)) r ⌝ }
+    ensures { λ r. ⌜ (visitIn (c .left) c (now (s .entry)) ≡ visitOf (now (s .entry)) r) × ReadableMet (now (s .entry)) (r .what) ⌝ }
 {
     if c.left < 1 {
         return Met {
@@ -131,7 +131,7 @@ pub fn visit(s: &[u8], work: &[u32], c: Cursor) -> Met
             next: c,
         };
     }
-    match fields::known_field(s, c.at, c.seen) {
+    match known::known_field(s, c.at, c.seen) {
         FieldAt::Got(f, here) => {
             let next = next_cursor(work, c, f, here);
             Met {

@@ -55,7 +55,7 @@ returns-3 : tie.Need-returns-3
 returns-3 c = search sized-moved
 
 emit-again-requires : tie.Need-emit-again-requires
-emit-again-requires c κs = (search needs, search (sized-long, needs), search needs, search needs, search (sized-resolvable, needs))
+emit-again-requires c κs = (search needs, search (sized-long, needs), search needs, search needs, search (sized-resolvable, needs), search needs)
 
 enum-known-n : tie.Need-enum-known-n
 enum-known-n c = search needs

@@ -10,7 +10,7 @@ enum-known-l : tie.Need-enum-known-l
 enum-known-l c = search needs
 
 emit-sized-requires : tie.Need-emit-sized-requires
-emit-sized-requires c κs = (search needs, search typed-long, search typed-few, search needs, search typed-resolvable)
+emit-sized-requires c κs = (search needs, search typed-long, search typed-few, search needs, search typed-resolvable, search needs)
 
 enum-known-e : tie.Need-enum-known-e
 enum-known-e c = search needs

@@ -1,4 +1,4 @@
-use Rattle.walk.proofs.Cursors.{visit-ways}
+use Rattle.walk.proofs.Cursors.{visit-head, visit-ways}
 use Rattle.walk.proofs.Steps.{visit-sound}
 use borrow.Author.Needs.{needs}
 use Rattle.walk.proofs.visit.Statement.{statement}
@@ -26,7 +26,7 @@ enum-told : tie.Need-enum-told
 enum-told c = search needs
 
 returns-4 : tie.Need-returns-4
-returns-4 c = search visit-ways
+returns-4 c = (search visit-ways, search visit-head)
 
 returns-5 : tie.Need-returns-5
 returns-5 c = search visit-ways

@@ -1,3 +1,4 @@
+use Rattle.definition.specs.Binary.{imm}
 use Rattle.emit.proofs.Laws.{put-then}
 use borrow.Author.Needs.{needs}
 use Rattle.binary.proofs.instructions.put_indirect.Statement.{statement}
@@ -13,6 +14,7 @@ same-length : tie.Need-same-length
 same-length c = search needs
 
 returns : tie.Need-returns
+unfolding imm
 returns c = search put-then
 
 pub put-indirect-spec : {M : Type 1} → statement M

@@ -15,8 +15,11 @@ type-no-requires c κs = search needs
 enum-known-n : tie.Need-enum-known-n
 enum-known-n c = search needs
 
-put-instruction-requires : tie.Need-put-instruction-requires
-put-instruction-requires c κs = search needs
+put-requires : tie.Need-put-requires
+put-requires c κs = search needs
+
+put-indirect-requires : tie.Need-put-indirect-requires
+put-indirect-requires c κs = search needs
 
 enum-known-n-2 : tie.Need-enum-known-n-2
 enum-known-n-2 c = search needs
@@ -44,7 +47,8 @@ emit-indirect-spec =
     enum-known-table
     type-no-requires
     enum-known-n
-    put-instruction-requires
+    put-requires
+    put-indirect-requires
     enum-known-n-2
     enum-known-n-3
     same-length

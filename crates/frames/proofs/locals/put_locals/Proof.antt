@@ -1,5 +1,5 @@
 use borrow.Author.Needs.{needs}
-use Rattle.frames.proofs.Entries.{Putting, putting-begin, putting-long, putting-area, putting-room, puttings}
+use Rattle.frames.proofs.Entries.{Putting, putting-begin, putting-readable, putting-long, putting-area, putting-room, puttings}
 use Rattle.frames.proofs.locals.put_locals.Statement.{statement}
 use Rattle.frames.proofs.locals.put_locals.Tie as tie
 
@@ -12,8 +12,8 @@ abbrev μ-loop : tie.MeasureT-loop
 loop-holds : tie.Need-loop-holds Inv-loop μ-loop
 loop-holds c = search putting-begin
 
-read-local-requires : tie.Need-read-local-requires Inv-loop μ-loop
-read-local-requires c κs = search needs
+known-local-requires : tie.Need-known-local-requires Inv-loop μ-loop
+known-local-requires c κs = search putting-readable
 
 enum-known-x : tie.Need-enum-known-x Inv-loop μ-loop
 enum-known-x c = search needs
@@ -64,7 +64,7 @@ put-locals-spec =
     Inv-loop
     μ-loop
     loop-holds
-    read-local-requires
+    known-local-requires
     enum-known-x
     put-local-requires
     enum-known-more

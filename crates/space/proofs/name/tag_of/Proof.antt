@@ -1,8 +1,4 @@
-use Prim.Native.Nat.{_-_, _/_}
-use lib.ListN.{length}
-use native.Mathlib.Omega.{arith}
-use Rattle.space.specs.Area.{tagOf}
-use Rattle.space.proofs.Walk.{tag-none}
+use Rattle.space.proofs.Walk.{tag-none, tag-is}
 use borrow.Author.Needs.{needs}
 use Rattle.space.proofs.name.tag_of.Statement.{statement}
 use Rattle.space.proofs.name.tag_of.Tie as tie
@@ -10,63 +6,62 @@ use Rattle.space.proofs.name.tag_of.Tie as tie
 returns : tie.Need-returns
 returns c = search tag-none
 
-shared-slice-read-first : tie.Need-shared-slice-read-first
-shared-slice-read-first c = search needs
+byte-of-requires : tie.Need-byte-of-requires
+byte-of-requires c κs = search needs
 
 cast-first : tie.Need-cast-first
-cast-first c = omega (arith, c .shared-slice-known .given 0)
+cast-first c = search needs
 
-sub-last : tie.Need-sub-last
-sub-last c = search needs
+sub-byte-of : tie.Need-sub-byte-of
+sub-byte-of c = search needs
 
-shared-slice-read-last : tie.Need-shared-slice-read-last
-shared-slice-read-last c = search needs
+byte-of-requires-2 : tie.Need-byte-of-requires-2
+byte-of-requires-2 c κs = search needs
 
 cast-last : tie.Need-cast-last
-cast-last c = omega (arith, c .shared-slice-known2 .given (length (c .before .before .before .args .name .now) - 1))
+cast-last c = search needs
 
-shared-slice-read-middle : tie.Need-shared-slice-read-middle
-shared-slice-read-middle c = search needs
+byte-of-requires-3 : tie.Need-byte-of-requires-3
+byte-of-requires-3 c κs = search needs
 
 cast-middle : tie.Need-cast-middle
-cast-middle c = omega (arith, c .shared-slice-known3 .given (length (c .before .before .before .before .args .name .now) / 2))
+cast-middle c = search needs
 
 cast-result : tie.Need-cast-result
 cast-result c = search needs
 
 mul-result : tie.Need-mul-result
-mul-result c = omega (arith, c .shared-slice-known3 .given 0)
+mul-result c = search needs
 
 add-result : tie.Need-add-result
-add-result c = omega (arith, c .shared-slice-known3 .given 0)
+add-result c = search needs
 
 mul-result-2 : tie.Need-mul-result-2
-mul-result-2 c = omega (arith, c .shared-slice-known3 .given (length (c .before .before .before .before .args .name .now) - 1))
+mul-result-2 c = search needs
 
 add-result-2 : tie.Need-add-result-2
-add-result-2 c = omega (arith, c .shared-slice-known3 .given 0, c .shared-slice-known3 .given (length (c .before .before .before .before .args .name .now) - 1))
+add-result-2 c = search needs
 
 mul-result-3 : tie.Need-mul-result-3
-mul-result-3 c = omega (arith, c .shared-slice-known3 .given (length (c .before .before .before .before .args .name .now) / 2))
+mul-result-3 c = search needs
 
 add-result-3 : tie.Need-add-result-3
-add-result-3 c = omega (arith, c .shared-slice-known3 .given 0, c .shared-slice-known3 .given (length (c .before .before .before .before .args .name .now) - 1), c .shared-slice-known3 .given (length (c .before .before .before .before .args .name .now) / 2))
+add-result-3 c = search needs
 
 returns-2 : tie.Need-returns-2
-unfolding tagOf
-returns-2 c = search needs
+returns-2 c = search tag-is
 
 pub tag-of-spec : {M : Type 1} → statement M
 tag-of-spec =
     tie.close
     (tie.spec
     returns
-    shared-slice-read-first
+    byte-of-requires
     cast-first
-    sub-last
-    shared-slice-read-last
+    sub-byte-of
+    byte-of-requires-2
     cast-last
-    shared-slice-read-middle
+    byte-of-requires-3
     cast-middle
     cast-result
     mul-result

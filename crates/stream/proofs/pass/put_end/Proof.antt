@@ -1,6 +1,6 @@
 use Rattle.laws.proofs.Exits.{exits}
 use Rattle.stream.proofs.Loop.{second-word, ends-put}
-use Rattle.stream.specs.Answers.{endPut}
+use Rattle.stream.specs.Pass.{endPut}
 use borrow.Author.Needs.{needs}
 use Rattle.stream.proofs.pass.put_end.Statement.{statement}
 use Rattle.stream.proofs.pass.put_end.Tie as tie

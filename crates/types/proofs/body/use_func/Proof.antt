@@ -1,4 +1,4 @@
-use Rattle.types.proofs.Handled.{handles-few}
+use Rattle.uses.proofs.Handled.{handles-few}
 use Rattle.types.proofs.Bodies.{func-body, func-skips, func-refused}
 use borrow.Author.Needs.{needs}
 use Rattle.types.proofs.body.use_func.Statement.{statement}

@@ -1,7 +1,7 @@
 use Rattle.definition.specs.Token.{typeUse}
 use Rattle.laws.proofs.Ways.{ways}
 use Rattle.token.proofs.Ways.{answers}
-use Rattle.typeuse.proofs.Gets.{known-uses}
+use Rattle.typeuse.proofs.Gets.{known-uses, list-readable}
 use Rattle.typeuse.proofs.Ways.{use-answers}
 use borrow.Author.Needs.{needs}
 use Rattle.typeuse.proofs.known.known_type_use.Statement.{statement}
@@ -36,7 +36,7 @@ enum-known-e-3 c = search needs
 
 returns : tie.Need-returns
 unfolding typeUse
-returns c = search (ways, answers, use-answers) depth 14
+returns c = search (ways, answers, use-answers, list-readable) depth 14
 
 returns-2 : tie.Need-returns-2
 unfolding typeUse

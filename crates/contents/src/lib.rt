@@ -1,0 +1,7 @@
+// What a section contains: the entries of the fields, and the types that uses have added.
+pub mod added;
+pub mod contents;
+
+pub use added::keep_types;
+pub use added::put_types;
+pub use contents::emit_fields;

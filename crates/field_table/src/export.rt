@@ -1,0 +1,39 @@
+// Exports, and the start.
+use fields::Field;
+use fields::FieldAt;
+use fields::SpaceAt;
+use sources::Seen;
+use token::IndexAt;
+use token::PartAt;
+ghost use mathlib.Core.Path.{_≡_};
+ghost use Rattle.definition.specs.Records as Records;
+ghost use Rattle.sources.specs.Views.{roomOf};
+ghost use Rattle.fields.specs.Views.{fieldAt};
+
+pub fn read_export(s: &[u8], at: usize) -> FieldAt
+    ensures { λ r. ⌜ Records.exportRec (now (s .entry)) at ≡ fieldAt (now (s .entry)) r ⌝ }
+{
+    match token::read_string(s, at) {
+        PartAt::Got(name, a) => match fields::read_kind(s, a) {
+            SpaceAt::Got(space, b) => match token::read_present(s, b) {
+                IndexAt::Got(index, c) => FieldAt::Got(Field::Export { name, space, index }, c),
+                IndexAt::Fault(e) => FieldAt::Fault(e),
+            },
+            SpaceAt::Fault(e) => FieldAt::Fault(e),
+        },
+        PartAt::Fault(e) => FieldAt::Fault(e),
+    }
+}
+
+// A second start is refused.
+pub fn read_start(s: &[u8], at: usize, seen: Seen) -> FieldAt
+    ensures { λ r. ⌜ Records.startRec (roomOf seen) (now (s .entry)) at ≡ fieldAt (now (s .entry)) r ⌝ }
+{
+    if seen.started {
+        return FieldAt::Fault(9);
+    }
+    match token::read_present(s, at) {
+        IndexAt::Got(x, next) => FieldAt::Got(Field::Start(x), next),
+        IndexAt::Fault(e) => FieldAt::Fault(e),
+    }
+}

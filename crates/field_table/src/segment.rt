@@ -1,0 +1,49 @@
+// Element and data segments.
+use fields::Field;
+use fields::FieldAt;
+use fields::ModeAt;
+use sources::Seen;
+use token::PartAt;
+use token::Space;
+use typeuse::Elem;
+use typeuse::ListAt;
+ghost use mathlib.Core.Path.{_≡_};
+ghost use Rattle.definition.specs.Records as Records;
+ghost use Rattle.sources.specs.Views.{roomOf};
+ghost use Rattle.fields.specs.Views.{fieldAt};
+
+pub fn read_elem(s: &[u8], at: usize, seen: Seen) -> FieldAt
+    ensures { λ r. ⌜ Records.elemRec (roomOf seen) (now (s .entry)) at ≡ fieldAt (now (s .entry)) r ⌝ }
+{
+    if !sources::has_room(seen, Space::Elems) {
+        return FieldAt::Fault(7);
+    }
+    match token::read_identifier(s, at) {
+        PartAt::Got(id, a) => match fields::read_mode(s, a) {
+            ModeAt::Got(mode, b) => match typeuse::read_list(s, b, 1024, Elem::Index) {
+                ListAt::Got(funcs, c) => FieldAt::Got(Field::Elem { id, mode, funcs }, c),
+                ListAt::Fault(e) => FieldAt::Fault(e),
+            },
+            ModeAt::Fault(e) => FieldAt::Fault(e),
+        },
+        PartAt::Fault(e) => FieldAt::Fault(e),
+    }
+}
+
+pub fn read_data(s: &[u8], at: usize, seen: Seen) -> FieldAt
+    ensures { λ r. ⌜ Records.dataRec (roomOf seen) (now (s .entry)) at ≡ fieldAt (now (s .entry)) r ⌝ }
+{
+    if !sources::has_room(seen, Space::Datas) {
+        return FieldAt::Fault(7);
+    }
+    match token::read_identifier(s, at) {
+        PartAt::Got(id, a) => match fields::read_mode(s, a) {
+            ModeAt::Got(mode, b) => match token::read_data(s, b) {
+                PartAt::Got(bytes, c) => FieldAt::Got(Field::Data { id, mode, bytes }, c),
+                PartAt::Fault(e) => FieldAt::Fault(e),
+            },
+            ModeAt::Fault(e) => FieldAt::Fault(e),
+        },
+        PartAt::Fault(e) => FieldAt::Fault(e),
+    }
+}

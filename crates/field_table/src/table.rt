@@ -1,0 +1,51 @@
+// The table of field records.
+use fields::FieldAt;
+use sources::Kind;
+use sources::Seen;
+use token::ByteAt;
+ghost use mathlib.Core.Path.{_≡_};
+ghost use Rattle.definition.specs.Records as Records;
+ghost use Rattle.sources.specs.Views.{roomOf};
+ghost use Rattle.fields.specs.Views.{fieldAt};
+
+// A field record, where the records before have brought what was seen.
+pub fn read_field(s: &[u8], at: usize, seen: Seen) -> FieldAt
+    ensures { λ r. ⌜ Records.fieldRec (roomOf seen) (now (s .entry)) at ≡ fieldAt (now (s .entry)) r ⌝ }
+{
+    match token::read_byte(s, at) {
+        ByteAt::Got(b, next) => {
+            if b == 0x01 {
+                return fields::item::read_type(s, next, seen);
+            }
+            if b == 0x02 {
+                return fields::item::read_import(s, next, seen);
+            }
+            if b == 0x03 {
+                return fields::item::read_item(s, next, seen, Kind::Func);
+            }
+            if b == 0x04 {
+                return fields::item::read_item(s, next, seen, Kind::Table);
+            }
+            if b == 0x05 {
+                return fields::item::read_item(s, next, seen, Kind::Mem);
+            }
+            if b == 0x06 {
+                return fields::item::read_item(s, next, seen, Kind::Global);
+            }
+            if b == 0x07 {
+                return crate::export::read_export(s, next);
+            }
+            if b == 0x08 {
+                return crate::export::read_start(s, next, seen);
+            }
+            if b == 0x09 {
+                return crate::segment::read_elem(s, next, seen);
+            }
+            if b == 0x0A {
+                return crate::segment::read_data(s, next, seen);
+            }
+            FieldAt::Fault(4)
+        }
+        ByteAt::Fault(e) => FieldAt::Fault(e),
+    }
+}

@@ -1,0 +1,4 @@
+pub mod Elements
+pub mod Turns
+pub mod Constants
+pub mod Operands

@@ -1,0 +1,41 @@
+use Rattle.operands.proofs.Turns.{labels-to, labels-not}
+use borrow.Author.Needs.{needs}
+use Rattle.operands.proofs.indices.emit_labels.Statement.{statement}
+use Rattle.operands.proofs.indices.emit_labels.Tie as tie
+
+emit-label-list-requires : tie.Need-emit-label-list-requires
+emit-label-list-requires c κs = search needs
+
+enum-known-a : tie.Need-enum-known-a
+enum-known-a c = search needs
+
+emit-depth-requires : tie.Need-emit-depth-requires
+emit-depth-requires c κs = search needs
+
+enum-known-n : tie.Need-enum-known-n
+enum-known-n c = search needs
+
+same-length : tie.Need-same-length
+same-length c = search needs
+
+returns : tie.Need-returns
+returns c = search (labels-to, labels-not) depth 12
+
+same-length-2 : tie.Need-same-length-2
+same-length-2 c = search needs
+
+returns-2 : tie.Need-returns-2
+returns-2 c = search (labels-to, labels-not) depth 12
+
+pub emit-labels-spec : {M : Type 1} → statement M
+emit-labels-spec =
+    tie.close
+    (tie.spec
+    emit-label-list-requires
+    enum-known-a
+    emit-depth-requires
+    enum-known-n
+    same-length
+    returns
+    same-length-2
+    returns-2)

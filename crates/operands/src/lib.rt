@@ -1,0 +1,16 @@
+// What entries and instructions have in common: operands, lists of functions or labels, and constants. Each emitter resolves what it has to,
+// and then puts its bytes.
+pub mod constant;
+pub mod indices;
+pub mod operand;
+
+pub use constant::emit_const;
+pub use constant::put_zero_offset;
+pub use constant::zero_offset;
+pub use indices::count_indices;
+pub use indices::emit_func;
+pub use indices::emit_funcs;
+pub use operand::emit_item;
+pub use operand::emit_label;
+pub use operand::emit_local;
+pub use operand::emit_plain;

@@ -1,0 +1,134 @@
+-- The stages of the passes, and the last of them: the fields, resolved.
+use Prim.Native.Nat.{ℕ, _+_, _≤_}
+use mathlib.Core.Path.{_≡_, refl, sym, _∙_, ap}
+use mathlib.Core.List.{List, _++_, map}
+use lib.ListN.{length, drop}
+use native.Mathlib.Omega.{arith}
+use Rattle.definition.specs.Basic.{Answer, ok, refused, _>>=_, concatMap}
+use Rattle.definition.specs.Syntax.{Identifier, Item, typeI}
+use Rattle.definition.specs.Types.{uses, declared}
+use Rattle.definition.specs.Names.{Scope, resolveAll}
+use Rattle.definition.specs.Binary.{entries}
+use Rattle.definition.specs.Assemble.{itemsIn}
+use Rattle.space.specs.Kept.{Kept}
+use Rattle.space.proofs.Kept.{kept-less}
+use Rattle.signatures.specs.Table.{typesIn, Recalled}
+use Rattle.walk.specs.Walk.{begin, fieldsIn, Ahead}
+use Rattle.walk.proofs.Steps.{ahead-kept}
+use Rattle.scope.specs.Scope.{scopeIn}
+use Rattle.scope.proofs.Frames.{scope-kept, recalled-scope}
+use Rattle.content.specs.Entry.{Entries, entriesOf}
+use Rattle.parts.specs.Tally.{tallies, noTally, Twelve, ChecksIn}
+use Rattle.parts.specs.Content.{Fine, kept, typeEntries}
+use Rattle.parts.specs.declared.tally.Tally.{Tally}
+use Rattle.parts.specs.declared.tally.Verdict.{Verdict}
+use Rattle.parts.specs.declared.tally.Verdict.the-variants as V′
+use Rattle.parts.specs.declared.tally.Checked.{Checked}
+use Rattle.parts.proofs.Tallies.{tallies-append}
+use Rattle.checks.proofs.Checking.{was-fine, fine-kept, was-not, not-long, tallied-twelve}
+use Rattle.parts.proofs.Keeping.{keeps-then}
+use Rattle.contents.specs.Added.{KeepsTypes}
+use Rattle.contents.specs.Write.{Writable, Held, allEntries, keptItems, moduleItems}
+use Rattle.passes.specs.Passes.{Found, fromNames, Passes}
+use Rattle.passes.specs.declared.Passed.{Passed}
+
+-- a stage that refuses
+pub refuses : (a : Answer Found) (count : ℕ) (s w : List ℕ) (p : Passed) (w′ b : List ℕ) (n q : ℕ) → a ≡ refused n q → p .verdict ≡ V′.Refused n q → length w′ ≡ length w → Passes a count s w p w′ b
+refuses a count s w p w′ b n q e v l = record { says = rw v e; long = l }
+
+-- a stage that leaves the rest to the next
+pub passes-on : (a b : Answer Found) (count : ℕ) (s w w₁ : List ℕ) (p : Passed) (w′ k : List ℕ) → a ≡ b → length w₁ ≡ length w → Passes b count s w₁ p w′ k → Passes a count s w p w′ k
+passes-on a b count s w w₁ p w′ k e l h = record { says = rw e (h .says); long = h .long ∙ l }
+
+-- ## The fields, resolved
+
+no-twelve : Twelve noTally
+no-twelve = record { sizes = refl; counts = refl }
+
+-- entries that are there come from items that are there
+items-of : (a : Answer (List Item)) (es : Entries) → (a >>= λ is. ok (concatMap entries is)) ≡ ok es → a ≡ ok (keptItems a)
+unfolding _>>=_
+items-of (ok is) es e = refl
+items-of (refused n r) es e = let z : _≡_ {A = ℕ} 0 1 = cc in absurd (omega arith)
+
+-- and are found
+found-of : (a : Answer (List Item)) (Γ : Scope Identifier) (more : List Item) → a ≡ ok (keptItems a)
+    → _>>=_ {B = Found} (a >>= λ is. ok (is ++ more)) (λ is. ok (Γ, is)) ≡ ok (Γ, keptItems a ++ more)
+unfolding _>>=_
+found-of (ok is) Γ more e = refl
+found-of (refused n r) Γ more e = let z : _≡_ {A = ℕ} 0 1 = cc in absurd (omega arith)
+
+not-items : (a : Answer (List Item)) (n q : ℕ) → (a >>= λ is. ok (concatMap entries is)) ≡ refused n q → a ≡ refused n q
+unfolding _>>=_
+not-items (ok is) n q e = let z : _≡_ {A = ℕ} 0 1 = cc in absurd (omega arith)
+not-items (refused m p) n q e = cc
+
+module _ (s w : List ℕ) (d count : ℕ) (r : Checked) (w₁ b₀ b₁ : List ℕ) (h : ChecksIn (entriesOf (scopeIn s w) (fieldsIn s)) noTally w b₀ r w₁ b₁) (v : Verdict) (g : v ≡ r .verdict) where
+  module _ (e : v ≡ V′.Fine) where
+    k : Kept 11536 w w₁
+    k = fine-kept h (sym g ∙ e)
+
+    scope : scopeIn s w₁ ≡ scopeIn s w
+    scope = scope-kept s w w₁ (kept-less 11280 11536 (omega arith) k)
+
+    pub resolve-long : 16384 ≤ length w → 16384 ≤ length w₁
+    resolve-long a = rw (k .long) a
+
+    -- what the writer asks for
+    writable : length s ≤ 65536 → 16384 ≤ length w → Ahead s w begin → Recalled w (typesIn s w) (uses (fieldsIn s)) → Writable s w₁
+    writable a b c u =
+        let x = was-fine h (sym g ∙ e) in
+        record {
+          stream = a;
+          room = rw (k .long) b;
+          ahead = ahead-kept s w w₁ begin (kept-less 520 11536 (omega arith) k) c;
+          recalled = recalled-scope s w w₁ (uses (fieldsIn s)) (kept-less 11280 11536 (omega arith) k) u;
+          fine = record { entries = x .entries; is = rw scope (x .is) };
+        }
+
+    -- the tally of all entries
+    all-tallied : (t : Tally) → t ≡ tallies (r .tally) (typeEntries (drop d (typesIn s w₁))) → t ≡ tallies noTally (allEntries d s w₁)
+    unfolding allEntries
+    all-tallied t i =
+        let x = was-fine h (sym g ∙ e) in
+        let y : entriesOf (scopeIn s w₁) (fieldsIn s) ≡ ok (x .entries) = ap (λ z. entriesOf z (fieldsIn s)) scope ∙ x .is in
+        i
+        ∙ ap (λ (z : Tally). tallies z (typeEntries (drop d (typesIn s w₁)))) (x .tally)
+        ∙ sym (tallies-append noTally (x .entries) (typeEntries (drop d (typesIn s w₁))))
+        ∙ ap (λ z. tallies noTally (kept z ++ typeEntries (drop d (typesIn s w₁)))) (sym y)
+
+    -- their kept bytes
+    all-held : (t : Tally) (b₂ : List ℕ) → KeepsTypes (drop d (typesIn s w₁)) (r .tally) b₁ t b₂ → Held b₂ (allEntries d s w₁)
+    unfolding allEntries
+    all-held t b₂ i =
+        let x = was-fine h (sym g ∙ e) in
+        let y : entriesOf (scopeIn s w₁) (fieldsIn s) ≡ ok (x .entries) = ap (λ z. entriesOf z (fieldsIn s)) scope ∙ x .is in
+        record { old = b₀; keeps = rw y (keeps-then b₀ b₁ b₂ noTally (r .tally) (x .entries) (typeEntries (drop d (typesIn s w₁))) (x .tally) (x .keeps) (i .keeps)) }
+
+    pub resolve-twelve : Twelve (r .tally)
+    resolve-twelve = tallied-twelve (was-fine h (sym g ∙ e)) no-twelve
+
+    -- the items
+    found : d ≡ length (declared (fieldsIn s)) → fromNames (fieldsIn s) (scopeIn s w) ≡ ok (scopeIn s w₁, moduleItems d s w₁)
+    unfolding fromNames itemsIn moduleItems entriesOf scopeIn
+    found y =
+        let x = was-fine h (sym g ∙ e) in
+        let i = items-of (resolveAll (scopeIn s w) (fieldsIn s)) (x .entries) (x .is) in
+        found-of (resolveAll (scopeIn s w) (fieldsIn s)) (scopeIn s w) (map typeI (drop (length (declared (fieldsIn s))) (typesIn s w))) i
+        ∙ ap (λ (Γ : Scope Identifier). ok (Γ, keptItems (resolveAll Γ (fieldsIn s)) ++ map typeI (drop (length (declared (fieldsIn s))) (Γ .allTypes)))) (sym scope)
+        ∙ ap (λ n. ok (scopeIn s w₁, keptItems (resolveAll (scopeIn s w₁) (fieldsIn s)) ++ map typeI (drop n (typesIn s w₁)))) (sym y)
+
+    pub resolve-done : (t : Tally) → length s ≤ 65536 → 16384 ≤ length w → Ahead s w begin → Recalled w (typesIn s w) (uses (fieldsIn s))
+        → d ≡ length (declared (fieldsIn s)) → (b₂ : List ℕ) → KeepsTypes (drop d (typesIn s w₁)) (r .tally) b₁ t b₂
+        → Passes (fromNames (fieldsIn s) (scopeIn s w)) count s w (record { count = count; declared = d; tally = t; verdict = V′.Fine }) w₁ b₂
+    resolve-done t a b c u y b₂ i = record {
+      says = record { found = found y; records = refl; ready = record { writable = writable a b c u; tally = all-tallied t (i .tally); held = all-held t b₂ i } };
+      long = k .long;
+    }
+
+  -- a field was refused
+  pub resolve-not : (p : Passed) (n q : ℕ) → v ≡ V′.Refused n q → p .verdict ≡ V′.Refused n q → Passes (fromNames (fieldsIn s) (scopeIn s w)) count s w p w₁ b₁
+  unfolding fromNames itemsIn entriesOf _>>=_
+  resolve-not p n q e y =
+      let i = not-items (resolveAll (scopeIn s w) (fieldsIn s)) n q (was-not h n q (sym g ∙ e)) in
+      refuses _ count s w p w₁ b₁ n q (rw i refl) y (not-long h n q (sym g ∙ e))

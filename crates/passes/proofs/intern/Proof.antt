@@ -1,0 +1,49 @@
+use Rattle.passes.proofs.Whole.{survey-long, survey-ahead, survey-recalled, survey-done, survey-not, table-count}
+use borrow.Author.Needs.{needs}
+use Rattle.passes.proofs.intern.Statement.{statement}
+use Rattle.passes.proofs.intern.Tie as tie
+
+survey-all-requires : tie.Need-survey-all-requires
+survey-all-requires c κs = search needs
+
+enum-told : tie.Need-enum-told
+enum-told c = search needs
+
+resolve-requires : tie.Need-resolve-requires
+resolve-requires c κs = (search needs, search survey-long, search survey-ahead, search survey-recalled, search table-count)
+
+enum-known-n : tie.Need-enum-known-n
+enum-known-n c = search needs
+
+refuse-requires : tie.Need-refuse-requires
+refuse-requires c κs = search needs
+
+same-length : tie.Need-same-length
+same-length c = search needs
+
+same-length-2 : tie.Need-same-length-2
+same-length-2 c = search needs
+
+returns : tie.Need-returns
+returns c = search survey-done
+
+same-length-3 : tie.Need-same-length-3
+same-length-3 c = search needs
+
+returns-2 : tie.Need-returns-2
+returns-2 c = search survey-not
+
+pub intern-spec : {M : Type 1} → statement M
+intern-spec =
+    tie.close
+    (tie.spec
+    survey-all-requires
+    enum-told
+    resolve-requires
+    enum-known-n
+    refuse-requires
+    same-length
+    same-length-2
+    returns
+    same-length-3
+    returns-2)

@@ -1,0 +1,51 @@
+use Rattle.passes.proofs.Whole.{prepare-done, prepare-not}
+use Rattle.walk.proofs.Begin.{reads-short, reads-long, reads-ahead}
+use Rattle.walk.proofs.Counted.{reads-declared}
+use borrow.Author.Needs.{needs}
+use Rattle.passes.proofs.prepare.Statement.{statement}
+use Rattle.passes.proofs.prepare.Tie as tie
+
+read-all-requires : tie.Need-read-all-requires
+read-all-requires c κs = search needs
+
+enum-known-count : tie.Need-enum-known-count
+enum-known-count c = search needs
+
+declare-requires : tie.Need-declare-requires
+declare-requires c κs = (search reads-short, search reads-long, search reads-ahead, search reads-declared)
+
+enum-known-n : tie.Need-enum-known-n
+enum-known-n c = search needs
+
+refuse-requires : tie.Need-refuse-requires
+refuse-requires c κs = search needs
+
+same-length : tie.Need-same-length
+same-length c = search needs
+
+same-length-2 : tie.Need-same-length-2
+same-length-2 c = search needs
+
+returns : tie.Need-returns
+returns c = search prepare-done
+
+same-length-3 : tie.Need-same-length-3
+same-length-3 c = search needs
+
+returns-2 : tie.Need-returns-2
+returns-2 c = search prepare-not
+
+pub prepare-spec : {M : Type 1} → statement M
+prepare-spec =
+    tie.close
+    (tie.spec
+    read-all-requires
+    enum-known-count
+    declare-requires
+    enum-known-n
+    refuse-requires
+    same-length
+    same-length-2
+    returns
+    same-length-3
+    returns-2)

@@ -1,0 +1,88 @@
+// The passes in document 01's order, up to what a writer needs.
+use parts::Tally;
+use parts::Verdict;
+use stream::Count;
+use survey::Surveyed;
+ghost use mathlib.Core.Path.{_≡_};
+ghost use Prim.Native.Nat.{_≤_};
+ghost use lib.ListN.{length, getD};
+ghost use Rattle.definition.specs.Types as Types;
+ghost use Rattle.signatures.specs.Table.{typeTable, typesIn, Recalled};
+ghost use Rattle.walk.specs.Walk.{Ahead, begin, fieldsIn};
+ghost use Rattle.scope.specs.Scope.{scopeIn};
+ghost use Rattle.passes.specs.Passes.{Passes, Prepares, fromNames, fromFields};
+
+// What the passes leave for a writer, beside the kept bytes: how many records and declared types there are and how large the sections are; or their refusal.
+pub struct Passed {
+    pub count: u32,
+    pub declared: u32,
+    pub tally: Tally,
+    pub verdict: Verdict,
+}
+
+fn refuse(n: u8, q: u32) -> Passed
+    ensures { λ r. ⌜ r .verdict ≡ Verdict.Refused n q ⌝ }
+{
+    let tally = Tally {
+        sizes: [0; 12],
+        counts: [0; 12],
+    };
+    Passed {
+        count: 0,
+        declared: 0,
+        tally,
+        verdict: Verdict::Refused(n, q),
+    }
+}
+
+// The fields, resolved in order.
+fn resolve(s: &[u8], work: &mut [u32], kept: &mut [u8], count: u32, declared: u32) -> Passed
+    requires { ⌜ (length (now s) ≤ 65536) × (16384 ≤ length (now work)) × Ahead (now s) (now work) begin × Recalled (now work) (typesIn (now s) (now work)) (Types.uses (fieldsIn (now s))) × (declared ≡ length (Types.declared (fieldsIn (now s)))) ⌝ }
+    ensures { λ r. ⌜ Passes (fromNames (fieldsIn (now (s .entry))) (scopeIn (now (s .entry)) (now (work .entry)))) count (now (s .entry)) (now (work .entry)) r (now (work .exit)) (now (kept .exit)) ⌝ }
+{
+    let r = sections::check_fields(s, work, kept);
+    let tally = r.tally;
+    let v = r.verdict;
+    match v {
+        Verdict::Fine => {
+            let tally = contents::keep_types(s, work, kept, declared, tally);
+            Passed {
+                count,
+                declared,
+                tally,
+                verdict: Verdict::Fine,
+            }
+        }
+        Verdict::Refused(n, q) => refuse(n, q),
+    }
+}
+
+// The order of imports, the types of uses and the names, in one walk; then the fields.
+fn intern(s: &[u8], work: &mut [u32], kept: &mut [u8], count: u32, declared: u32) -> Passed
+    requires { ⌜ (length (now s) ≤ 65536) × (16384 ≤ length (now work)) × (declared ≤ 256) × Ahead (now s) (now work) begin × (typeTable declared (now s) (now work) 520 ≡ Types.declared (fieldsIn (now s))) ⌝ }
+    ensures { λ r. ⌜ Passes (fromFields (fieldsIn (now (s .entry)))) count (now (s .entry)) (now (work .entry)) r (now (work .exit)) (now (kept .exit)) ⌝ }
+{
+    match survey::survey_all(s, work, declared) {
+        Surveyed::Done => resolve(s, work, kept, count, declared),
+        Surveyed::Refused(n, q) => refuse(n, q),
+    }
+}
+
+// The declared types; then what uses and names there are.
+fn declare(s: &[u8], work: &mut [u32], kept: &mut [u8], count: u32) -> Passed
+    requires { ⌜ (length (now s) ≤ 65536) × (16384 ≤ length (now work)) × Ahead (now s) (now work) begin × (getD (now work) 4 0 ≡ length (Types.declared (fieldsIn (now s)))) ⌝ }
+    ensures { λ r. ⌜ Passes (fromFields (fieldsIn (now (s .entry)))) count (now (s .entry)) (now (work .entry)) r (now (work .exit)) (now (kept .exit)) ⌝ }
+{
+    let declared = types::declare_all(s, work);
+    intern(s, work, kept, count, declared)
+}
+
+// The records; then the passes over their fields.
+pub fn prepare(s: &[u8], work: &mut [u32], kept: &mut [u8]) -> Passed
+    ensures { λ r. ⌜ Prepares (now (s .entry)) (now (work .entry)) r (now (work .exit)) (now (kept .exit)) ⌝ }
+{
+    match stream::read_all(s, work) {
+        Count::Records(count) => declare(s, work, kept, count),
+        Count::Refused(n, q) => refuse(n, q),
+    }
+}

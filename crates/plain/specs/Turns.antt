@@ -1,0 +1,87 @@
+-- What comes of one record of a body.
+use Prim.Native.Nat.{ℕ, _≤_}
+use mathlib.Core.Path.{_≡_}
+use mathlib.Core.List.{List, []}
+use Rattle.definition.specs.Basic.{ok, refused}
+use Rattle.definition.specs.Syntax as Syntax
+use Rattle.definition.specs.Syntax.{Identifier, Op, Rec, instr, plain}
+use Rattle.definition.specs.Reader.{Step, got, fault, Reader, onward, _>>=_}
+use Rattle.definition.specs.Token as Token
+use Rattle.definition.specs.Instructions.{done}
+use Rattle.definition.specs.Read.{openAfter}
+use Rattle.definition.specs.Types.{Uses, usedAt, instrUses}
+use Rattle.definition.specs.Names.{Namespace, blocksAfter, instrOp}
+use Rattle.definition.specs.Binary.{instruction}
+use Rattle.emit.specs.Put.{Put}
+use Rattle.space.specs.Kept.{Kept}
+use Rattle.walk.specs.Walk.{onBody}
+use Rattle.scope.specs.Scope.{scopeIn, labelsIn}
+use Rattle.binary.specs.declared.Emitted.{Emitted}
+use Rattle.binary.specs.declared.Emitted.the-variants as E
+use Rattle.plain.specs.declared.turn.Turn.{Turn}
+use Rattle.plain.specs.declared.turn.Turn.the-variants as T
+
+-- what came of an instruction
+abbrev pub turnOf : Emitted → ℕ → ℕ → Turn
+turnOf (E.To o) next j = T.On o next j
+turnOf (E.Refused n q) next j = T.Refused n q
+
+-- ## What is read
+
+-- the record that an instruction is
+abbrev pub recordOf : Step (Syntax.Instr Identifier) → Step (Rec Identifier)
+recordOf m = onward (λ x next. got (instr x) next) m
+
+abbrev pub plainRecord : Step (Syntax.Plain Identifier) → Step (Rec Identifier)
+plainRecord m = recordOf (onward (λ p next. got (plain p) next) m)
+
+-- an instruction whose operand is an index
+unfoldable pub indexed : ℕ → (Syntax.Index Identifier → Syntax.Operand Identifier) → Reader (Syntax.Plain Identifier)
+indexed op f = Token.present >>= λ x. done op (f x)
+
+-- and where it is an item's
+unfoldable pub itemed : ℕ → Syntax.Space → Reader (Syntax.Plain Identifier)
+itemed op j = indexed op (Syntax.item j)
+
+-- the type that it uses
+abbrev pub readUses : ℕ → Step (Syntax.Instr Identifier) → Uses
+readUses rec (got x next) = usedAt rec (instrUses x)
+readUses rec (fault n) = []
+
+-- ## What comes of it
+
+-- an instruction was read and written, and its block entered or left
+pub record Stepped (s w : List ℕ) (locals : Namespace Identifier) (k rec : ℕ) (m : Step (Rec Identifier)) (old : List ℕ) (at o next j : ℕ) (w′ new : List ℕ) : Type 0 where
+  pub read : Syntax.Instr Identifier
+  pub op : Op
+  pub reads : m ≡ got (instr read) next
+  pub is : instrOp (scopeIn s w) locals (labelsIn s w k) rec read ≡ ok op
+  pub put : Put old at (instruction op) o new
+  pub blocks : labelsIn s w′ j ≡ blocksAfter (labelsIn s w k) read
+  pub depth : j ≡ openAfter read k
+  pub few : j ≤ 128
+  pub kept : Kept 11920 w w′
+
+-- no instruction is here
+pub record Ended (m : Step (Rec Identifier)) (w old w′ new : List ℕ) : Type 0 where
+  pub none : (more : Syntax.Instr Identifier → ℕ → List (Syntax.Instr Identifier)) → onBody m more (λ next. []) [] ≡ []
+  pub area : w′ ≡ w
+  pub bytes : new ≡ old
+
+-- an instruction was refused
+pub record Halted (s w : List ℕ) (locals : Namespace Identifier) (k rec : ℕ) (m : Step (Rec Identifier)) (n q : ℕ) (w′ : List ℕ) : Type 0 where
+  pub read : Syntax.Instr Identifier
+  pub next : ℕ
+  pub reads : m ≡ got (instr read) next
+  pub says : instrOp (scopeIn s w) locals (labelsIn s w k) rec read ≡ refused n q
+  pub area : w′ ≡ w
+
+-- `m` is what is read where k blocks are open
+unfoldable pub Turned : List ℕ → List ℕ → Namespace Identifier → ℕ → ℕ → Step (Rec Identifier) → List ℕ → ℕ → Turn → List ℕ → List ℕ → Type 0
+Turned s w locals k rec m old at (T.On o next j) w′ new = Stepped s w locals k rec m old at o next j w′ new
+Turned s w locals k rec m old at T.Done w′ new = Ended m w old w′ new
+Turned s w locals k rec m old at (T.Refused n q) w′ new = Halted s w locals k rec m n q w′
+
+-- whatever the locals are
+pub record AnyLocals (s w : List ℕ) (k rec : ℕ) (m : Step (Rec Identifier)) (old : List ℕ) (at : ℕ) (r : Turn) (w′ new : List ℕ) : Type 0 where
+  pub each : (locals : Namespace Identifier) → Turned s w locals k rec m old at r w′ new

@@ -1,0 +1,5 @@
+pub mod Records
+pub mod Skims
+pub mod Steps
+pub mod Lent
+pub mod LentTypes

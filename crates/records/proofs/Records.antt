@@ -1,0 +1,93 @@
+-- One record at the running place: what each way out of its readers comes to.
+use mathlib.Core.Path.{_≡_, refl, ap, sym, _∙_}
+use Prim.Native.Nat.{ℕ, zero, suc, _-_, _≤_, _<_}
+use mathlib.Core.Bool.{true, false}
+use mathlib.Core.Option.{Option, none, some}
+use lib.Dec.{leb}
+use borrow.Author.Tests.{le-leb, ne-eqb}
+use native.Mathlib.Omega.{arith}
+use native.Mathlib.Numerals.{add-one}
+use Rattle.definition.specs.Basic.{ok, refused, between, isSome}
+use Rattle.definition.specs.Syntax.{Bytes, field}
+use Rattle.definition.specs.Instructions.{formOf}
+use Rattle.definition.specs.Records.{Room, fieldRec}
+use Rattle.definition.specs.Read.{bodyAfter, fieldBody, sourceBody, ownBody, beginsIn}
+use Rattle.laws.proofs.Exits.{between-low}
+use Rattle.sources.specs.declared.source.Own.the-variants as O
+use Rattle.sources.specs.declared.source.Source.the-variants as S
+use Rattle.fields.specs.Views.{fieldOf, fieldAt}
+use Rattle.fields.specs.declared.field.Field.{Field}
+use Rattle.fields.specs.declared.field.Field.the-variants as F
+use Rattle.fields.specs.declared.field.FieldAt.{FieldAt}
+use Rattle.fields.specs.declared.field.FieldAt.the-variants as FA
+use Rattle.instr.specs.Views.{formIs}
+use Rattle.instr.specs.declared.Form.{Form}
+use Rattle.instr.specs.declared.Form.the-variants as FM
+use Rattle.records.specs.Places.{bodyOf, depthOf, recordPast, placeAfter, fieldRecordAt}
+use Rattle.records.specs.Answers.{fieldDepth}
+use Rattle.records.specs.declared.record.Place.{Place}
+
+-- ## Depths
+
+pub outside : (d : ℕ) → d < 1 → bodyOf d ≡ none
+outside zero h = refl
+outside (suc k) h = absurd (omega arith)
+
+pub inside : (d : ℕ) → 1 ≤ d → bodyOf d ≡ some (d - 1)
+inside zero h = absurd (omega arith)
+inside (suc k) h = let e : suc k - 1 ≡ k = omega arith in rw e
+
+pub body-depth : (b : Option ℕ) → bodyOf (depthOf b) ≡ b
+body-depth none = refl
+body-depth (some k) = rw add-one
+
+field-depth : (s : Bytes) (b : Option ℕ) (f : Field) → fieldDepth f ≡ depthOf (bodyAfter b (field (fieldOf s f)))
+unfolding bodyAfter fieldBody sourceBody ownBody
+field-depth s b (F.Type i ps rs) = refl
+field-depth s b (F.Import n i x) = refl
+field-depth s b (F.Item i es (S.Own (O.Func t ls))) = refl
+field-depth s b (F.Item i es (S.Own (O.Table t))) = refl
+field-depth s b (F.Item i es (S.Own (O.Mem l))) = refl
+field-depth s b (F.Item i es (S.Own (O.Global t c))) = refl
+field-depth s b (F.Item i es (S.Imported n x)) = refl
+field-depth s b (F.Item i es (S.TableOf w xs)) = refl
+field-depth s b (F.Item i es (S.MemOf w d)) = refl
+field-depth s b (F.Export n k x) = refl
+field-depth s b (F.Start x) = refl
+field-depth s b (F.Elem i m xs) = refl
+field-depth s b (F.Data i m d) = refl
+
+-- ## Which bytes may begin a record
+
+pub begins-low : (b d : ℕ) → d < 1 → b < 1 → false ≡ beginsIn b (bodyOf d)
+begins-low b d h l = rw (outside d h) (sym (between-low 1 10 b l))
+
+pub begins-field : (b d : ℕ) → d < 1 → 1 ≤ b → leb b 10 ≡ beginsIn b (bodyOf d)
+unfolding between
+begins-field b d h l = rw (outside d h, le-leb 1 b l)
+
+pub begins-end : (b d : ℕ) → 1 ≤ d → b ≡ 0xFF → true ≡ beginsIn b (bodyOf d)
+begins-end b d h e = rw (inside d h, e)
+
+some-form : (b d : ℕ) (r : Form) → 1 ≤ d → (b ≡ 0xFF → ⊥) → formOf b ≡ formIs r → isSome (formIs r) ≡ beginsIn b (bodyOf d)
+some-form b d r h n e = rw (inside d h, ne-eqb b 0xFF n, e)
+
+pub begins-not : (b d : ℕ) (r : Form) → 1 ≤ d → (b ≡ 0xFF → ⊥) → formOf b ≡ formIs r → r ≡ FM.NoOpcode → false ≡ beginsIn b (bodyOf d)
+unfolding isSome
+begins-not b d r h n e g = ap (λ x. isSome (formIs x)) (sym g) ∙ some-form b d r h n e
+
+pub begins-form : (b d : ℕ) (r v : Form) → 1 ≤ d → (b ≡ 0xFF → ⊥) → formOf b ≡ formIs r → r ≡ v → true ≡ isSome (formIs v) → true ≡ beginsIn b (bodyOf d)
+begins-form b d r v h n e g t = t ∙ ap (λ x. isSome (formIs x)) (sym g) ∙ some-form b d r h n e
+
+-- ## The ways out
+
+module _ (free : Room) (p : Place) (s : Bytes) (r : FieldAt) (e : fieldRec free s (p .at) ≡ fieldAt s r) where
+  pub record-field : (f : Field) (next d : ℕ) (q : Place) → r ≡ FA.Got f next → q ≡ recordPast p next d → d ≡ fieldDepth f → fieldRecordAt free p s ≡ (ok (field (fieldOf s f)), q)
+  unfolding fieldRecordAt placeAfter
+  record-field f next d q g a l = rw (a, e, g, l, field-depth s (bodyOf (p .depth)) f)
+
+  pub record-no-field : (n : ℕ) → r ≡ FA.Fault n → fieldRecordAt free p s ≡ (refused n (p .rec), p)
+  unfolding fieldRecordAt
+  record-no-field n g = rw (e, g)
+
+pub ruleset record-ways = (record-field, record-no-field)

@@ -1,0 +1,3 @@
+pub mod Uses
+pub mod Places
+pub mod Answers

@@ -1,0 +1,65 @@
+use Rattle.runs.proofs.Running.{Counting, count-begin, count-readable, count-again, count-few, count-nothing, count-done, Putting, put-begin, put-again, put-nothing, put-done, put-long, run-fewer}
+use borrow.Author.Needs.{needs}
+use Rattle.runs.proofs.put_each_run.Statement.{statement}
+use Rattle.runs.proofs.put_each_run.Tie as tie
+
+abbrev Inv-loop : tie.InvT-loop
+Inv-loop out₀ at s o₀ n₀ here₀ left₀ out o n here left = Counting s here₀ left₀ n here left × Putting s here₀ left₀ out₀ at o here left out
+
+abbrev μ-loop : tie.MeasureT-loop
+μ-loop out₀ at s o₀ n₀ here₀ left₀ out o n here left = left
+
+loop-holds : tie.Need-loop-holds Inv-loop μ-loop
+loop-holds c = (search count-begin, search put-begin)
+
+run-at-requires : tie.Need-run-at-requires Inv-loop μ-loop
+run-at-requires c κs = search count-readable
+
+enum-known-r : tie.Need-enum-known-r Inv-loop μ-loop
+enum-known-r c = search needs
+
+put-run-requires : tie.Need-put-run-requires Inv-loop μ-loop
+put-run-requires c κs = search needs
+
+add-n : tie.Need-add-n Inv-loop μ-loop
+add-n c = search needs
+
+loop-less : tie.Need-loop-less Inv-loop μ-loop
+loop-less c = search run-fewer
+
+loop-again : tie.Need-loop-again Inv-loop μ-loop
+loop-again c = (search count-again, search put-again)
+
+enum-told : tie.Need-enum-told Inv-loop μ-loop
+enum-told c = search needs
+
+same-length : tie.Need-same-length Inv-loop μ-loop
+same-length c = search put-long
+
+returns : tie.Need-returns Inv-loop μ-loop
+returns c = (search count-few, search count-nothing, search put-nothing)
+
+same-length-2 : tie.Need-same-length-2 Inv-loop μ-loop
+same-length-2 c = search needs
+
+returns-2 : tie.Need-returns-2 Inv-loop μ-loop
+returns-2 c = (search count-few, search count-done, search put-done)
+
+pub put-each-run-spec : {M : Type 1} → statement M
+put-each-run-spec =
+    tie.close
+    (tie.spec
+    Inv-loop
+    μ-loop
+    loop-holds
+    run-at-requires
+    enum-known-r
+    put-run-requires
+    add-n
+    loop-less
+    loop-again
+    enum-told
+    same-length
+    returns
+    same-length-2
+    returns-2)

@@ -1,0 +1,49 @@
+use Rattle.segments.proofs.Segments.{table-nos}
+use borrow.Author.Needs.{needs}
+use Rattle.segments.proofs.elem_segment.table_no.Statement.{statement}
+use Rattle.segments.proofs.elem_segment.table_no.Tie as tie
+
+enum-told : tie.Need-enum-told
+enum-told c = search needs
+
+enum-known-x : tie.Need-enum-known-x
+enum-known-x c = search needs
+
+enum-known-x-2 : tie.Need-enum-known-x-2
+enum-known-x-2 c = search needs
+
+item-no-requires : tie.Need-item-no-requires
+item-no-requires c κs = search needs
+
+enum-known-n : tie.Need-enum-known-n
+enum-known-n c = search needs
+
+enum-known-n-2 : tie.Need-enum-known-n-2
+enum-known-n-2 c = search needs
+
+returns : tie.Need-returns
+returns c = search (table-nos) depth 12
+
+returns-2 : tie.Need-returns-2
+returns-2 c = search (table-nos) depth 12
+
+returns-3 : tie.Need-returns-3
+returns-3 c = search (table-nos) depth 12
+
+returns-4 : tie.Need-returns-4
+returns-4 c = search (table-nos) depth 12
+
+pub table-no-spec : {M : Type 1} → statement M
+table-no-spec =
+    tie.close
+    (tie.spec
+    enum-told
+    enum-known-x
+    enum-known-x-2
+    item-no-requires
+    enum-known-n
+    enum-known-n-2
+    returns
+    returns-2
+    returns-3
+    returns-4)

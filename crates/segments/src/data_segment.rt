@@ -1,0 +1,123 @@
+// Data segments.
+use binary::Emitted;
+use expr::Plain;
+use fields::Mode;
+use space::Resolved;
+use token::Index;
+use token::Part;
+use token::Space;
+ghost use mathlib.Core.List.{[], _∷_};
+ghost use mathlib.Core.Option.{none};
+ghost use Prim.Native.Nat.{_≤_};
+ghost use lib.Dec.{eqb};
+ghost use lib.ListN.{length};
+ghost use Rattle.definition.specs.Basic.{if_then_else_};
+ghost use Rattle.definition.specs.Syntax.{mems, active, dataF};
+ghost use Rattle.definition.specs.Names as Names;
+ghost use Rattle.definition.specs.Binary as Binary;
+ghost use Rattle.emit.specs.Put.{Put};
+ghost use Rattle.token.specs.Views.{partOf, indexOf};
+ghost use Rattle.expr.specs.Views.{plainIs};
+ghost use Rattle.fields.specs.Views.{modeOf};
+ghost use Rattle.scope.specs.Scope.{scopeIn};
+ghost use Rattle.binary.specs.Emits.{Emits};
+ghost use Rattle.entries.specs.Entry.{entryOf};
+ghost use Rattle.segments.specs.Segments.{atMemory, dataMode};
+ghost use Rattle.operands.specs.Operands.{zeroOp};
+
+// Form 0 on memory 0, form 2 on another.
+fn put_memory(out: &mut [u8], at: usize, m: u32) -> usize
+    ensures { λ r. ⌜ Put (now (out .entry)) at (if eqb m 0 then 0 ∷ [] else 2 ∷ Binary.u m) r (now (out .exit)) ⌝ }
+{
+    if m == 0 {
+        return emit::put(out, at, 0);
+    }
+    crate::elem_segment::put_form_2(out, at, m)
+}
+
+// The memory and the offset.
+fn emit_on_memory(
+    out: &mut [u8],
+    at: usize,
+    s: &[u8],
+    work: &[u32],
+    m: u32,
+    c: Plain,
+    rec: u32,
+) -> Emitted
+    requires { ⌜ 16384 ≤ length (now work) ⌝ }
+    ensures { λ r. ⌜ Emits (atMemory m) (Names.constOp (scopeIn (now (s .entry)) (now (work .entry))) rec (plainIs (now (s .entry)) c)) (now (out .entry)) at r (now (out .exit)) ⌝ }
+{
+    let a = put_memory(out, at, m);
+    operands::emit_const(out, a, s, work, c, rec)
+}
+
+fn emit_at_memory(
+    out: &mut [u8],
+    at: usize,
+    s: &[u8],
+    work: &[u32],
+    x: Index,
+    c: Plain,
+    rec: u32,
+) -> Emitted
+    requires { ⌜ 16384 ≤ length (now work) ⌝ }
+    ensures { λ r. ⌜ Emits dataMode (Names.modeOf (scopeIn (now (s .entry)) (now (work .entry))) (Names.itemNo (scopeIn (now (s .entry)) (now (work .entry))) mems) rec (active (indexOf (now (s .entry)) x) (plainIs (now (s .entry)) c))) (now (out .entry)) at r (now (out .exit)) ⌝ }
+{
+    match scope::item_no(s, work, Space::Mems, x, rec) {
+        Resolved::To(m) => emit_on_memory(out, at, s, work, m, c, rec),
+        Resolved::Refused(n, r) => Emitted::Refused(n, r),
+    }
+}
+
+// What stands before the bytes: form 1, or the memory and the offset.
+fn emit_data_mode(
+    out: &mut [u8],
+    at: usize,
+    s: &[u8],
+    work: &[u32],
+    mode: Mode,
+    rec: u32,
+) -> Emitted
+    requires { ⌜ 16384 ≤ length (now work) ⌝ }
+    ensures { λ r. ⌜ Emits dataMode (Names.modeOf (scopeIn (now (s .entry)) (now (work .entry))) (Names.itemNo (scopeIn (now (s .entry)) (now (work .entry))) mems) rec (modeOf (now (s .entry)) mode)) (now (out .entry)) at r (now (out .exit)) ⌝ }
+{
+    match mode {
+        Mode::Passive => Emitted::To(emit::put(out, at, 1)),
+        Mode::Active(x, c) => emit_at_memory(out, at, s, work, x, c, rec),
+    }
+}
+
+pub fn emit_data(
+    out: &mut [u8],
+    at: usize,
+    s: &[u8],
+    work: &[u32],
+    mode: Mode,
+    bytes: Part,
+    rec: u32,
+) -> Emitted
+    requires { ⌜ 16384 ≤ length (now work) ⌝ }
+    ensures { λ r. ⌜ Emits entryOf (Names.resolve (scopeIn (now (s .entry)) (now (work .entry))) rec (dataF none (modeOf (now (s .entry)) mode) (partOf (now (s .entry)) bytes))) (now (out .entry)) at r (now (out .exit)) ⌝ }
+{
+    match emit_data_mode(out, at, s, work, mode, rec) {
+        Emitted::To(a) => Emitted::To(binary::put_name(out, a, s, bytes)),
+        Emitted::Refused(n, r) => Emitted::Refused(n, r),
+    }
+}
+
+// The data of an inline memory, which is the memory numbered n.
+pub fn put_inline_data(
+    out: &mut [u8],
+    at: usize,
+    s: &[u8],
+    is64: bool,
+    n: u32,
+    bytes: Part,
+) -> usize
+    ensures { λ r. ⌜ Put (now (out .entry)) at (Binary.data′ (active n (zeroOp is64)) (partOf (now (s .entry)) bytes)) r (now (out .exit)) ⌝ }
+{
+    let a = put_memory(out, at, n);
+    let b = operands::put_zero_offset(out, a, is64);
+    binary::put_name(out, b, s, bytes)
+}

@@ -1,0 +1,181 @@
+// Element segments.
+use binary::Emitted;
+use expr::Plain;
+use fields::Mode;
+use space::Resolved;
+use token::Index;
+use token::Space;
+use typeuse::List;
+ghost use mathlib.Core.Path.{_≡_};
+ghost use mathlib.Core.List.{[], _∷_};
+ghost use mathlib.Core.Option.{none, some};
+ghost use Prim.Native.Nat.{_≤_};
+ghost use lib.ListN.{length};
+ghost use Rattle.definition.specs.Syntax.{active, number, elemF};
+ghost use Rattle.definition.specs.Token as Token;
+ghost use Rattle.definition.specs.Deinline as Deinline;
+ghost use Rattle.definition.specs.Names as Names;
+ghost use Rattle.definition.specs.Binary as Binary;
+ghost use Rattle.emit.specs.Put.{Put};
+ghost use Rattle.token.specs.Views.{indexOf};
+ghost use Rattle.typeuse.specs.Views.{listOf};
+ghost use Rattle.expr.specs.Views.{plainIs};
+ghost use Rattle.fields.specs.Views.{modeOf};
+ghost use Rattle.scope.specs.Scope.{scopeIn};
+ghost use Rattle.binary.specs.Emits.{Emits};
+ghost use Rattle.entries.specs.Entry.{entryOf};
+ghost use Rattle.segments.specs.Segments.{atTable, elemMode, tableAt};
+
+// The table of an element segment. An absent index stays so: it decides the segment's form.
+pub enum TableAt {
+    Absent,
+    To(u32),
+    Refused(u8, u32),
+}
+
+fn table_no(s: &[u8], work: &[u32], x: Index, rec: u32) -> TableAt
+    requires { ⌜ 16384 ≤ length (now work) ⌝ }
+    ensures { λ r. ⌜ Names.tableNo (scopeIn (now (s .entry)) (now (work .entry))) rec (indexOf (now (s .entry)) x) ≡ tableAt r ⌝ }
+{
+    match x {
+        Index::Absent => TableAt::Absent,
+        Index::Number(n) => TableAt::To(n),
+        Index::Named(p) => match scope::item_no(s, work, Space::Tables, Index::Named(p), rec) {
+            Resolved::To(n) => TableAt::To(n),
+            Resolved::Refused(n, r) => TableAt::Refused(n, r),
+        },
+    }
+}
+
+// Form 0, and the offset.
+fn emit_without_table(
+    out: &mut [u8],
+    at: usize,
+    s: &[u8],
+    work: &[u32],
+    c: Plain,
+    rec: u32,
+) -> Emitted
+    requires { ⌜ 16384 ≤ length (now work) ⌝ }
+    ensures { λ r. ⌜ Emits (atTable none) (Names.constOp (scopeIn (now (s .entry)) (now (work .entry))) rec (plainIs (now (s .entry)) c)) (now (out .entry)) at r (now (out .exit)) ⌝ }
+{
+    let a = emit::put(out, at, 0);
+    operands::emit_const(out, a, s, work, c, rec)
+}
+
+// Form 2, and the item.
+pub fn put_form_2(out: &mut [u8], at: usize, n: u32) -> usize
+    ensures { λ r. ⌜ Put (now (out .entry)) at (2 ∷ Binary.u n) r (now (out .exit)) ⌝ }
+{
+    let a = emit::put(out, at, 2);
+    leb::put_u(out, a, n as u64)
+}
+
+// Form 2: the table, the offset, and the kind funcref.
+fn emit_with_table(
+    out: &mut [u8],
+    at: usize,
+    s: &[u8],
+    work: &[u32],
+    n: u32,
+    c: Plain,
+    rec: u32,
+) -> Emitted
+    requires { ⌜ 16384 ≤ length (now work) ⌝ }
+    ensures { λ r. ⌜ Emits (atTable (some n)) (Names.constOp (scopeIn (now (s .entry)) (now (work .entry))) rec (plainIs (now (s .entry)) c)) (now (out .entry)) at r (now (out .exit)) ⌝ }
+{
+    let a = put_form_2(out, at, n);
+    match operands::emit_const(out, a, s, work, c, rec) {
+        Emitted::To(b) => Emitted::To(emit::put(out, b, 0)),
+        Emitted::Refused(m, r) => Emitted::Refused(m, r),
+    }
+}
+
+fn emit_at_table(
+    out: &mut [u8],
+    at: usize,
+    s: &[u8],
+    work: &[u32],
+    x: Index,
+    c: Plain,
+    rec: u32,
+) -> Emitted
+    requires { ⌜ 16384 ≤ length (now work) ⌝ }
+    ensures { λ r. ⌜ Emits elemMode (Names.modeOf (scopeIn (now (s .entry)) (now (work .entry))) (Names.tableNo (scopeIn (now (s .entry)) (now (work .entry)))) rec (active (indexOf (now (s .entry)) x) (plainIs (now (s .entry)) c))) (now (out .entry)) at r (now (out .exit)) ⌝ }
+{
+    match table_no(s, work, x, rec) {
+        TableAt::Absent => emit_without_table(out, at, s, work, c, rec),
+        TableAt::To(n) => emit_with_table(out, at, s, work, n, c, rec),
+        TableAt::Refused(n, r) => Emitted::Refused(n, r),
+    }
+}
+
+// Form 1, and the kind funcref.
+fn put_passive(out: &mut [u8], at: usize) -> usize
+    ensures { λ r. ⌜ Put (now (out .entry)) at (1 ∷ 0 ∷ []) r (now (out .exit)) ⌝ }
+{
+    let a = emit::put(out, at, 1);
+    emit::put(out, a, 0)
+}
+
+// What stands before the functions.
+fn emit_elem_mode(
+    out: &mut [u8],
+    at: usize,
+    s: &[u8],
+    work: &[u32],
+    mode: Mode,
+    rec: u32,
+) -> Emitted
+    requires { ⌜ 16384 ≤ length (now work) ⌝ }
+    ensures { λ r. ⌜ Emits elemMode (Names.modeOf (scopeIn (now (s .entry)) (now (work .entry))) (Names.tableNo (scopeIn (now (s .entry)) (now (work .entry)))) rec (modeOf (now (s .entry)) mode)) (now (out .entry)) at r (now (out .exit)) ⌝ }
+{
+    match mode {
+        Mode::Passive => Emitted::To(put_passive(out, at)),
+        Mode::Active(x, c) => emit_at_table(out, at, s, work, x, c, rec),
+    }
+}
+
+pub fn emit_elem(
+    out: &mut [u8],
+    at: usize,
+    s: &[u8],
+    work: &[u32],
+    mode: Mode,
+    funcs: List,
+    rec: u32,
+) -> Emitted
+    requires { ⌜ 16384 ≤ length (now work) ⌝ }
+    ensures { λ r. ⌜ Emits entryOf (Names.resolve (scopeIn (now (s .entry)) (now (work .entry))) rec (elemF none (modeOf (now (s .entry)) mode) (listOf Token.present (now (s .entry)) funcs))) (now (out .entry)) at r (now (out .exit)) ⌝ }
+{
+    match emit_elem_mode(out, at, s, work, mode, rec) {
+        Emitted::To(a) => operands::emit_funcs(out, a, s, work, funcs, rec),
+        Emitted::Refused(n, r) => Emitted::Refused(n, r),
+    }
+}
+
+// The functions of an inline table, which is the table numbered n.
+pub fn emit_inline_elem(
+    out: &mut [u8],
+    at: usize,
+    s: &[u8],
+    work: &[u32],
+    is64: bool,
+    n: u32,
+    funcs: List,
+    rec: u32,
+) -> Emitted
+    requires { ⌜ 16384 ≤ length (now work) ⌝ }
+    ensures { λ r. ⌜ Emits entryOf (Names.resolve (scopeIn (now (s .entry)) (now (work .entry))) rec (elemF none (active (number n) (Deinline.zeroOffset is64)) (listOf Token.present (now (s .entry)) funcs))) (now (out .entry)) at r (now (out .exit)) ⌝ }
+{
+    let offset = operands::zero_offset(s, is64);
+    emit_elem(
+        out,
+        at,
+        s,
+        work,
+        Mode::Active(Index::Number(n), offset),
+        funcs,
+        rec,
+    )
+}
