@@ -14,7 +14,7 @@ use Rattle.parts.specs.Tally.{tallies, noTally}
 use Rattle.parts.specs.declared.tally.Tally.{Tally}
 use Rattle.parts.specs.declared.tally.Verdict.{Verdict}
 use Rattle.parts.specs.declared.tally.Verdict.the-variants as V′
-use Rattle.contents.specs.Write.{Writable, Held, allEntries, moduleItems}
+use Rattle.section_entries.specs.Write.{Writable, Held, allEntries, moduleItems}
 use Rattle.name_section.specs.Section.{namesIn}
 use Rattle.passes.specs.Passes.{Ready}
 use Rattle.passes.specs.Passes.{makes, writes, ReadyBy, Prepares}

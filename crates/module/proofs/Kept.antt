@@ -14,7 +14,7 @@ use Rattle.space.proofs.Kept.{kept-same}
 use Rattle.content.specs.Entry.{Entries}
 use Rattle.parts.specs.Parts.{startOf, partIn}
 use Rattle.parts.proofs.Keeping.{part-within}
-use Rattle.contents.specs.Write.{Writes, Held, allEntries}
+use Rattle.section_entries.specs.Write.{Writes, Held, allEntries}
 
 -- a length that did not saturate
 exact : (n size room : ℕ) → size ≡ past 0 n → size ≤ room → room < 2 ^ 63 → n ≡ size

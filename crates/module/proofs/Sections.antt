@@ -26,11 +26,11 @@ use Rattle.parts.specs.Content.{kept, bytesIn, typeEntries}
 use Rattle.parts.specs.declared.tally.Tally.{Tally}
 use Rattle.parts.proofs.Keeping.{section-append, joined-append}
 use Rattle.module.specs.Length.{Counted, contentLen, moduleLen, sectionsFrom}
-use Rattle.contents.specs.Added.{typeBytes}
-use Rattle.contents.specs.Write.{Writes, Writable, Held, Counts, allEntries, addedIn, keptItems, moduleItems}
+use Rattle.section_entries.specs.Added.{typeBytes}
+use Rattle.section_entries.specs.Write.{Writes, Writable, Held, Counts, allEntries, addedIn, keptItems, moduleItems}
 use Rattle.module.proofs.Full.{good-items}
 use Rattle.module.proofs.Lengths.{size-of, count-of, content-long, module-is, module-long}
-use Rattle.contents.proofs.Emitting.{scope-same, types-same, recalled-same}
+use Rattle.section_entries.proofs.Emitting.{scope-same, types-same, recalled-same}
 
 -- ## The added types
 

@@ -1,8 +1,8 @@
 // The bytes of the module. `declared` is the number of types that fields declare, and `t` the tally of all entries.
 use crate::length::content_len;
-use contents::emit_fields;
-use contents::put_types;
 use parts::Tally;
+use section_entries::emit_fields;
+use section_entries::put_types;
 ghost use mathlib.Core.Path.{_≡_};
 ghost use mathlib.Core.List.{_∷_};
 ghost use Prim.Native.Nat.{_≤_, _<_};
@@ -11,7 +11,7 @@ ghost use Rattle.definition.specs.Binary as Binary;
 ghost use Rattle.emit.specs.Put.{Put, past};
 ghost use Rattle.parts.specs.Tally.{tallies, noTally};
 ghost use Rattle.module.specs.Length.{Counted, sectionsFrom};
-ghost use Rattle.contents.specs.Write.{Writes, Writable, Held, Counts, allEntries, addedIn, moduleItems};
+ghost use Rattle.section_entries.specs.Write.{Writes, Writable, Held, Counts, allEntries, addedIn, moduleItems};
 
 // The magic and the version.
 fn put_preamble(out: &mut [u8], at: usize) -> usize

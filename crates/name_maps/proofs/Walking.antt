@@ -35,7 +35,7 @@ use Rattle.scope.specs.Scope.{scopeIn}
 use Rattle.scope.proofs.Frames.{recalled-left, recalled-right}
 use Rattle.content.specs.Entry.{usesOf, itemIn, secondOf, three}
 use Rattle.content.proofs.Uses.{RecalledThree, recalled-here}
-use Rattle.contents.specs.Write.{Writable}
+use Rattle.section_entries.specs.Write.{Writable}
 use Rattle.definition.specs.NameSection as Definition
 use Rattle.definition.specs.NameSection.{NameMap, namedFrom, importedFunction, functionIn, functions, unlessEmpty, localNamesFrom, indirectNameAssoc}
 use Rattle.name_maps.specs.Maps.{first, Adds, LocalNames, Few, functionOfOwn, functionOfSource, functionOf, ownLocals, broughtLocals, RecalledOf}

@@ -25,7 +25,7 @@ ghost use Rattle.binary.specs.Views.{typeNoOf};
 ghost use Rattle.walk.specs.Walk.{fieldsIn};
 ghost use Rattle.scope.specs.Scope.{scopeIn};
 ghost use Rattle.frames.specs.Locals.{idsOf};
-ghost use Rattle.contents.specs.Write.{Writable};
+ghost use Rattle.section_entries.specs.Write.{Writable};
 ghost use Rattle.definition.specs.NameSection.{namedFrom, functions};
 ghost use Rattle.name_maps.specs.Maps.{first, Names, LocalNames, Few, functionOfExtern, functionOfOwn, functionOfSource, functionOf, ownLocals, broughtLocals, RecalledOf};
 

@@ -21,7 +21,7 @@ use Rattle.parts.specs.declared.tally.Tally.{Tally}
 use Rattle.module.specs.Length.{contentLen, sizedLen, sectionLen}
 use Rattle.module.proofs.Full.{u-only, first-some}
 use Rattle.module.proofs.Lengths.{past-past, past-measured, past-none, past-from, content-long, sized-long, entries-long}
-use Rattle.contents.proofs.Emitting.{scope-same}
+use Rattle.section_entries.proofs.Emitting.{scope-same}
 use Rattle.module.proofs.Sections.{counted-put, headed-put, past-some}
 use Rattle.definition.specs.NameSection.{NameMap, namedFrom, functions, localNamesFrom, nameAssoc, indirectNameAssoc, subsections, sectionName, customOf, nameSection}
 use Rattle.name_maps.specs.Maps.{first, Adds, Names, LocalNames}

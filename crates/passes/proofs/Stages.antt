@@ -27,8 +27,8 @@ use Rattle.parts.specs.declared.tally.Checked.{Checked}
 use Rattle.parts.proofs.Tallies.{tallies-append}
 use Rattle.checks.proofs.Checking.{was-fine, fine-kept, was-not, not-long, tallied-twelve}
 use Rattle.parts.proofs.Keeping.{keeps-then}
-use Rattle.contents.specs.Added.{KeepsTypes}
-use Rattle.contents.specs.Write.{Writable, Held, allEntries, keptItems, moduleItems}
+use Rattle.section_entries.specs.Added.{KeepsTypes}
+use Rattle.section_entries.specs.Write.{Writable, Held, allEntries, keptItems, moduleItems}
 use Rattle.passes.specs.Passes.{Found, fromNames, Passes}
 use Rattle.passes.specs.declared.Passed.{Passed}
 

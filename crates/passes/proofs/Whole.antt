@@ -33,7 +33,7 @@ use Rattle.survey.specs.declared.Surveyed.the-variants as S
 use Rattle.scope.specs.Scope.{scopeIn}
 use Rattle.parts.specs.declared.tally.Verdict.{Verdict}
 use Rattle.parts.specs.declared.tally.Verdict.the-variants as V′
-use Rattle.contents.specs.Write.{moduleItems}
+use Rattle.section_entries.specs.Write.{moduleItems}
 use Rattle.passes.specs.Passes.{Found, fromNames, fromTypes, fromFields, PassesBy, Passes}
 use Rattle.passes.specs.Passes.{makes, writes, saidBy, ReadyBy, Prepares}
 use Rattle.passes.specs.declared.Passed.{Passed}

@@ -18,7 +18,7 @@ use Rattle.scope.specs.Scope.{scopeIn}
 use Rattle.parts.specs.Tally.{tallies, noTally}
 use Rattle.parts.specs.declared.tally.Verdict.{Verdict}
 use Rattle.parts.specs.declared.tally.Verdict.the-variants as V′
-use Rattle.contents.specs.Write.{Writable, Held, allEntries, moduleItems}
+use Rattle.section_entries.specs.Write.{Writable, Held, allEntries, moduleItems}
 use Rattle.passes.specs.declared.Passed.{Passed}
 
 -- ## What the passes find, from the last to the first

@@ -45,7 +45,7 @@ fn resolve(s: &[u8], work: &mut [u32], kept: &mut [u8], count: u32, declared: u3
     let v = r.verdict;
     match v {
         Verdict::Fine => {
-            let tally = contents::keep_types(s, work, kept, declared, tally);
+            let tally = section_entries::keep_types(s, work, kept, declared, tally);
             Passed {
                 count,
                 declared,

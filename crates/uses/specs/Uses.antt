@@ -20,6 +20,7 @@ use Rattle.uses.specs.declared.Used.the-variants as U
 
 -- ## The uses of a record, read on the fly
 
+-- the uses of a block: one that has a short form takes no type
 abbrev pub blockUses : {I : Type 0} → Syntax.TypeUse I → List FuncType
 blockUses t = if isShort t then [] else useOf t
 

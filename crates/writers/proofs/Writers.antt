@@ -12,7 +12,7 @@ use Rattle.emit.proofs.Laws.{put-room, put-then, put-is}
 use Rattle.parts.specs.Tally.{tallies, noTally}
 use Rattle.parts.specs.declared.tally.Tally.{Tally}
 use Rattle.module.specs.Length.{moduleLen}
-use Rattle.contents.specs.Write.{Writes, Writable, allEntries, moduleItems}
+use Rattle.section_entries.specs.Write.{Writes, Writable, allEntries, moduleItems}
 use Rattle.module.proofs.Lengths.{past-past, past-measured}
 use Rattle.module.proofs.Sections.{module-len-is, writable-same}
 use Rattle.name_section.specs.Section.{NameTally, nameLen, namesIn}

@@ -5,7 +5,7 @@ ghost use mathlib.Core.Path.{_≡_};
 ghost use mathlib.Core.List.{_++_};
 ghost use Rattle.definition.specs.Binary as Binary;
 ghost use Rattle.parts.specs.Tally.{tallies, noTally};
-ghost use Rattle.contents.specs.Write.{Writable, Held, allEntries, moduleItems};
+ghost use Rattle.section_entries.specs.Write.{Writable, Held, allEntries, moduleItems};
 ghost use Rattle.name_section.specs.Section.{namesIn};
 ghost use Rattle.writers.specs.Does.{noRoom, Does};
 

@@ -1,7 +1,7 @@
-use Rattle.contents.proofs.Emitting.{entry-other, entry-put, entry-refused}
+use Rattle.section_entries.proofs.Emitting.{entry-other, entry-put, entry-refused}
 use borrow.Author.Needs.{needs}
-use Rattle.contents.proofs.contents.emit_in.Statement.{statement}
-use Rattle.contents.proofs.contents.emit_in.Tie as tie
+use Rattle.section_entries.proofs.contents.emit_in.Statement.{statement}
+use Rattle.section_entries.proofs.contents.emit_in.Tie as tie
 
 section-of-requires : tie.Need-section-of-requires
 section-of-requires c κs = search needs

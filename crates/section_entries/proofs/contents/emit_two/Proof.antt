@@ -1,7 +1,7 @@
-use Rattle.contents.proofs.Emitting.{ready-second, ready-third, two-put}
+use Rattle.section_entries.proofs.Emitting.{ready-second, ready-third, two-put}
 use borrow.Author.Needs.{needs}
-use Rattle.contents.proofs.contents.emit_two.Statement.{statement}
-use Rattle.contents.proofs.contents.emit_two.Tie as tie
+use Rattle.section_entries.proofs.contents.emit_two.Statement.{statement}
+use Rattle.section_entries.proofs.contents.emit_two.Tie as tie
 
 emit-in-requires : tie.Need-emit-in-requires
 emit-in-requires c κs = search ready-second

@@ -1,8 +1,8 @@
 use borrow.Author.Needs.{needs}
 use Rattle.walk.proofs.Steps.{visit-less}
-use Rattle.contents.proofs.Fields.{Emitting, emitting-begin, emitting-ready, emitting-again, emitting-stop, emitting-done, emitting-long, emitting-area}
-use Rattle.contents.proofs.contents.emit_fields.Statement.{statement}
-use Rattle.contents.proofs.contents.emit_fields.Tie as tie
+use Rattle.section_entries.proofs.Fields.{Emitting, emitting-begin, emitting-ready, emitting-again, emitting-stop, emitting-done, emitting-long, emitting-area}
+use Rattle.section_entries.proofs.contents.emit_fields.Statement.{statement}
+use Rattle.section_entries.proofs.contents.emit_fields.Tie as tie
 
 abbrev Inv-loop : tie.InvT-loop
 Inv-loop k s work₀ out₀ at end c₀ o₀ work out c o = Emitting k s work₀ out₀ at c o out work

@@ -1,7 +1,7 @@
-use Rattle.contents.proofs.Tables.{type-put}
+use Rattle.section_entries.proofs.Tables.{type-put}
 use borrow.Author.Needs.{needs}
-use Rattle.contents.proofs.added.put_type.Statement.{statement}
-use Rattle.contents.proofs.added.put_type.Tie as tie
+use Rattle.section_entries.proofs.added.put_type.Statement.{statement}
+use Rattle.section_entries.proofs.added.put_type.Tie as tie
 
 type-at-requires : tie.Need-type-at-requires
 type-at-requires c κs = search needs

@@ -8,7 +8,7 @@ ghost use Rattle.definition.specs.Binary as Binary;
 ghost use Rattle.emit.specs.Put.{Put};
 ghost use Rattle.signatures.specs.Table.{signatureOf, entryIn, typesIn};
 ghost use Rattle.parts.specs.Tally.{Twelve};
-ghost use Rattle.contents.specs.Added.{typeBytes, KeepsTypes};
+ghost use Rattle.section_entries.specs.Added.{typeBytes, KeepsTypes};
 
 // How many there are: the table has 256 types at most, whatever its word says.
 fn added(work: &[u32], declared: u32) -> u32

@@ -19,7 +19,7 @@ use Rattle.content.specs.Entry.{Entries, sectionNo, answerOf, usesOf, tagged, b
 use Rattle.content.specs.declared.entry.Entry.{Entry}
 use Rattle.content.specs.declared.entry.Three.{Three}
 use Rattle.parts.specs.Content.{Fine, bytesIn}
-use Rattle.contents.specs.Write.{Writes, Ready, ReadyThree, lastTwo}
+use Rattle.section_entries.specs.Write.{Writes, Ready, ReadyThree, lastTwo}
 use Rattle.emitters.specs.Listed.{Answers}
 use Rattle.parts.specs.Emit.{AreaOf, EmitsEntry}
 use Rattle.parts.proofs.Keeping.{section-own, section-other, section-append, joined-append}

@@ -1,7 +1,7 @@
-use Rattle.contents.proofs.Emitting.{ready-is, three-is}
+use Rattle.section_entries.proofs.Emitting.{ready-is, three-is}
 use borrow.Author.Needs.{needs}
-use Rattle.contents.proofs.contents.emit_field.Statement.{statement}
-use Rattle.contents.proofs.contents.emit_field.Tie as tie
+use Rattle.section_entries.proofs.contents.emit_field.Statement.{statement}
+use Rattle.section_entries.proofs.contents.emit_field.Tie as tie
 
 entries-of-requires : tie.Need-entries-of-requires
 entries-of-requires c κs = search needs

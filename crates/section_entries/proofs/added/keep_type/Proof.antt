@@ -1,8 +1,8 @@
 use borrow.Author.Needs.{needs}
 use Rattle.parts.proofs.Keeping.{part-order, part-within}
-use Rattle.contents.proofs.Tables.{type-kept}
-use Rattle.contents.proofs.added.keep_type.Statement.{statement}
-use Rattle.contents.proofs.added.keep_type.Tie as tie
+use Rattle.section_entries.proofs.Tables.{type-kept}
+use Rattle.section_entries.proofs.added.keep_type.Statement.{statement}
+use Rattle.section_entries.proofs.added.keep_type.Tie as tie
 
 start-of-requires : tie.Need-start-of-requires
 start-of-requires c κs = search needs

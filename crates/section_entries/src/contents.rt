@@ -12,7 +12,7 @@ ghost use Rattle.walk.specs.Walk.{fieldsIn};
 ghost use Rattle.scope.specs.Scope.{scopeIn};
 ghost use Rattle.content.specs.Entry.{three, entryIn, threeIn, entriesOf};
 ghost use Rattle.parts.specs.Content.{bytesIn};
-ghost use Rattle.contents.specs.Write.{Writes, Ready, ReadyThree, lastTwo, Writable};
+ghost use Rattle.section_entries.specs.Write.{Writes, Ready, ReadyThree, lastTwo, Writable};
 
 // An entry, if it is one of the section.
 fn emit_in(

@@ -1,4 +1,4 @@
-// What a section contains: the entries of the fields, and the types that uses have added.
+// The entries of one section: those of the fields, and the types that uses have added.
 pub mod added;
 pub mod contents;
 

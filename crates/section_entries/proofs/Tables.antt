@@ -21,7 +21,7 @@ use Rattle.parts.specs.Content.{typeEntries}
 use Rattle.parts.specs.declared.tally.Tally.{Tally}
 use Rattle.parts.proofs.Tallies.{tallies-append, tallies-twelve}
 use Rattle.parts.proofs.Keeping.{reached-is, keeps-none, keeps-then, keeps-lent}
-use Rattle.contents.specs.Added.{typeBytes, KeepsTypes}
+use Rattle.section_entries.specs.Added.{typeBytes, KeepsTypes}
 
 -- ## The rest of the table
 

@@ -29,8 +29,8 @@ use Rattle.content.specs.declared.entry.Three.{Three}
 use Rattle.content.proofs.Fields.{entries-append, entries-here}
 use Rattle.content.proofs.Uses.{All, AllThree, uses-here, HeadThree, head-here, WholeThree, whole-here}
 use Rattle.parts.specs.Content.{Fine, bytesIn}
-use Rattle.contents.specs.Write.{Writes, ReadyThree, Writable}
-use Rattle.contents.proofs.Emitting.{fine-first, fine-second, bytes-both, scope-same, recalled-same}
+use Rattle.section_entries.specs.Write.{Writes, ReadyThree, Writable}
+use Rattle.section_entries.proofs.Emitting.{fine-first, fine-second, bytes-both, scope-same, recalled-same}
 
 -- ## Uses
 

@@ -1,7 +1,7 @@
-use Rattle.contents.proofs.Emitting.{ready-first, ready-still, three-put}
+use Rattle.section_entries.proofs.Emitting.{ready-first, ready-still, three-put}
 use borrow.Author.Needs.{needs}
-use Rattle.contents.proofs.contents.emit_three.Statement.{statement}
-use Rattle.contents.proofs.contents.emit_three.Tie as tie
+use Rattle.section_entries.proofs.contents.emit_three.Statement.{statement}
+use Rattle.section_entries.proofs.contents.emit_three.Tie as tie
 
 emit-in-requires : tie.Need-emit-in-requires
 emit-in-requires c κs = search ready-first
