@@ -54,10 +54,18 @@ fn operand_to(to: Refers, x: Index) -> Operand
     ensures { λ r. ⌜ r ≡ operandTo to x ⌝ }
 {
     match to {
-        Refers::Label => Operand::Label(x),
-        Refers::Local => Operand::Local(x),
-        Refers::Func => Operand::Item(Space::Funcs, x),
-        Refers::Global => Operand::Item(Space::Globals, x),
+        Refers::Label => {
+            return Operand::Label(x);
+        }
+        Refers::Local => {
+            return Operand::Local(x);
+        }
+        Refers::Func => {
+            return Operand::Item(Space::Funcs, x);
+        }
+        Refers::Global => {
+            return Operand::Item(Space::Globals, x);
+        }
     }
 }
 
@@ -68,9 +76,11 @@ fn index_plain(s: &[u8], at: usize, opcode: u8, to: Refers) -> PlainAt
     match token::read_present(s, at) {
         IndexAt::Got(x, next) => {
             let operand = operand_to(to, x);
-            PlainAt::Got(Plain { opcode, operand }, next)
+            return PlainAt::Got(Plain { opcode, operand }, next);
         }
-        IndexAt::Fault(e) => PlainAt::Fault(e),
+        IndexAt::Fault(e) => {
+            return PlainAt::Fault(e);
+        }
     }
 }
 
@@ -79,16 +89,22 @@ fn labels_plain(s: &[u8], at: usize, opcode: u8) -> PlainAt
 {
     match typeuse::read_list(s, at, 1024, Elem::Index) {
         ListAt::Got(xs, a) => match token::read_present(s, a) {
-            IndexAt::Got(x, b) => PlainAt::Got(
-                Plain {
-                    opcode,
-                    operand: Operand::Labels(xs, x),
-                },
-                b,
-            ),
-            IndexAt::Fault(e) => PlainAt::Fault(e),
+            IndexAt::Got(x, b) => {
+                return PlainAt::Got(
+                    Plain {
+                        opcode,
+                        operand: Operand::Labels(xs, x),
+                    },
+                    b,
+                );
+            }
+            IndexAt::Fault(e) => {
+                return PlainAt::Fault(e);
+            }
         },
-        ListAt::Fault(e) => PlainAt::Fault(e),
+        ListAt::Fault(e) => {
+            return PlainAt::Fault(e);
+        }
     }
 }
 
@@ -96,14 +112,18 @@ fn mem_plain(s: &[u8], at: usize, opcode: u8) -> PlainAt
     ensures { λ r. ⌜ Instructions.plainOf opcode Instructions.memidx (now (s .entry)) at ≡ plainAt (now (s .entry)) r ⌝ }
 {
     match token::read_optional(s, at) {
-        IndexAt::Got(x, next) => PlainAt::Got(
-            Plain {
-                opcode,
-                operand: Operand::Item(Space::Mems, x),
-            },
-            next,
-        ),
-        IndexAt::Fault(e) => PlainAt::Fault(e),
+        IndexAt::Got(x, next) => {
+            return PlainAt::Got(
+                Plain {
+                    opcode,
+                    operand: Operand::Item(Space::Mems, x),
+                },
+                next,
+            );
+        }
+        IndexAt::Fault(e) => {
+            return PlainAt::Fault(e);
+        }
     }
 }
 
@@ -139,12 +159,13 @@ fn alignment(s: &[u8], at: usize) -> ByteAt
     match token::read_byte(s, at) {
         ByteAt::Got(b, next) => {
             if b <= 32 {
-                ByteAt::Got(b, next)
-            } else {
-                ByteAt::Fault(4)
+                return ByteAt::Got(b, next);
             }
+            return ByteAt::Fault(4);
         }
-        ByteAt::Fault(e) => ByteAt::Fault(e),
+        ByteAt::Fault(e) => {
+            return ByteAt::Fault(e);
+        }
     }
 }
 
@@ -156,19 +177,25 @@ fn access_plain(s: &[u8], at: usize, opcode: u8) -> PlainAt
             U32::Got(offset, c) => match token::read_optional(s, c) {
                 IndexAt::Got(x, d) => {
                     let e = exponent(opcode, b);
-                    PlainAt::Got(
+                    return PlainAt::Got(
                         Plain {
                             opcode,
                             operand: Operand::Access(e, offset, x),
                         },
                         d,
-                    )
+                    );
                 }
-                IndexAt::Fault(e) => PlainAt::Fault(e),
+                IndexAt::Fault(e) => {
+                    return PlainAt::Fault(e);
+                }
             },
-            U32::Fault(e) => PlainAt::Fault(e),
+            U32::Fault(e) => {
+                return PlainAt::Fault(e);
+            }
         },
-        ByteAt::Fault(e) => PlainAt::Fault(e),
+        ByteAt::Fault(e) => {
+            return PlainAt::Fault(e);
+        }
     }
 }
 
@@ -176,14 +203,18 @@ fn i32_plain(s: &[u8], at: usize, opcode: u8) -> PlainAt
     ensures { λ r. ⌜ Instructions.plainOf opcode Instructions.i32 (now (s .entry)) at ≡ plainAt (now (s .entry)) r ⌝ }
 {
     match leb::read_u32(s, at) {
-        U32::Got(n, next) => PlainAt::Got(
-            Plain {
-                opcode,
-                operand: Operand::Int32(n),
-            },
-            next,
-        ),
-        U32::Fault(e) => PlainAt::Fault(e),
+        U32::Got(n, next) => {
+            return PlainAt::Got(
+                Plain {
+                    opcode,
+                    operand: Operand::Int32(n),
+                },
+                next,
+            );
+        }
+        U32::Fault(e) => {
+            return PlainAt::Fault(e);
+        }
     }
 }
 
@@ -191,14 +222,18 @@ fn i64_plain(s: &[u8], at: usize, opcode: u8) -> PlainAt
     ensures { λ r. ⌜ Instructions.plainOf opcode Instructions.i64 (now (s .entry)) at ≡ plainAt (now (s .entry)) r ⌝ }
 {
     match leb::read_u64(s, at) {
-        U64::Got(n, next) => PlainAt::Got(
-            Plain {
-                opcode,
-                operand: Operand::Int64(n),
-            },
-            next,
-        ),
-        U64::Fault(e) => PlainAt::Fault(e),
+        U64::Got(n, next) => {
+            return PlainAt::Got(
+                Plain {
+                    opcode,
+                    operand: Operand::Int64(n),
+                },
+                next,
+            );
+        }
+        U64::Fault(e) => {
+            return PlainAt::Fault(e);
+        }
     }
 }
 
@@ -207,14 +242,18 @@ fn raw_plain(s: &[u8], at: usize, opcode: u8, len: u32) -> PlainAt
     ensures { λ r. ⌜ rawOf opcode len (now (s .entry)) at ≡ plainAt (now (s .entry)) r ⌝ }
 {
     match token::read_raw(s, at, len) {
-        PartAt::Got(p, next) => PlainAt::Got(
-            Plain {
-                opcode,
-                operand: Operand::Raw(p),
-            },
-            next,
-        ),
-        PartAt::Fault(e) => PlainAt::Fault(e),
+        PartAt::Got(p, next) => {
+            return PlainAt::Got(
+                Plain {
+                    opcode,
+                    operand: Operand::Raw(p),
+                },
+                next,
+            );
+        }
+        PartAt::Fault(e) => {
+            return PlainAt::Fault(e);
+        }
     }
 }
 
@@ -222,14 +261,18 @@ fn heap_plain(s: &[u8], at: usize, opcode: u8) -> PlainAt
     ensures { λ r. ⌜ Instructions.plainOf opcode Instructions.heaptype (now (s .entry)) at ≡ plainAt (now (s .entry)) r ⌝ }
 {
     match coretypes::ref_type(s, at) {
-        ByteAt::Got(t, next) => PlainAt::Got(
-            Plain {
-                opcode,
-                operand: Operand::Heap(t),
-            },
-            next,
-        ),
-        ByteAt::Fault(e) => PlainAt::Fault(e),
+        ByteAt::Got(t, next) => {
+            return PlainAt::Got(
+                Plain {
+                    opcode,
+                    operand: Operand::Heap(t),
+                },
+                next,
+            );
+        }
+        ByteAt::Fault(e) => {
+            return PlainAt::Fault(e);
+        }
     }
 }
 
@@ -303,8 +346,10 @@ pub fn read_const(s: &[u8], at: usize) -> PlainAt
             if b == 6 {
                 return index_plain(s, next, 0xD2, Refers::Func);
             }
-            PlainAt::Fault(4)
+            return PlainAt::Fault(4);
         }
-        ByteAt::Fault(e) => PlainAt::Fault(e),
+        ByteAt::Fault(e) => {
+            return PlainAt::Fault(e);
+        }
     }
 }

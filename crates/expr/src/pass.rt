@@ -16,8 +16,12 @@ fn pass_labels(s: &[u8], at: usize) -> Skip
     ensures { λ r. ⌜ stops (Instructions.plainOf 0 Instructions.labelidxs (now (s .entry)) at) ≡ skip r ⌝ }
 {
     match typeuse::read_list(s, at, 1024, Elem::Index) {
-        ListAt::Got(_, next) => token::pass_present(s, next),
-        ListAt::Fault(e) => Skip::Fault(e),
+        ListAt::Got(_, next) => {
+            return token::pass_present(s, next);
+        }
+        ListAt::Fault(e) => {
+            return Skip::Fault(e);
+        }
     }
 }
 
@@ -27,10 +31,16 @@ fn pass_access(s: &[u8], at: usize) -> Skip
 {
     match crate::alignment(s, at) {
         ByteAt::Got(_, a) => match token::pass_u32(s, a) {
-            Skip::Past(c) => token::pass_optional(s, c),
-            Skip::Fault(e) => Skip::Fault(e),
+            Skip::Past(c) => {
+                return token::pass_optional(s, c);
+            }
+            Skip::Fault(e) => {
+                return Skip::Fault(e);
+            }
         },
-        ByteAt::Fault(e) => Skip::Fault(e),
+        ByteAt::Fault(e) => {
+            return Skip::Fault(e);
+        }
     }
 }
 
@@ -38,8 +48,12 @@ fn pass_u64(s: &[u8], at: usize) -> Skip
     ensures { λ r. ⌜ stops (Token.u64 (now (s .entry)) at) ≡ skip r ⌝ }
 {
     match leb::read_u64(s, at) {
-        U64::Got(_, next) => Skip::Past(next),
-        U64::Fault(e) => Skip::Fault(e),
+        U64::Got(_, next) => {
+            return Skip::Past(next);
+        }
+        U64::Fault(e) => {
+            return Skip::Fault(e);
+        }
     }
 }
 
@@ -47,8 +61,12 @@ fn pass_heap(s: &[u8], at: usize) -> Skip
     ensures { λ r. ⌜ stops (Token.refType (now (s .entry)) at) ≡ skip r ⌝ }
 {
     match coretypes::ref_type(s, at) {
-        ByteAt::Got(_, next) => Skip::Past(next),
-        ByteAt::Fault(e) => Skip::Fault(e),
+        ByteAt::Got(_, next) => {
+            return Skip::Past(next);
+        }
+        ByteAt::Fault(e) => {
+            return Skip::Fault(e);
+        }
     }
 }
 

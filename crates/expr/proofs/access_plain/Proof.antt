@@ -28,26 +28,26 @@ enum-known-x c = search needs
 exponent-requires : tie.Need-exponent-requires
 exponent-requires c κs = search needs
 
-enum-known-e : tie.Need-enum-known-e
-enum-known-e c = search needs
-
-enum-known-e-2 : tie.Need-enum-known-e-2
-enum-known-e-2 c = search needs
-
-enum-known-e-3 : tie.Need-enum-known-e-3
-enum-known-e-3 c = search needs
-
 returns : tie.Need-returns
 unfolding plainOf
 returns c = search (ways, answers, use-answers, plain-answers, access-got) depth 16
+
+enum-known-e : tie.Need-enum-known-e
+enum-known-e c = search needs
 
 returns-2 : tie.Need-returns-2
 unfolding plainOf
 returns-2 c = search (ways, answers, use-answers, plain-answers, access-got) depth 16
 
+enum-known-e-2 : tie.Need-enum-known-e-2
+enum-known-e-2 c = search needs
+
 returns-3 : tie.Need-returns-3
 unfolding plainOf
 returns-3 c = search (ways, answers, use-answers, plain-answers, access-got) depth 16
+
+enum-known-e-3 : tie.Need-enum-known-e-3
+enum-known-e-3 c = search needs
 
 returns-4 : tie.Need-returns-4
 unfolding plainOf
@@ -64,10 +64,10 @@ access-plain-spec =
     read-optional-requires
     enum-known-x
     exponent-requires
-    enum-known-e
-    enum-known-e-2
-    enum-known-e-3
     returns
+    enum-known-e
     returns-2
+    enum-known-e-2
     returns-3
+    enum-known-e-3
     returns-4)

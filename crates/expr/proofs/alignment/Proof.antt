@@ -13,9 +13,6 @@ read-byte-requires c κs = search needs
 enum-known-b : tie.Need-enum-known-b
 enum-known-b c = search needs
 
-enum-known-e : tie.Need-enum-known-e
-enum-known-e c = search needs
-
 returns : tie.Need-returns
 unfolding alignment
 returns c = search (ways, answers, use-answers, plain-answers) depth 12
@@ -24,10 +21,13 @@ returns-2 : tie.Need-returns-2
 unfolding alignment
 returns-2 c = search (ways, answers, use-answers, plain-answers) depth 12
 
+enum-known-e : tie.Need-enum-known-e
+enum-known-e c = search needs
+
 returns-3 : tie.Need-returns-3
 unfolding alignment
 returns-3 c = search (ways, answers, use-answers, plain-answers) depth 12
 
 pub alignment-spec : {M : Type 1} → statement M
 alignment-spec =
-    tie.close (tie.spec read-byte-requires enum-known-b enum-known-e returns returns-2 returns-3)
+    tie.close (tie.spec read-byte-requires enum-known-b returns returns-2 enum-known-e returns-3)

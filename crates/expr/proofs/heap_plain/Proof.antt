@@ -13,12 +13,12 @@ ref-type-requires c κs = search needs
 enum-known-t : tie.Need-enum-known-t
 enum-known-t c = search needs
 
-enum-known-e : tie.Need-enum-known-e
-enum-known-e c = search needs
-
 returns : tie.Need-returns
 unfolding plainOf
 returns c = search (ways, answers, use-answers, plain-answers) depth 14
+
+enum-known-e : tie.Need-enum-known-e
+enum-known-e c = search needs
 
 returns-2 : tie.Need-returns-2
 unfolding plainOf
@@ -26,4 +26,4 @@ returns-2 c = search (ways, answers, use-answers, plain-answers) depth 14
 
 pub heap-plain-spec : {M : Type 1} → statement M
 heap-plain-spec =
-    tie.close (tie.spec ref-type-requires enum-known-t enum-known-e returns returns-2)
+    tie.close (tie.spec ref-type-requires enum-known-t returns enum-known-e returns-2)

@@ -13,16 +13,16 @@ read-u64-requires c κs = search needs
 enum-known-n : tie.Need-enum-known-n
 enum-known-n c = search needs
 
-enum-known-e : tie.Need-enum-known-e
-enum-known-e c = search needs
-
 returns : tie.Need-returns
 unfolding plainOf
 returns c = search (ways, answers, use-answers, plain-answers) depth 14
+
+enum-known-e : tie.Need-enum-known-e
+enum-known-e c = search needs
 
 returns-2 : tie.Need-returns-2
 unfolding plainOf
 returns-2 c = search (ways, answers, use-answers, plain-answers) depth 14
 
 pub i64-plain-spec : {M : Type 1} → statement M
-i64-plain-spec = tie.close (tie.spec read-u64-requires enum-known-n enum-known-e returns returns-2)
+i64-plain-spec = tie.close (tie.spec read-u64-requires enum-known-n returns enum-known-e returns-2)

@@ -16,12 +16,12 @@ enum-known-x c = search needs
 operand-to-requires : tie.Need-operand-to-requires
 operand-to-requires c κs = search needs
 
-enum-known-e : tie.Need-enum-known-e
-enum-known-e c = search needs
-
 returns : tie.Need-returns
 unfolding indexed
 returns c = search (ways, answers, use-answers, plain-answers, index-operand) depth 14
+
+enum-known-e : tie.Need-enum-known-e
+enum-known-e c = search needs
 
 returns-2 : tie.Need-returns-2
 unfolding indexed
@@ -34,6 +34,6 @@ index-plain-spec =
     read-present-requires
     enum-known-x
     operand-to-requires
-    enum-known-e
     returns
+    enum-known-e
     returns-2)

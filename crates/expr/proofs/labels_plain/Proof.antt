@@ -19,19 +19,19 @@ read-present-requires c κs = search needs
 enum-known-x : tie.Need-enum-known-x
 enum-known-x c = search needs
 
-enum-known-e : tie.Need-enum-known-e
-enum-known-e c = search needs
-
-enum-known-e-2 : tie.Need-enum-known-e-2
-enum-known-e-2 c = search needs
-
 returns : tie.Need-returns
 unfolding plainOf
 returns c = search (ways, answers, use-answers, plain-answers) depth 14
 
+enum-known-e : tie.Need-enum-known-e
+enum-known-e c = search needs
+
 returns-2 : tie.Need-returns-2
 unfolding plainOf
 returns-2 c = search (ways, answers, use-answers, plain-answers) depth 14
+
+enum-known-e-2 : tie.Need-enum-known-e-2
+enum-known-e-2 c = search needs
 
 returns-3 : tie.Need-returns-3
 unfolding plainOf
@@ -45,8 +45,8 @@ labels-plain-spec =
     enum-known-xs
     read-present-requires
     enum-known-x
-    enum-known-e
-    enum-known-e-2
     returns
+    enum-known-e
     returns-2
+    enum-known-e-2
     returns-3)

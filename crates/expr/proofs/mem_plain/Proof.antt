@@ -13,12 +13,12 @@ read-optional-requires c κs = search needs
 enum-known-x : tie.Need-enum-known-x
 enum-known-x c = search needs
 
-enum-known-e : tie.Need-enum-known-e
-enum-known-e c = search needs
-
 returns : tie.Need-returns
 unfolding plainOf
 returns c = search (ways, answers, use-answers, plain-answers) depth 14
+
+enum-known-e : tie.Need-enum-known-e
+enum-known-e c = search needs
 
 returns-2 : tie.Need-returns-2
 unfolding plainOf
@@ -26,4 +26,4 @@ returns-2 c = search (ways, answers, use-answers, plain-answers) depth 14
 
 pub mem-plain-spec : {M : Type 1} → statement M
 mem-plain-spec =
-    tie.close (tie.spec read-optional-requires enum-known-x enum-known-e returns returns-2)
+    tie.close (tie.spec read-optional-requires enum-known-x returns enum-known-e returns-2)

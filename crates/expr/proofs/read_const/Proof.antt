@@ -62,12 +62,12 @@ returns-7 : tie.Need-returns-7
 unfolding constant
 returns-7 c = search (ways, answers, use-answers, plain-answers, four-raw, eight-raw, index-forms) depth 14
 
-enum-known-e : tie.Need-enum-known-e
-enum-known-e c = search needs
-
 returns-8 : tie.Need-returns-8
 unfolding constant
 returns-8 c = search (ways, answers, use-answers, plain-answers, four-raw, eight-raw, index-forms) depth 14
+
+enum-known-e : tie.Need-enum-known-e
+enum-known-e c = search needs
 
 returns-9 : tie.Need-returns-9
 unfolding constant
@@ -93,6 +93,6 @@ read-const-spec =
     returns-6
     index-plain-requires-2
     returns-7
-    enum-known-e
     returns-8
+    enum-known-e
     returns-9)

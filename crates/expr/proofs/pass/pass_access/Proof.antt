@@ -18,17 +18,17 @@ enum-known-c c = search needs
 pass-optional-requires : tie.Need-pass-optional-requires
 pass-optional-requires c κs = search needs
 
-enum-known-e : tie.Need-enum-known-e
-enum-known-e c = search needs
-
-enum-known-e-2 : tie.Need-enum-known-e-2
-enum-known-e-2 c = search needs
-
 returns : tie.Need-returns
 returns c = search operands-passed depth 6
 
+enum-known-e : tie.Need-enum-known-e
+enum-known-e c = search needs
+
 returns-2 : tie.Need-returns-2
 returns-2 c = search operands-passed depth 6
+
+enum-known-e-2 : tie.Need-enum-known-e-2
+enum-known-e-2 c = search needs
 
 returns-3 : tie.Need-returns-3
 returns-3 c = search operands-passed depth 6
@@ -42,8 +42,8 @@ pass-access-spec =
     pass-u32-requires
     enum-known-c
     pass-optional-requires
-    enum-known-e
-    enum-known-e-2
     returns
+    enum-known-e
     returns-2
+    enum-known-e-2
     returns-3)

@@ -9,15 +9,15 @@ ref-type-requires c κs = search needs
 enum-known-next : tie.Need-enum-known-next
 enum-known-next c = search needs
 
-enum-known-e : tie.Need-enum-known-e
-enum-known-e c = search needs
-
 returns : tie.Need-returns
 returns c = search (byte-past, byte-stops)
+
+enum-known-e : tie.Need-enum-known-e
+enum-known-e c = search needs
 
 returns-2 : tie.Need-returns-2
 returns-2 c = search (byte-past, byte-stops)
 
 pub pass-heap-spec : {M : Type 1} → statement M
 pass-heap-spec =
-    tie.close (tie.spec ref-type-requires enum-known-next enum-known-e returns returns-2)
+    tie.close (tie.spec ref-type-requires enum-known-next returns enum-known-e returns-2)

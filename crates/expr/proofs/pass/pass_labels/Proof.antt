@@ -12,11 +12,11 @@ enum-known-next c = search needs
 pass-present-requires : tie.Need-pass-present-requires
 pass-present-requires c κs = search needs
 
-enum-known-e : tie.Need-enum-known-e
-enum-known-e c = search needs
-
 returns : tie.Need-returns
 returns c = search operands-passed depth 6
+
+enum-known-e : tie.Need-enum-known-e
+enum-known-e c = search needs
 
 returns-2 : tie.Need-returns-2
 returns-2 c = search operands-passed depth 6
@@ -28,6 +28,6 @@ pass-labels-spec =
     read-list-requires
     enum-known-next
     pass-present-requires
-    enum-known-e
     returns
+    enum-known-e
     returns-2)
