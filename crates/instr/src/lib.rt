@@ -151,10 +151,16 @@ fn opens(s: &[u8], at: usize, opcode: u8, k: u32) -> InstrAt
     }
     match token::read_identifier(s, at) {
         PartAt::Got(label, a) => match typeuse::read_type_use(s, a) {
-            UseAt::Got(t, b) => InstrAt::Got(Instr::Opens(opcode, label, t), b),
-            UseAt::Fault(e) => InstrAt::Fault(e),
+            UseAt::Got(t, b) => {
+                return InstrAt::Got(Instr::Opens(opcode, label, t), b);
+            }
+            UseAt::Fault(e) => {
+                return InstrAt::Fault(e);
+            }
         },
-        PartAt::Fault(e) => InstrAt::Fault(e),
+        PartAt::Fault(e) => {
+            return InstrAt::Fault(e);
+        }
     }
 }
 
@@ -165,8 +171,12 @@ fn elses(s: &[u8], at: usize, opcode: u8, k: u32) -> InstrAt
         return InstrAt::Fault(8);
     }
     match token::read_identifier(s, at) {
-        PartAt::Got(label, next) => InstrAt::Got(Instr::Elses(label), next),
-        PartAt::Fault(e) => InstrAt::Fault(e),
+        PartAt::Got(label, next) => {
+            return InstrAt::Got(Instr::Elses(label), next);
+        }
+        PartAt::Fault(e) => {
+            return InstrAt::Fault(e);
+        }
     }
 }
 
@@ -177,8 +187,12 @@ fn ends(s: &[u8], at: usize, opcode: u8, k: u32) -> InstrAt
         return InstrAt::Fault(8);
     }
     match token::read_identifier(s, at) {
-        PartAt::Got(label, next) => InstrAt::Got(Instr::Ends(label), next),
-        PartAt::Fault(e) => InstrAt::Fault(e),
+        PartAt::Got(label, next) => {
+            return InstrAt::Got(Instr::Ends(label), next);
+        }
+        PartAt::Fault(e) => {
+            return InstrAt::Fault(e);
+        }
     }
 }
 
@@ -187,10 +201,16 @@ fn indirect(s: &[u8], at: usize, opcode: u8, k: u32) -> InstrAt
 {
     match token::read_optional(s, at) {
         IndexAt::Got(x, a) => match typeuse::read_type_use(s, a) {
-            UseAt::Got(t, b) => InstrAt::Got(Instr::Indirect(x, t), b),
-            UseAt::Fault(e) => InstrAt::Fault(e),
+            UseAt::Got(t, b) => {
+                return InstrAt::Got(Instr::Indirect(x, t), b);
+            }
+            UseAt::Fault(e) => {
+                return InstrAt::Fault(e);
+            }
         },
-        IndexAt::Fault(e) => InstrAt::Fault(e),
+        IndexAt::Fault(e) => {
+            return InstrAt::Fault(e);
+        }
     }
 }
 
@@ -199,14 +219,28 @@ fn formed(s: &[u8], at: usize, opcode: u8, k: u32) -> InstrAt
     ensures { λ r. ⌜ Instructions.formed k opcode (Instructions.formOf opcode) (now (s .entry)) at ≡ instrAt (now (s .entry)) r ⌝ }
 {
     match opcode_form(opcode) {
-        Form::NoOpcode => InstrAt::Fault(4),
-        Form::Opening => opens(s, at, opcode, k),
-        Form::Elsing => elses(s, at, opcode, k),
-        Form::Ending => ends(s, at, opcode, k),
-        Form::Calling => indirect(s, at, opcode, k),
+        Form::NoOpcode => {
+            return InstrAt::Fault(4);
+        }
+        Form::Opening => {
+            return opens(s, at, opcode, k);
+        }
+        Form::Elsing => {
+            return elses(s, at, opcode, k);
+        }
+        Form::Ending => {
+            return ends(s, at, opcode, k);
+        }
+        Form::Calling => {
+            return indirect(s, at, opcode, k);
+        }
         Form::Operands(what) => match expr::read_plain(s, at, opcode, what) {
-            PlainAt::Got(p, next) => InstrAt::Got(Instr::Plain(p), next),
-            PlainAt::Fault(e) => InstrAt::Fault(e),
+            PlainAt::Got(p, next) => {
+                return InstrAt::Got(Instr::Plain(p), next);
+            }
+            PlainAt::Fault(e) => {
+                return InstrAt::Fault(e);
+            }
         },
     }
 }
@@ -231,10 +265,16 @@ pub fn read_body(s: &[u8], at: usize, k: u32) -> BodyAt
                 return BodyAt::Fault(8);
             }
             match formed(s, a, b, k) {
-                InstrAt::Got(i, next) => BodyAt::Got(i, next),
-                InstrAt::Fault(e) => BodyAt::Fault(e),
+                InstrAt::Got(i, next) => {
+                    return BodyAt::Got(i, next);
+                }
+                InstrAt::Fault(e) => {
+                    return BodyAt::Fault(e);
+                }
             }
         }
-        ByteAt::Fault(e) => BodyAt::Fault(e),
+        ByteAt::Fault(e) => {
+            return BodyAt::Fault(e);
+        }
     }
 }

@@ -14,11 +14,19 @@ opcode-form-requires c κs = search needs
 enum-told : tie.Need-enum-told
 enum-told c = search needs
 
+returns : tie.Need-returns
+unfolding instruction
+returns c = search (form-is, ways, answers, use-answers, plain-answers, instr-answers) depth 10
+
 enum-told-2 : tie.Need-enum-told-2
 enum-told-2 c = search needs
 
 opens-requires : tie.Need-opens-requires
 opens-requires c κs = search needs
+
+returns-2 : tie.Need-returns-2
+unfolding instruction
+returns-2 c = search (form-is, ways, answers, use-answers, plain-answers, instr-answers) depth 10
 
 enum-told-3 : tie.Need-enum-told-3
 enum-told-3 c = search needs
@@ -26,17 +34,29 @@ enum-told-3 c = search needs
 elses-requires : tie.Need-elses-requires
 elses-requires c κs = search needs
 
+returns-3 : tie.Need-returns-3
+unfolding instruction
+returns-3 c = search (form-is, ways, answers, use-answers, plain-answers, instr-answers) depth 10
+
 enum-told-4 : tie.Need-enum-told-4
 enum-told-4 c = search needs
 
 ends-requires : tie.Need-ends-requires
 ends-requires c κs = search needs
 
+returns-4 : tie.Need-returns-4
+unfolding instruction
+returns-4 c = search (form-is, ways, answers, use-answers, plain-answers, instr-answers) depth 10
+
 enum-told-5 : tie.Need-enum-told-5
 enum-told-5 c = search needs
 
 indirect-requires : tie.Need-indirect-requires
 indirect-requires c κs = search needs
+
+returns-5 : tie.Need-returns-5
+unfolding instruction
+returns-5 c = search (form-is, ways, answers, use-answers, plain-answers, instr-answers) depth 10
 
 enum-known-what : tie.Need-enum-known-what
 enum-known-what c = search needs
@@ -47,32 +67,12 @@ read-plain-requires c κs = search needs
 enum-known-p : tie.Need-enum-known-p
 enum-known-p c = search needs
 
-enum-known-e : tie.Need-enum-known-e
-enum-known-e c = search needs
-
-returns : tie.Need-returns
-unfolding instruction
-returns c = search (form-is, ways, answers, use-answers, plain-answers, instr-answers) depth 10
-
-returns-2 : tie.Need-returns-2
-unfolding instruction
-returns-2 c = search (form-is, ways, answers, use-answers, plain-answers, instr-answers) depth 10
-
-returns-3 : tie.Need-returns-3
-unfolding instruction
-returns-3 c = search (form-is, ways, answers, use-answers, plain-answers, instr-answers) depth 10
-
-returns-4 : tie.Need-returns-4
-unfolding instruction
-returns-4 c = search (form-is, ways, answers, use-answers, plain-answers, instr-answers) depth 10
-
-returns-5 : tie.Need-returns-5
-unfolding instruction
-returns-5 c = search (form-is, ways, answers, use-answers, plain-answers, instr-answers) depth 10
-
 returns-6 : tie.Need-returns-6
 unfolding instruction
 returns-6 c = search (form-is, ways, answers, use-answers, plain-answers, instr-answers) depth 10
+
+enum-known-e : tie.Need-enum-known-e
+enum-known-e c = search needs
 
 returns-7 : tie.Need-returns-7
 unfolding instruction
@@ -80,26 +80,4 @@ returns-7 c = search (form-is, ways, answers, use-answers, plain-answers, instr-
 
 pub formed-spec : {M : Type 1} → statement M
 formed-spec =
-    tie.close
-    (tie.spec
-    opcode-form-requires
-    enum-told
-    enum-told-2
-    opens-requires
-    enum-told-3
-    elses-requires
-    enum-told-4
-    ends-requires
-    enum-told-5
-    indirect-requires
-    enum-known-what
-    read-plain-requires
-    enum-known-p
-    enum-known-e
-    returns
-    returns-2
-    returns-3
-    returns-4
-    returns-5
-    returns-6
-    returns-7)
+    tie.close (tie.spec opcode-form-requires enum-told returns enum-told-2 opens-requires returns-2 enum-told-3 elses-requires returns-3 enum-told-4 ends-requires returns-4 enum-told-5 indirect-requires returns-5 enum-known-what read-plain-requires enum-known-p returns-6 enum-known-e returns-7)

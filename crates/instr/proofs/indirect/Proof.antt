@@ -20,19 +20,19 @@ read-type-use-requires c κs = search needs
 enum-known-t : tie.Need-enum-known-t
 enum-known-t c = search needs
 
-enum-known-e : tie.Need-enum-known-e
-enum-known-e c = search needs
-
-enum-known-e-2 : tie.Need-enum-known-e-2
-enum-known-e-2 c = search needs
-
 returns : tie.Need-returns
 unfolding instruction
 returns c = search (ways, answers, use-answers, plain-answers, instr-answers) depth 14
 
+enum-known-e : tie.Need-enum-known-e
+enum-known-e c = search needs
+
 returns-2 : tie.Need-returns-2
 unfolding instruction
 returns-2 c = search (ways, answers, use-answers, plain-answers, instr-answers) depth 14
+
+enum-known-e-2 : tie.Need-enum-known-e-2
+enum-known-e-2 c = search needs
 
 returns-3 : tie.Need-returns-3
 unfolding instruction
@@ -40,14 +40,4 @@ returns-3 c = search (ways, answers, use-answers, plain-answers, instr-answers) 
 
 pub indirect-spec : {M : Type 1} → statement M
 indirect-spec =
-    tie.close
-    (tie.spec
-    read-optional-requires
-    enum-known-x
-    read-type-use-requires
-    enum-known-t
-    enum-known-e
-    enum-known-e-2
-    returns
-    returns-2
-    returns-3)
+    tie.close (tie.spec read-optional-requires enum-known-x read-type-use-requires enum-known-t returns enum-known-e returns-2 enum-known-e-2 returns-3)

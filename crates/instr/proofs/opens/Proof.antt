@@ -24,19 +24,19 @@ read-type-use-requires c κs = search needs
 enum-known-t : tie.Need-enum-known-t
 enum-known-t c = search needs
 
-enum-known-e : tie.Need-enum-known-e
-enum-known-e c = search needs
-
-enum-known-e-2 : tie.Need-enum-known-e-2
-enum-known-e-2 c = search needs
-
 returns-2 : tie.Need-returns-2
 unfolding instruction
 returns-2 c = search (ways, answers, use-answers, plain-answers, instr-answers) depth 14
 
+enum-known-e : tie.Need-enum-known-e
+enum-known-e c = search needs
+
 returns-3 : tie.Need-returns-3
 unfolding instruction
 returns-3 c = search (ways, answers, use-answers, plain-answers, instr-answers) depth 14
+
+enum-known-e-2 : tie.Need-enum-known-e-2
+enum-known-e-2 c = search needs
 
 returns-4 : tie.Need-returns-4
 unfolding instruction
@@ -44,15 +44,4 @@ returns-4 c = search (ways, answers, use-answers, plain-answers, instr-answers) 
 
 pub opens-spec : {M : Type 1} → statement M
 opens-spec =
-    tie.close
-    (tie.spec
-    returns
-    read-identifier-requires
-    enum-known-label
-    read-type-use-requires
-    enum-known-t
-    enum-known-e
-    enum-known-e-2
-    returns-2
-    returns-3
-    returns-4)
+    tie.close (tie.spec returns read-identifier-requires enum-known-label read-type-use-requires enum-known-t returns-2 enum-known-e returns-3 enum-known-e-2 returns-4)

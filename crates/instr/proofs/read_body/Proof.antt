@@ -28,19 +28,19 @@ formed-requires c κs = search needs
 enum-known-i : tie.Need-enum-known-i
 enum-known-i c = search needs
 
-enum-known-e : tie.Need-enum-known-e
-enum-known-e c = search needs
-
-enum-known-e-2 : tie.Need-enum-known-e-2
-enum-known-e-2 c = search needs
-
 returns-3 : tie.Need-returns-3
 unfolding bodyRec
 returns-3 c = search (ways, answers, use-answers, plain-answers, instr-answers) depth 12
 
+enum-known-e : tie.Need-enum-known-e
+enum-known-e c = search needs
+
 returns-4 : tie.Need-returns-4
 unfolding bodyRec
 returns-4 c = search (ways, answers, use-answers, plain-answers, instr-answers) depth 12
+
+enum-known-e-2 : tie.Need-enum-known-e-2
+enum-known-e-2 c = search needs
 
 returns-5 : tie.Need-returns-5
 unfolding bodyRec
@@ -48,16 +48,4 @@ returns-5 c = search (ways, answers, use-answers, plain-answers, instr-answers) 
 
 pub read-body-spec : {M : Type 1} → statement M
 read-body-spec =
-    tie.close
-    (tie.spec
-    read-byte-requires
-    enum-known-b
-    returns
-    returns-2
-    formed-requires
-    enum-known-i
-    enum-known-e
-    enum-known-e-2
-    returns-3
-    returns-4
-    returns-5)
+    tie.close (tie.spec read-byte-requires enum-known-b returns returns-2 formed-requires enum-known-i returns-3 enum-known-e returns-4 enum-known-e-2 returns-5)
