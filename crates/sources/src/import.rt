@@ -29,10 +29,16 @@ pub fn read_import_name(s: &[u8], at: usize) -> NameAt
 {
     match token::read_string(s, at) {
         PartAt::Got(module, a) => match token::read_string(s, a) {
-            PartAt::Got(item, b) => NameAt::Got(ImportName { module, item }, b),
-            PartAt::Fault(e) => NameAt::Fault(e),
+            PartAt::Got(item, b) => {
+                return NameAt::Got(ImportName { module, item }, b);
+            }
+            PartAt::Fault(e) => {
+                return NameAt::Fault(e);
+            }
         },
-        PartAt::Fault(e) => NameAt::Fault(e),
+        PartAt::Fault(e) => {
+            return NameAt::Fault(e);
+        }
     }
 }
 
@@ -60,8 +66,12 @@ fn func_extern(s: &[u8], at: usize) -> ExternAt
     ensures { λ r. ⌜ Records.funcExtern (now (s .entry)) at ≡ externAt (now (s .entry)) r ⌝ }
 {
     match typeuse::read_type_use(s, at) {
-        UseAt::Got(t, next) => ExternAt::Got(Extern::Func(t), next),
-        UseAt::Fault(e) => ExternAt::Fault(e),
+        UseAt::Got(t, next) => {
+            return ExternAt::Got(Extern::Func(t), next);
+        }
+        UseAt::Fault(e) => {
+            return ExternAt::Fault(e);
+        }
     }
 }
 
@@ -69,8 +79,12 @@ fn table_extern(s: &[u8], at: usize) -> ExternAt
     ensures { λ r. ⌜ Records.tableExtern (now (s .entry)) at ≡ externAt (now (s .entry)) r ⌝ }
 {
     match coretypes::read_table_type(s, at) {
-        TableTypeAt::Got(t, next) => ExternAt::Got(Extern::Table(t), next),
-        TableTypeAt::Fault(e) => ExternAt::Fault(e),
+        TableTypeAt::Got(t, next) => {
+            return ExternAt::Got(Extern::Table(t), next);
+        }
+        TableTypeAt::Fault(e) => {
+            return ExternAt::Fault(e);
+        }
     }
 }
 
@@ -78,8 +92,12 @@ fn mem_extern(s: &[u8], at: usize) -> ExternAt
     ensures { λ r. ⌜ Records.memExtern (now (s .entry)) at ≡ externAt (now (s .entry)) r ⌝ }
 {
     match coretypes::read_limits(s, at) {
-        LimitsAt::Got(l, next) => ExternAt::Got(Extern::Mem(l), next),
-        LimitsAt::Fault(e) => ExternAt::Fault(e),
+        LimitsAt::Got(l, next) => {
+            return ExternAt::Got(Extern::Mem(l), next);
+        }
+        LimitsAt::Fault(e) => {
+            return ExternAt::Fault(e);
+        }
     }
 }
 
@@ -87,8 +105,12 @@ fn global_extern(s: &[u8], at: usize) -> ExternAt
     ensures { λ r. ⌜ Records.globalExtern (now (s .entry)) at ≡ externAt (now (s .entry)) r ⌝ }
 {
     match coretypes::read_global_type(s, at) {
-        GlobalTypeAt::Got(t, next) => ExternAt::Got(Extern::Global(t), next),
-        GlobalTypeAt::Fault(e) => ExternAt::Fault(e),
+        GlobalTypeAt::Got(t, next) => {
+            return ExternAt::Got(Extern::Global(t), next);
+        }
+        GlobalTypeAt::Fault(e) => {
+            return ExternAt::Fault(e);
+        }
     }
 }
 
@@ -96,9 +118,17 @@ pub fn read_extern(s: &[u8], at: usize, kind: Kind) -> ExternAt
     ensures { λ r. ⌜ externOf kind (now (s .entry)) at ≡ externAt (now (s .entry)) r ⌝ }
 {
     match kind {
-        Kind::Func => func_extern(s, at),
-        Kind::Table => table_extern(s, at),
-        Kind::Mem => mem_extern(s, at),
-        Kind::Global => global_extern(s, at),
+        Kind::Func => {
+            return func_extern(s, at);
+        }
+        Kind::Table => {
+            return table_extern(s, at);
+        }
+        Kind::Mem => {
+            return mem_extern(s, at);
+        }
+        Kind::Global => {
+            return global_extern(s, at);
+        }
     }
 }

@@ -52,10 +52,16 @@ fn import_form(s: &[u8], at: usize, kind: Kind) -> SourceAt
 {
     match crate::import::read_import_name(s, at) {
         NameAt::Got(n, a) => match crate::import::read_extern(s, a, kind) {
-            ExternAt::Got(x, b) => SourceAt::Got(Source::Imported(n, x), b),
-            ExternAt::Fault(e) => SourceAt::Fault(e),
+            ExternAt::Got(x, b) => {
+                return SourceAt::Got(Source::Imported(n, x), b);
+            }
+            ExternAt::Fault(e) => {
+                return SourceAt::Fault(e);
+            }
         },
-        NameAt::Fault(e) => SourceAt::Fault(e),
+        NameAt::Fault(e) => {
+            return SourceAt::Fault(e);
+        }
     }
 }
 
@@ -64,10 +70,16 @@ fn own_func_form(s: &[u8], at: usize) -> SourceAt
 {
     match typeuse::read_type_use(s, at) {
         UseAt::Got(t, a) => match typeuse::read_list(s, a, 64, Elem::Local) {
-            ListAt::Got(locals, b) => SourceAt::Got(Source::Own(Own::Func(t, locals)), b),
-            ListAt::Fault(e) => SourceAt::Fault(e),
+            ListAt::Got(locals, b) => {
+                return SourceAt::Got(Source::Own(Own::Func(t, locals)), b);
+            }
+            ListAt::Fault(e) => {
+                return SourceAt::Fault(e);
+            }
         },
-        UseAt::Fault(e) => SourceAt::Fault(e),
+        UseAt::Fault(e) => {
+            return SourceAt::Fault(e);
+        }
     }
 }
 
@@ -75,8 +87,12 @@ fn own_table_form(s: &[u8], at: usize) -> SourceAt
     ensures { λ r. ⌜ Records.ownTableForm (now (s .entry)) at ≡ sourceAt (now (s .entry)) r ⌝ }
 {
     match coretypes::read_table_type(s, at) {
-        TableTypeAt::Got(t, next) => SourceAt::Got(Source::Own(Own::Table(t)), next),
-        TableTypeAt::Fault(e) => SourceAt::Fault(e),
+        TableTypeAt::Got(t, next) => {
+            return SourceAt::Got(Source::Own(Own::Table(t)), next);
+        }
+        TableTypeAt::Fault(e) => {
+            return SourceAt::Fault(e);
+        }
     }
 }
 
@@ -84,8 +100,12 @@ fn own_mem_form(s: &[u8], at: usize) -> SourceAt
     ensures { λ r. ⌜ Records.ownMemForm (now (s .entry)) at ≡ sourceAt (now (s .entry)) r ⌝ }
 {
     match coretypes::read_limits(s, at) {
-        LimitsAt::Got(l, next) => SourceAt::Got(Source::Own(Own::Mem(l)), next),
-        LimitsAt::Fault(e) => SourceAt::Fault(e),
+        LimitsAt::Got(l, next) => {
+            return SourceAt::Got(Source::Own(Own::Mem(l)), next);
+        }
+        LimitsAt::Fault(e) => {
+            return SourceAt::Fault(e);
+        }
     }
 }
 
@@ -94,10 +114,16 @@ fn own_global_form(s: &[u8], at: usize) -> SourceAt
 {
     match coretypes::read_global_type(s, at) {
         GlobalTypeAt::Got(t, a) => match expr::read_const(s, a) {
-            PlainAt::Got(c, b) => SourceAt::Got(Source::Own(Own::Global(t, c)), b),
-            PlainAt::Fault(e) => SourceAt::Fault(e),
+            PlainAt::Got(c, b) => {
+                return SourceAt::Got(Source::Own(Own::Global(t, c)), b);
+            }
+            PlainAt::Fault(e) => {
+                return SourceAt::Fault(e);
+            }
         },
-        GlobalTypeAt::Fault(e) => SourceAt::Fault(e),
+        GlobalTypeAt::Fault(e) => {
+            return SourceAt::Fault(e);
+        }
     }
 }
 
@@ -110,10 +136,16 @@ fn inline_table_form(s: &[u8], at: usize, seen: Seen) -> SourceAt
     }
     match coretypes::flag64(s, at) {
         BoolAt::Got(is64, a) => match typeuse::read_list(s, a, 1024, Elem::Index) {
-            ListAt::Got(xs, b) => SourceAt::Got(Source::TableOf(is64, xs), b),
-            ListAt::Fault(e) => SourceAt::Fault(e),
+            ListAt::Got(xs, b) => {
+                return SourceAt::Got(Source::TableOf(is64, xs), b);
+            }
+            ListAt::Fault(e) => {
+                return SourceAt::Fault(e);
+            }
         },
-        BoolAt::Fault(e) => SourceAt::Fault(e),
+        BoolAt::Fault(e) => {
+            return SourceAt::Fault(e);
+        }
     }
 }
 
@@ -126,10 +158,16 @@ fn inline_mem_form(s: &[u8], at: usize, seen: Seen) -> SourceAt
     }
     match coretypes::flag64(s, at) {
         BoolAt::Got(is64, a) => match token::read_data(s, a) {
-            PartAt::Got(p, b) => SourceAt::Got(Source::MemOf(is64, p), b),
-            PartAt::Fault(e) => SourceAt::Fault(e),
+            PartAt::Got(p, b) => {
+                return SourceAt::Got(Source::MemOf(is64, p), b);
+            }
+            PartAt::Fault(e) => {
+                return SourceAt::Fault(e);
+            }
         },
-        BoolAt::Fault(e) => SourceAt::Fault(e),
+        BoolAt::Fault(e) => {
+            return SourceAt::Fault(e);
+        }
     }
 }
 
@@ -144,9 +182,11 @@ fn func_source(s: &[u8], at: usize) -> SourceAt
             if b == 1 {
                 return import_form(s, next, Kind::Func);
             }
-            SourceAt::Fault(4)
+            return SourceAt::Fault(4);
         }
-        ByteAt::Fault(e) => SourceAt::Fault(e),
+        ByteAt::Fault(e) => {
+            return SourceAt::Fault(e);
+        }
     }
 }
 
@@ -164,9 +204,11 @@ fn table_source(s: &[u8], at: usize, seen: Seen) -> SourceAt
             if b == 2 {
                 return inline_table_form(s, next, seen);
             }
-            SourceAt::Fault(4)
+            return SourceAt::Fault(4);
         }
-        ByteAt::Fault(e) => SourceAt::Fault(e),
+        ByteAt::Fault(e) => {
+            return SourceAt::Fault(e);
+        }
     }
 }
 
@@ -184,9 +226,11 @@ fn mem_source(s: &[u8], at: usize, seen: Seen) -> SourceAt
             if b == 2 {
                 return inline_mem_form(s, next, seen);
             }
-            SourceAt::Fault(4)
+            return SourceAt::Fault(4);
         }
-        ByteAt::Fault(e) => SourceAt::Fault(e),
+        ByteAt::Fault(e) => {
+            return SourceAt::Fault(e);
+        }
     }
 }
 
@@ -201,9 +245,11 @@ fn global_source(s: &[u8], at: usize) -> SourceAt
             if b == 1 {
                 return import_form(s, next, Kind::Global);
             }
-            SourceAt::Fault(4)
+            return SourceAt::Fault(4);
         }
-        ByteAt::Fault(e) => SourceAt::Fault(e),
+        ByteAt::Fault(e) => {
+            return SourceAt::Fault(e);
+        }
     }
 }
 
@@ -212,9 +258,17 @@ pub fn read_source(s: &[u8], at: usize, seen: Seen, kind: Kind) -> SourceAt
     ensures { λ r. ⌜ source (formsOf (roomOf seen) kind) (now (s .entry)) at ≡ sourceAt (now (s .entry)) r ⌝ }
 {
     match kind {
-        Kind::Func => func_source(s, at),
-        Kind::Table => table_source(s, at, seen),
-        Kind::Mem => mem_source(s, at, seen),
-        Kind::Global => global_source(s, at),
+        Kind::Func => {
+            return func_source(s, at);
+        }
+        Kind::Table => {
+            return table_source(s, at, seen);
+        }
+        Kind::Mem => {
+            return mem_source(s, at, seen);
+        }
+        Kind::Global => {
+            return global_source(s, at);
+        }
     }
 }

@@ -29,12 +29,12 @@ returns-2 : tie.Need-returns-2
 unfolding source
 returns-2 c = search (ways, answers, type-answers, use-answers, plain-answers, source-answers) depth 12
 
-enum-known-e : tie.Need-enum-known-e
-enum-known-e c = search needs
-
 returns-3 : tie.Need-returns-3
 unfolding source
 returns-3 c = search (ways, answers, type-answers, use-answers, plain-answers, source-answers) depth 12
+
+enum-known-e : tie.Need-enum-known-e
+enum-known-e c = search needs
 
 returns-4 : tie.Need-returns-4
 unfolding source
@@ -42,14 +42,4 @@ returns-4 c = search (ways, answers, type-answers, use-answers, plain-answers, s
 
 pub func-source-spec : {M : Type 1} → statement M
 func-source-spec =
-    tie.close
-    (tie.spec
-    read-byte-requires
-    enum-known-b
-    own-func-form-requires
-    returns
-    import-form-requires
-    returns-2
-    enum-known-e
-    returns-3
-    returns-4)
+    tie.close (tie.spec read-byte-requires enum-known-b own-func-form-requires returns import-form-requires returns-2 returns-3 enum-known-e returns-4)

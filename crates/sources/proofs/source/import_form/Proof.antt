@@ -21,19 +21,19 @@ read-extern-requires c κs = search needs
 enum-known-x : tie.Need-enum-known-x
 enum-known-x c = search needs
 
-enum-known-e : tie.Need-enum-known-e
-enum-known-e c = search needs
-
-enum-known-e-2 : tie.Need-enum-known-e-2
-enum-known-e-2 c = search needs
-
 returns : tie.Need-returns
 unfolding importForm
 returns c = search (ways, answers, type-answers, use-answers, plain-answers, source-answers) depth 12
 
+enum-known-e : tie.Need-enum-known-e
+enum-known-e c = search needs
+
 returns-2 : tie.Need-returns-2
 unfolding importForm
 returns-2 c = search (ways, answers, type-answers, use-answers, plain-answers, source-answers) depth 12
+
+enum-known-e-2 : tie.Need-enum-known-e-2
+enum-known-e-2 c = search needs
 
 returns-3 : tie.Need-returns-3
 unfolding importForm
@@ -41,14 +41,4 @@ returns-3 c = search (ways, answers, type-answers, use-answers, plain-answers, s
 
 pub import-form-spec : {M : Type 1} → statement M
 import-form-spec =
-    tie.close
-    (tie.spec
-    read-import-name-requires
-    enum-known-n
-    read-extern-requires
-    enum-known-x
-    enum-known-e
-    enum-known-e-2
-    returns
-    returns-2
-    returns-3)
+    tie.close (tie.spec read-import-name-requires enum-known-n read-extern-requires enum-known-x returns enum-known-e returns-2 enum-known-e-2 returns-3)

@@ -28,19 +28,19 @@ read-list-requires c κs = search needs
 enum-known-xs : tie.Need-enum-known-xs
 enum-known-xs c = search needs
 
-enum-known-e : tie.Need-enum-known-e
-enum-known-e c = search needs
-
-enum-known-e-2 : tie.Need-enum-known-e-2
-enum-known-e-2 c = search needs
-
 returns-2 : tie.Need-returns-2
 unfolding inlineTableForm
 returns-2 c = search (ways, answers, type-answers, use-answers, plain-answers, source-answers, rooms) depth 12
 
+enum-known-e : tie.Need-enum-known-e
+enum-known-e c = search needs
+
 returns-3 : tie.Need-returns-3
 unfolding inlineTableForm
 returns-3 c = search (ways, answers, type-answers, use-answers, plain-answers, source-answers, rooms) depth 12
+
+enum-known-e-2 : tie.Need-enum-known-e-2
+enum-known-e-2 c = search needs
 
 returns-4 : tie.Need-returns-4
 unfolding inlineTableForm
@@ -48,16 +48,4 @@ returns-4 c = search (ways, answers, type-answers, use-answers, plain-answers, s
 
 pub inline-table-form-spec : {M : Type 1} → statement M
 inline-table-form-spec =
-    tie.close
-    (tie.spec
-    has-room-requires
-    returns
-    flag64-requires
-    enum-known-is64
-    read-list-requires
-    enum-known-xs
-    enum-known-e
-    enum-known-e-2
-    returns-2
-    returns-3
-    returns-4)
+    tie.close (tie.spec has-room-requires returns flag64-requires enum-known-is64 read-list-requires enum-known-xs returns-2 enum-known-e returns-3 enum-known-e-2 returns-4)

@@ -21,19 +21,19 @@ read-list-requires c κs = search needs
 enum-known-locals : tie.Need-enum-known-locals
 enum-known-locals c = search needs
 
-enum-known-e : tie.Need-enum-known-e
-enum-known-e c = search needs
-
-enum-known-e-2 : tie.Need-enum-known-e-2
-enum-known-e-2 c = search needs
-
 returns : tie.Need-returns
 unfolding ownFuncForm
 returns c = search (ways, answers, type-answers, use-answers, plain-answers, source-answers) depth 12
 
+enum-known-e : tie.Need-enum-known-e
+enum-known-e c = search needs
+
 returns-2 : tie.Need-returns-2
 unfolding ownFuncForm
 returns-2 c = search (ways, answers, type-answers, use-answers, plain-answers, source-answers) depth 12
+
+enum-known-e-2 : tie.Need-enum-known-e-2
+enum-known-e-2 c = search needs
 
 returns-3 : tie.Need-returns-3
 unfolding ownFuncForm
@@ -41,14 +41,4 @@ returns-3 c = search (ways, answers, type-answers, use-answers, plain-answers, s
 
 pub own-func-form-spec : {M : Type 1} → statement M
 own-func-form-spec =
-    tie.close
-    (tie.spec
-    read-type-use-requires
-    enum-known-t
-    read-list-requires
-    enum-known-locals
-    enum-known-e
-    enum-known-e-2
-    returns
-    returns-2
-    returns-3)
+    tie.close (tie.spec read-type-use-requires enum-known-t read-list-requires enum-known-locals returns enum-known-e returns-2 enum-known-e-2 returns-3)

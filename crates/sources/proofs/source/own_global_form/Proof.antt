@@ -21,19 +21,19 @@ read-const-requires c κs = search needs
 enum-known-c : tie.Need-enum-known-c
 enum-known-c c = search needs
 
-enum-known-e : tie.Need-enum-known-e
-enum-known-e c = search needs
-
-enum-known-e-2 : tie.Need-enum-known-e-2
-enum-known-e-2 c = search needs
-
 returns : tie.Need-returns
 unfolding ownGlobalForm
 returns c = search (ways, answers, type-answers, use-answers, plain-answers, source-answers) depth 12
 
+enum-known-e : tie.Need-enum-known-e
+enum-known-e c = search needs
+
 returns-2 : tie.Need-returns-2
 unfolding ownGlobalForm
 returns-2 c = search (ways, answers, type-answers, use-answers, plain-answers, source-answers) depth 12
+
+enum-known-e-2 : tie.Need-enum-known-e-2
+enum-known-e-2 c = search needs
 
 returns-3 : tie.Need-returns-3
 unfolding ownGlobalForm
@@ -41,14 +41,4 @@ returns-3 c = search (ways, answers, type-answers, use-answers, plain-answers, s
 
 pub own-global-form-spec : {M : Type 1} → statement M
 own-global-form-spec =
-    tie.close
-    (tie.spec
-    read-global-type-requires
-    enum-known-t
-    read-const-requires
-    enum-known-c
-    enum-known-e
-    enum-known-e-2
-    returns
-    returns-2
-    returns-3)
+    tie.close (tie.spec read-global-type-requires enum-known-t read-const-requires enum-known-c returns enum-known-e returns-2 enum-known-e-2 returns-3)
