@@ -27,8 +27,10 @@ pub fn read_kind(s: &[u8], at: usize) -> SpaceAt
             if b == 3 {
                 return SpaceAt::Got(Space::Globals, next);
             }
-            SpaceAt::Fault(4)
+            return SpaceAt::Fault(4);
         }
-        ByteAt::Fault(e) => SpaceAt::Fault(e),
+        ByteAt::Fault(e) => {
+            return SpaceAt::Fault(e);
+        }
     }
 }

@@ -31,19 +31,27 @@ pub fn read_type(s: &[u8], at: usize, seen: Seen) -> FieldAt
     match token::read_identifier(s, at) {
         PartAt::Got(id, a) => match typeuse::read_list(s, a, 64, Elem::Type) {
             ListAt::Got(params, b) => match typeuse::read_list(s, b, 16, Elem::Type) {
-                ListAt::Got(results, c) => FieldAt::Got(
-                    Field::Type {
-                        id,
-                        params,
-                        results,
-                    },
-                    c,
-                ),
-                ListAt::Fault(e) => FieldAt::Fault(e),
+                ListAt::Got(results, c) => {
+                    return FieldAt::Got(
+                        Field::Type {
+                            id,
+                            params,
+                            results,
+                        },
+                        c,
+                    );
+                }
+                ListAt::Fault(e) => {
+                    return FieldAt::Fault(e);
+                }
             },
-            ListAt::Fault(e) => FieldAt::Fault(e),
+            ListAt::Fault(e) => {
+                return FieldAt::Fault(e);
+            }
         },
-        PartAt::Fault(e) => FieldAt::Fault(e),
+        PartAt::Fault(e) => {
+            return FieldAt::Fault(e);
+        }
     }
 }
 
@@ -56,10 +64,16 @@ fn import_of(s: &[u8], at: usize, seen: Seen, name: ImportName, kind: Kind) -> F
     }
     match token::read_identifier(s, at) {
         PartAt::Got(id, a) => match sources::read_extern(s, a, kind) {
-            ExternAt::Got(what, b) => FieldAt::Got(Field::Import { name, id, what }, b),
-            ExternAt::Fault(e) => FieldAt::Fault(e),
+            ExternAt::Got(what, b) => {
+                return FieldAt::Got(Field::Import { name, id, what }, b);
+            }
+            ExternAt::Fault(e) => {
+                return FieldAt::Fault(e);
+            }
         },
-        PartAt::Fault(e) => FieldAt::Fault(e),
+        PartAt::Fault(e) => {
+            return FieldAt::Fault(e);
+        }
     }
 }
 
@@ -81,11 +95,15 @@ pub fn read_import(s: &[u8], at: usize, seen: Seen) -> FieldAt
                 if b == 3 {
                     return import_of(s, next, seen, name, Kind::Global);
                 }
-                FieldAt::Fault(4)
+                return FieldAt::Fault(4);
             }
-            ByteAt::Fault(e) => FieldAt::Fault(e),
+            ByteAt::Fault(e) => {
+                return FieldAt::Fault(e);
+            }
         },
-        NameAt::Fault(e) => FieldAt::Fault(e),
+        NameAt::Fault(e) => {
+            return FieldAt::Fault(e);
+        }
     }
 }
 
@@ -94,15 +112,19 @@ fn item_of(s: &[u8], at: usize, seen: Seen, kind: Kind, id: Part, exports: List)
     ensures { λ r. ⌜ itemOf (formsOf (roomOf seen) kind) (idOf (now (s .entry)) id) (listOf Token.string (now (s .entry)) exports) (now (s .entry)) at ≡ fieldAt (now (s .entry)) r ⌝ }
 {
     match sources::read_source(s, at, seen, kind) {
-        SourceAt::Got(source, next) => FieldAt::Got(
-            Field::Item {
-                id,
-                exports,
-                source,
-            },
-            next,
-        ),
-        SourceAt::Fault(e) => FieldAt::Fault(e),
+        SourceAt::Got(source, next) => {
+            return FieldAt::Got(
+                Field::Item {
+                    id,
+                    exports,
+                    source,
+                },
+                next,
+            );
+        }
+        SourceAt::Fault(e) => {
+            return FieldAt::Fault(e);
+        }
     }
 }
 
@@ -115,9 +137,15 @@ pub fn read_item(s: &[u8], at: usize, seen: Seen, kind: Kind) -> FieldAt
     }
     match token::read_identifier(s, at) {
         PartAt::Got(id, a) => match typeuse::read_list(s, a, 8, Elem::String) {
-            ListAt::Got(exports, b) => item_of(s, b, seen, kind, id, exports),
-            ListAt::Fault(e) => FieldAt::Fault(e),
+            ListAt::Got(exports, b) => {
+                return item_of(s, b, seen, kind, id, exports);
+            }
+            ListAt::Fault(e) => {
+                return FieldAt::Fault(e);
+            }
         },
-        PartAt::Fault(e) => FieldAt::Fault(e),
+        PartAt::Fault(e) => {
+            return FieldAt::Fault(e);
+        }
     }
 }

@@ -24,10 +24,16 @@ fn active_mode(s: &[u8], at: usize) -> ModeAt
 {
     match token::read_optional(s, at) {
         IndexAt::Got(x, a) => match expr::read_const(s, a) {
-            PlainAt::Got(offset, b) => ModeAt::Got(Mode::Active(x, offset), b),
-            PlainAt::Fault(e) => ModeAt::Fault(e),
+            PlainAt::Got(offset, b) => {
+                return ModeAt::Got(Mode::Active(x, offset), b);
+            }
+            PlainAt::Fault(e) => {
+                return ModeAt::Fault(e);
+            }
         },
-        IndexAt::Fault(e) => ModeAt::Fault(e),
+        IndexAt::Fault(e) => {
+            return ModeAt::Fault(e);
+        }
     }
 }
 
@@ -42,8 +48,10 @@ pub fn read_mode(s: &[u8], at: usize) -> ModeAt
             if b == 1 {
                 return active_mode(s, next);
             }
-            ModeAt::Fault(4)
+            return ModeAt::Fault(4);
         }
-        ByteAt::Fault(e) => ModeAt::Fault(e),
+        ByteAt::Fault(e) => {
+            return ModeAt::Fault(e);
+        }
     }
 }

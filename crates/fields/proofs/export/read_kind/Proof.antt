@@ -27,12 +27,12 @@ returns-4 : tie.Need-returns-4
 unfolding kind
 returns-4 c = search (ways, answers) depth 14
 
-enum-known-e : tie.Need-enum-known-e
-enum-known-e c = search needs
-
 returns-5 : tie.Need-returns-5
 unfolding kind
 returns-5 c = search (ways, answers) depth 14
+
+enum-known-e : tie.Need-enum-known-e
+enum-known-e c = search needs
 
 returns-6 : tie.Need-returns-6
 unfolding kind
@@ -40,14 +40,4 @@ returns-6 c = search (ways, answers) depth 14
 
 pub read-kind-spec : {M : Type 1} → statement M
 read-kind-spec =
-    tie.close
-    (tie.spec
-    read-byte-requires
-    enum-known-b
-    returns
-    returns-2
-    returns-3
-    returns-4
-    enum-known-e
-    returns-5
-    returns-6)
+    tie.close (tie.spec read-byte-requires enum-known-b returns returns-2 returns-3 returns-4 returns-5 enum-known-e returns-6)

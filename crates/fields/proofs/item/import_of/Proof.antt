@@ -25,19 +25,19 @@ read-extern-requires c κs = search needs
 enum-known-what : tie.Need-enum-known-what
 enum-known-what c = search needs
 
-enum-known-e : tie.Need-enum-known-e
-enum-known-e c = search needs
-
-enum-known-e-2 : tie.Need-enum-known-e-2
-enum-known-e-2 c = search needs
-
 returns-2 : tie.Need-returns-2
 unfolding importOf
 returns-2 c = search (ways, answers, source-answers, rooms) depth 14
 
+enum-known-e : tie.Need-enum-known-e
+enum-known-e c = search needs
+
 returns-3 : tie.Need-returns-3
 unfolding importOf
 returns-3 c = search (ways, answers, source-answers, rooms) depth 14
+
+enum-known-e-2 : tie.Need-enum-known-e-2
+enum-known-e-2 c = search needs
 
 returns-4 : tie.Need-returns-4
 unfolding importOf
@@ -45,16 +45,4 @@ returns-4 c = search (ways, answers, source-answers, rooms) depth 14
 
 pub import-of-spec : {M : Type 1} → statement M
 import-of-spec =
-    tie.close
-    (tie.spec
-    has-room-for-requires
-    returns
-    read-identifier-requires
-    enum-known-id
-    read-extern-requires
-    enum-known-what
-    enum-known-e
-    enum-known-e-2
-    returns-2
-    returns-3
-    returns-4)
+    tie.close (tie.spec has-room-for-requires returns read-identifier-requires enum-known-id read-extern-requires enum-known-what returns-2 enum-known-e returns-3 enum-known-e-2 returns-4)

@@ -46,19 +46,19 @@ returns-4 : tie.Need-returns-4
 unfolding importRec
 returns-4 c = search (ways, answers, source-answers) depth 14
 
-enum-known-e : tie.Need-enum-known-e
-enum-known-e c = search needs
-
-enum-known-e-2 : tie.Need-enum-known-e-2
-enum-known-e-2 c = search needs
-
 returns-5 : tie.Need-returns-5
 unfolding importRec
 returns-5 c = search (ways, answers, source-answers) depth 14
 
+enum-known-e : tie.Need-enum-known-e
+enum-known-e c = search needs
+
 returns-6 : tie.Need-returns-6
 unfolding importRec
 returns-6 c = search (ways, answers, source-answers) depth 14
+
+enum-known-e-2 : tie.Need-enum-known-e-2
+enum-known-e-2 c = search needs
 
 returns-7 : tie.Need-returns-7
 unfolding importRec
@@ -66,22 +66,4 @@ returns-7 c = search (ways, answers, source-answers) depth 14
 
 pub read-import-spec : {M : Type 1} → statement M
 read-import-spec =
-    tie.close
-    (tie.spec
-    read-import-name-requires
-    enum-known-name
-    read-byte-requires
-    enum-known-b
-    import-of-requires
-    returns
-    import-of-requires-2
-    returns-2
-    import-of-requires-3
-    returns-3
-    import-of-requires-4
-    returns-4
-    enum-known-e
-    enum-known-e-2
-    returns-5
-    returns-6
-    returns-7)
+    tie.close (tie.spec read-import-name-requires enum-known-name read-byte-requires enum-known-b import-of-requires returns import-of-requires-2 returns-2 import-of-requires-3 returns-3 import-of-requires-4 returns-4 returns-5 enum-known-e returns-6 enum-known-e-2 returns-7)

@@ -30,19 +30,19 @@ enum-known-exports c = search needs
 item-of-requires : tie.Need-item-of-requires
 item-of-requires c κs = search needs
 
-enum-known-e : tie.Need-enum-known-e
-enum-known-e c = search needs
-
-enum-known-e-2 : tie.Need-enum-known-e-2
-enum-known-e-2 c = search needs
-
 returns-2 : tie.Need-returns-2
 unfolding itemRec itemOf
 returns-2 c = search (ways, answers, use-answers, rooms) depth 14
 
+enum-known-e : tie.Need-enum-known-e
+enum-known-e c = search needs
+
 returns-3 : tie.Need-returns-3
 unfolding itemRec itemOf
 returns-3 c = search (ways, answers, use-answers, rooms) depth 14
+
+enum-known-e-2 : tie.Need-enum-known-e-2
+enum-known-e-2 c = search needs
 
 returns-4 : tie.Need-returns-4
 unfolding itemRec itemOf
@@ -50,17 +50,4 @@ returns-4 c = search (ways, answers, use-answers, rooms) depth 14
 
 pub read-item-spec : {M : Type 1} → statement M
 read-item-spec =
-    tie.close
-    (tie.spec
-    has-room-for-requires
-    returns
-    read-identifier-requires
-    enum-known-id
-    read-list-requires
-    enum-known-exports
-    item-of-requires
-    enum-known-e
-    enum-known-e-2
-    returns-2
-    returns-3
-    returns-4)
+    tie.close (tie.spec has-room-for-requires returns read-identifier-requires enum-known-id read-list-requires enum-known-exports item-of-requires returns-2 enum-known-e returns-3 enum-known-e-2 returns-4)

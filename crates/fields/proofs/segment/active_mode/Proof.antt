@@ -18,19 +18,19 @@ read-const-requires c κs = search needs
 enum-known-offset : tie.Need-enum-known-offset
 enum-known-offset c = search needs
 
-enum-known-e : tie.Need-enum-known-e
-enum-known-e c = search needs
-
-enum-known-e-2 : tie.Need-enum-known-e-2
-enum-known-e-2 c = search needs
-
 returns : tie.Need-returns
 unfolding activeMode
 returns c = search (ways, answers, plain-answers) depth 14
 
+enum-known-e : tie.Need-enum-known-e
+enum-known-e c = search needs
+
 returns-2 : tie.Need-returns-2
 unfolding activeMode
 returns-2 c = search (ways, answers, plain-answers) depth 14
+
+enum-known-e-2 : tie.Need-enum-known-e-2
+enum-known-e-2 c = search needs
 
 returns-3 : tie.Need-returns-3
 unfolding activeMode
@@ -38,14 +38,4 @@ returns-3 c = search (ways, answers, plain-answers) depth 14
 
 pub active-mode-spec : {M : Type 1} → statement M
 active-mode-spec =
-    tie.close
-    (tie.spec
-    read-optional-requires
-    enum-known-x
-    read-const-requires
-    enum-known-offset
-    enum-known-e
-    enum-known-e-2
-    returns
-    returns-2
-    returns-3)
+    tie.close (tie.spec read-optional-requires enum-known-x read-const-requires enum-known-offset returns enum-known-e returns-2 enum-known-e-2 returns-3)

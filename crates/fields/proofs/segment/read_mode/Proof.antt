@@ -22,12 +22,12 @@ returns-2 : tie.Need-returns-2
 unfolding mode
 returns-2 c = search (ways, answers) depth 14
 
-enum-known-e : tie.Need-enum-known-e
-enum-known-e c = search needs
-
 returns-3 : tie.Need-returns-3
 unfolding mode
 returns-3 c = search (ways, answers) depth 14
+
+enum-known-e : tie.Need-enum-known-e
+enum-known-e c = search needs
 
 returns-4 : tie.Need-returns-4
 unfolding mode
@@ -35,13 +35,4 @@ returns-4 c = search (ways, answers) depth 14
 
 pub read-mode-spec : {M : Type 1} → statement M
 read-mode-spec =
-    tie.close
-    (tie.spec
-    read-byte-requires
-    enum-known-b
-    returns
-    active-mode-requires
-    returns-2
-    enum-known-e
-    returns-3
-    returns-4)
+    tie.close (tie.spec read-byte-requires enum-known-b returns active-mode-requires returns-2 returns-3 enum-known-e returns-4)
