@@ -16,12 +16,20 @@ pub fn read_export(s: &[u8], at: usize) -> FieldAt
     match token::read_string(s, at) {
         PartAt::Got(name, a) => match fields::read_kind(s, a) {
             SpaceAt::Got(space, b) => match token::read_present(s, b) {
-                IndexAt::Got(index, c) => FieldAt::Got(Field::Export { name, space, index }, c),
-                IndexAt::Fault(e) => FieldAt::Fault(e),
+                IndexAt::Got(index, c) => {
+                    return FieldAt::Got(Field::Export { name, space, index }, c);
+                }
+                IndexAt::Fault(e) => {
+                    return FieldAt::Fault(e);
+                }
             },
-            SpaceAt::Fault(e) => FieldAt::Fault(e),
+            SpaceAt::Fault(e) => {
+                return FieldAt::Fault(e);
+            }
         },
-        PartAt::Fault(e) => FieldAt::Fault(e),
+        PartAt::Fault(e) => {
+            return FieldAt::Fault(e);
+        }
     }
 }
 
@@ -33,7 +41,11 @@ pub fn read_start(s: &[u8], at: usize, seen: Seen) -> FieldAt
         return FieldAt::Fault(9);
     }
     match token::read_present(s, at) {
-        IndexAt::Got(x, next) => FieldAt::Got(Field::Start(x), next),
-        IndexAt::Fault(e) => FieldAt::Fault(e),
+        IndexAt::Got(x, next) => {
+            return FieldAt::Got(Field::Start(x), next);
+        }
+        IndexAt::Fault(e) => {
+            return FieldAt::Fault(e);
+        }
     }
 }

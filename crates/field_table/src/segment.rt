@@ -21,12 +21,20 @@ pub fn read_elem(s: &[u8], at: usize, seen: Seen) -> FieldAt
     match token::read_identifier(s, at) {
         PartAt::Got(id, a) => match fields::read_mode(s, a) {
             ModeAt::Got(mode, b) => match typeuse::read_list(s, b, 1024, Elem::Index) {
-                ListAt::Got(funcs, c) => FieldAt::Got(Field::Elem { id, mode, funcs }, c),
-                ListAt::Fault(e) => FieldAt::Fault(e),
+                ListAt::Got(funcs, c) => {
+                    return FieldAt::Got(Field::Elem { id, mode, funcs }, c);
+                }
+                ListAt::Fault(e) => {
+                    return FieldAt::Fault(e);
+                }
             },
-            ModeAt::Fault(e) => FieldAt::Fault(e),
+            ModeAt::Fault(e) => {
+                return FieldAt::Fault(e);
+            }
         },
-        PartAt::Fault(e) => FieldAt::Fault(e),
+        PartAt::Fault(e) => {
+            return FieldAt::Fault(e);
+        }
     }
 }
 
@@ -39,11 +47,19 @@ pub fn read_data(s: &[u8], at: usize, seen: Seen) -> FieldAt
     match token::read_identifier(s, at) {
         PartAt::Got(id, a) => match fields::read_mode(s, a) {
             ModeAt::Got(mode, b) => match token::read_data(s, b) {
-                PartAt::Got(bytes, c) => FieldAt::Got(Field::Data { id, mode, bytes }, c),
-                PartAt::Fault(e) => FieldAt::Fault(e),
+                PartAt::Got(bytes, c) => {
+                    return FieldAt::Got(Field::Data { id, mode, bytes }, c);
+                }
+                PartAt::Fault(e) => {
+                    return FieldAt::Fault(e);
+                }
             },
-            ModeAt::Fault(e) => FieldAt::Fault(e),
+            ModeAt::Fault(e) => {
+                return FieldAt::Fault(e);
+            }
         },
-        PartAt::Fault(e) => FieldAt::Fault(e),
+        PartAt::Fault(e) => {
+            return FieldAt::Fault(e);
+        }
     }
 }

@@ -44,8 +44,10 @@ pub fn read_field(s: &[u8], at: usize, seen: Seen) -> FieldAt
             if b == 0x0A {
                 return crate::segment::read_data(s, next, seen);
             }
-            FieldAt::Fault(4)
+            return FieldAt::Fault(4);
         }
-        ByteAt::Fault(e) => FieldAt::Fault(e),
+        ByteAt::Fault(e) => {
+            return FieldAt::Fault(e);
+        }
     }
 }

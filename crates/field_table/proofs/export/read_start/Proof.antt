@@ -17,12 +17,12 @@ read-present-requires c κs = search needs
 enum-known-x : tie.Need-enum-known-x
 enum-known-x c = search needs
 
-enum-known-e : tie.Need-enum-known-e
-enum-known-e c = search needs
-
 returns-2 : tie.Need-returns-2
 unfolding startRec
 returns-2 c = search (ways, answers, stop-both, starts) depth 14
+
+enum-known-e : tie.Need-enum-known-e
+enum-known-e c = search needs
 
 returns-3 : tie.Need-returns-3
 unfolding startRec
@@ -30,5 +30,4 @@ returns-3 c = search (ways, answers, stop-both, starts) depth 14
 
 pub read-start-spec : {M : Type 1} → statement M
 read-start-spec =
-    tie.close
-    (tie.spec returns read-present-requires enum-known-x enum-known-e returns-2 returns-3)
+    tie.close (tie.spec returns read-present-requires enum-known-x returns-2 enum-known-e returns-3)

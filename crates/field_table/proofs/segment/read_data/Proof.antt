@@ -32,26 +32,26 @@ read-data-requires c κs = search needs
 enum-known-bytes : tie.Need-enum-known-bytes
 enum-known-bytes c = search needs
 
-enum-known-e : tie.Need-enum-known-e
-enum-known-e c = search needs
-
-enum-known-e-2 : tie.Need-enum-known-e-2
-enum-known-e-2 c = search needs
-
-enum-known-e-3 : tie.Need-enum-known-e-3
-enum-known-e-3 c = search needs
-
 returns-2 : tie.Need-returns-2
 unfolding dataRec
 returns-2 c = search (ways, answers, field-answers, rooms) depth 14
+
+enum-known-e : tie.Need-enum-known-e
+enum-known-e c = search needs
 
 returns-3 : tie.Need-returns-3
 unfolding dataRec
 returns-3 c = search (ways, answers, field-answers, rooms) depth 14
 
+enum-known-e-2 : tie.Need-enum-known-e-2
+enum-known-e-2 c = search needs
+
 returns-4 : tie.Need-returns-4
 unfolding dataRec
 returns-4 c = search (ways, answers, field-answers, rooms) depth 14
+
+enum-known-e-3 : tie.Need-enum-known-e-3
+enum-known-e-3 c = search needs
 
 returns-5 : tie.Need-returns-5
 unfolding dataRec
@@ -59,20 +59,4 @@ returns-5 c = search (ways, answers, field-answers, rooms) depth 14
 
 pub read-data-spec : {M : Type 1} → statement M
 read-data-spec =
-    tie.close
-    (tie.spec
-    has-room-requires
-    returns
-    read-identifier-requires
-    enum-known-id
-    read-mode-requires
-    enum-known-mode
-    read-data-requires
-    enum-known-bytes
-    enum-known-e
-    enum-known-e-2
-    enum-known-e-3
-    returns-2
-    returns-3
-    returns-4
-    returns-5)
+    tie.close (tie.spec has-room-requires returns read-identifier-requires enum-known-id read-mode-requires enum-known-mode read-data-requires enum-known-bytes returns-2 enum-known-e returns-3 enum-known-e-2 returns-4 enum-known-e-3 returns-5)

@@ -33,26 +33,26 @@ read-list-requires c κs = search needs
 enum-known-funcs : tie.Need-enum-known-funcs
 enum-known-funcs c = search needs
 
-enum-known-e : tie.Need-enum-known-e
-enum-known-e c = search needs
-
-enum-known-e-2 : tie.Need-enum-known-e-2
-enum-known-e-2 c = search needs
-
-enum-known-e-3 : tie.Need-enum-known-e-3
-enum-known-e-3 c = search needs
-
 returns-2 : tie.Need-returns-2
 unfolding elemRec
 returns-2 c = search (ways, answers, use-answers, field-answers, rooms) depth 14
+
+enum-known-e : tie.Need-enum-known-e
+enum-known-e c = search needs
 
 returns-3 : tie.Need-returns-3
 unfolding elemRec
 returns-3 c = search (ways, answers, use-answers, field-answers, rooms) depth 14
 
+enum-known-e-2 : tie.Need-enum-known-e-2
+enum-known-e-2 c = search needs
+
 returns-4 : tie.Need-returns-4
 unfolding elemRec
 returns-4 c = search (ways, answers, use-answers, field-answers, rooms) depth 14
+
+enum-known-e-3 : tie.Need-enum-known-e-3
+enum-known-e-3 c = search needs
 
 returns-5 : tie.Need-returns-5
 unfolding elemRec
@@ -60,20 +60,4 @@ returns-5 c = search (ways, answers, use-answers, field-answers, rooms) depth 14
 
 pub read-elem-spec : {M : Type 1} → statement M
 read-elem-spec =
-    tie.close
-    (tie.spec
-    has-room-requires
-    returns
-    read-identifier-requires
-    enum-known-id
-    read-mode-requires
-    enum-known-mode
-    read-list-requires
-    enum-known-funcs
-    enum-known-e
-    enum-known-e-2
-    enum-known-e-3
-    returns-2
-    returns-3
-    returns-4
-    returns-5)
+    tie.close (tie.spec has-room-requires returns read-identifier-requires enum-known-id read-mode-requires enum-known-mode read-list-requires enum-known-funcs returns-2 enum-known-e returns-3 enum-known-e-2 returns-4 enum-known-e-3 returns-5)
