@@ -31,17 +31,23 @@ fn known_own(s: &[u8], at: usize, id: Part, exports: List) -> FieldAt
 {
     match typeuse::known_type_use(s, at) {
         UseAt::Got(t, a) => match typeuse::known_local_list(s, a) {
-            ListAt::Got(locals, b) => FieldAt::Got(
-                Field::Item {
-                    id,
-                    exports,
-                    source: Source::Own(Own::Func(t, locals)),
-                },
-                b,
-            ),
-            ListAt::Fault(e) => FieldAt::Fault(e),
+            ListAt::Got(locals, b) => {
+                return FieldAt::Got(
+                    Field::Item {
+                        id,
+                        exports,
+                        source: Source::Own(Own::Func(t, locals)),
+                    },
+                    b,
+                );
+            }
+            ListAt::Fault(e) => {
+                return FieldAt::Fault(e);
+            }
         },
-        UseAt::Fault(e) => FieldAt::Fault(e),
+        UseAt::Fault(e) => {
+            return FieldAt::Fault(e);
+        }
     }
 }
 
@@ -74,17 +80,23 @@ fn known_extern_func(s: &[u8], at: usize, name: ImportName) -> FieldAt
 {
     match token::known_identifier(s, at) {
         PartAt::Got(id, a) => match typeuse::known_type_use(s, a) {
-            UseAt::Got(t, b) => FieldAt::Got(
-                Field::Import {
-                    name,
-                    id,
-                    what: Extern::Func(t),
-                },
-                b,
-            ),
-            UseAt::Fault(e) => FieldAt::Fault(e),
+            UseAt::Got(t, b) => {
+                return FieldAt::Got(
+                    Field::Import {
+                        name,
+                        id,
+                        what: Extern::Func(t),
+                    },
+                    b,
+                );
+            }
+            UseAt::Fault(e) => {
+                return FieldAt::Fault(e);
+            }
         },
-        PartAt::Fault(e) => FieldAt::Fault(e),
+        PartAt::Fault(e) => {
+            return FieldAt::Fault(e);
+        }
     }
 }
 
@@ -95,10 +107,16 @@ fn known_import_name(s: &[u8], at: usize) -> NameAt
 {
     match token::known_string(s, at) {
         PartAt::Got(module, a) => match token::known_string(s, a) {
-            PartAt::Got(item, b) => NameAt::Got(ImportName { module, item }, b),
-            PartAt::Fault(e) => NameAt::Fault(e),
+            PartAt::Got(item, b) => {
+                return NameAt::Got(ImportName { module, item }, b);
+            }
+            PartAt::Fault(e) => {
+                return NameAt::Fault(e);
+            }
         },
-        PartAt::Fault(e) => NameAt::Fault(e),
+        PartAt::Fault(e) => {
+            return NameAt::Fault(e);
+        }
     }
 }
 
@@ -113,11 +131,15 @@ fn known_import(s: &[u8], at: usize, seen: Seen) -> FieldAt
                 if kind == 0 {
                     return known_extern_func(s, b, name);
                 }
-                fields::item::read_import(s, at, seen)
+                return fields::item::read_import(s, at, seen);
             }
-            ByteAt::Fault(e) => FieldAt::Fault(e),
+            ByteAt::Fault(e) => {
+                return FieldAt::Fault(e);
+            }
         },
-        NameAt::Fault(e) => FieldAt::Fault(e),
+        NameAt::Fault(e) => {
+            return FieldAt::Fault(e);
+        }
     }
 }
 
@@ -134,8 +156,10 @@ pub fn known_field(s: &[u8], at: usize, seen: Seen) -> FieldAt
             if b == 0x03 {
                 return known_func(s, next, seen);
             }
-            field_table::read_field(s, at, seen)
+            return field_table::read_field(s, at, seen);
         }
-        ByteAt::Fault(e) => FieldAt::Fault(e),
+        ByteAt::Fault(e) => {
+            return FieldAt::Fault(e);
+        }
     }
 }

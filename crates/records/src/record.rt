@@ -54,47 +54,22 @@ pub fn field_depth(f: Field) -> u32
     ensures { λ r. ⌜ r ≡ fieldDepth f ⌝ }
 {
     match f {
-        Field::Item {
-            id: _,
-            exports: _,
-            source,
-        } => match source {
+        Field::Item { source, .. } => match source {
             Source::Own(o) => match o {
-                Own::Func(_, _) => 1,
-                Own::Table(_) => 0,
-                Own::Mem(_) => 0,
-                Own::Global(_, _) => 0,
+                Own::Func(_, _) => {
+                    return 1;
+                }
+                _ => {
+                    return 0;
+                }
             },
-            Source::Imported(_, _) => 0,
-            Source::TableOf(_, _) => 0,
-            Source::MemOf(_, _) => 0,
+            _ => {
+                return 0;
+            }
         },
-        Field::Type {
-            id: _,
-            params: _,
-            results: _,
-        } => 0,
-        Field::Import {
-            name: _,
-            id: _,
-            what: _,
-        } => 0,
-        Field::Export {
-            name: _,
-            space: _,
-            index: _,
-        } => 0,
-        Field::Start(_) => 0,
-        Field::Elem {
-            id: _,
-            mode: _,
-            funcs: _,
-        } => 0,
-        Field::Data {
-            id: _,
-            mode: _,
-            bytes: _,
-        } => 0,
+        _ => {
+            return 0;
+        }
     }
 }
 
@@ -112,12 +87,12 @@ fn begins(b: u8, depth: u32) -> bool
         return true;
     }
     match instr::opcode_form(b) {
-        Form::NoOpcode => false,
-        Form::Opening => true,
-        Form::Elsing => true,
-        Form::Ending => true,
-        Form::Calling => true,
-        Form::Operands(_) => true,
+        Form::NoOpcode => {
+            return false;
+        }
+        _ => {
+            return true;
+        }
     }
 }
 
@@ -161,12 +136,16 @@ pub fn field_record(s: &[u8], p: Place, seen: Seen) -> OutsideAt
     match field_table::read_field(s, p.at, seen) {
         FieldAt::Got(f, at) => {
             let place = after_record(p, at, field_depth(f));
-            let what = Outside::Field(f);
-            OutsideAt { what, place }
+            return OutsideAt {
+                what: Outside::Field(f),
+                place,
+            };
         }
         FieldAt::Fault(n) => {
-            let what = Outside::Refused(n);
-            OutsideAt { what, place: p }
+            return OutsideAt {
+                what: Outside::Refused(n),
+                place: p,
+            };
         }
     }
 }
@@ -203,8 +182,10 @@ pub fn body_record(s: &[u8], p: Place) -> InsideAt
             }
             let place = after_record(p, at, 0);
             let what = Inside::End;
-            InsideAt { what, place }
+            return InsideAt { what, place };
         }
-        ByteAt::Fault(n) => refused(p, n),
+        ByteAt::Fault(n) => {
+            return refused(p, n);
+        }
     }
 }

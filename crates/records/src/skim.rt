@@ -24,10 +24,16 @@ fn opens(s: &[u8], p: Place, at: usize) -> InsideAt
     }
     match token::pass_identifier(s, at) {
         Skip::Past(a) => match typeuse::read_type_use(s, a) {
-            UseAt::Got(t, next) => on(p, next, p.depth + 1, !signatures::is_short(s, t)),
-            UseAt::Fault(n) => refused(p, n),
+            UseAt::Got(t, next) => {
+                return on(p, next, p.depth + 1, !signatures::is_short(s, t));
+            }
+            UseAt::Fault(n) => {
+                return refused(p, n);
+            }
         },
-        Skip::Fault(n) => refused(p, n),
+        Skip::Fault(n) => {
+            return refused(p, n);
+        }
     }
 }
 
@@ -46,8 +52,12 @@ fn elses(s: &[u8], p: Place, at: usize) -> InsideAt
     ensures { λ r. ⌜ keptInstr p (Instructions.instruction (p .depth - 1) 0 Instructions.elsing (now (s .entry)) at) ≡ insideAnswer (r .what) (r .place) ⌝ }
 {
     match pass_label(s, at, p.depth) {
-        Skip::Past(next) => on(p, next, p.depth, false),
-        Skip::Fault(n) => refused(p, n),
+        Skip::Past(next) => {
+            return on(p, next, p.depth, false);
+        }
+        Skip::Fault(n) => {
+            return refused(p, n);
+        }
     }
 }
 
@@ -56,8 +66,12 @@ fn ends(s: &[u8], p: Place, at: usize) -> InsideAt
     ensures { λ r. ⌜ keptInstr p (Instructions.instruction (p .depth - 1) 0 Instructions.ending (now (s .entry)) at) ≡ insideAnswer (r .what) (r .place) ⌝ }
 {
     match pass_label(s, at, p.depth) {
-        Skip::Past(next) => on(p, next, p.depth - 1, false),
-        Skip::Fault(n) => refused(p, n),
+        Skip::Past(next) => {
+            return on(p, next, p.depth - 1, false);
+        }
+        Skip::Fault(n) => {
+            return refused(p, n);
+        }
     }
 }
 
@@ -67,10 +81,16 @@ fn indirect(s: &[u8], p: Place, at: usize) -> InsideAt
 {
     match token::pass_optional(s, at) {
         Skip::Past(a) => match typeuse::read_type_use(s, a) {
-            UseAt::Got(_, next) => on(p, next, p.depth, true),
-            UseAt::Fault(n) => refused(p, n),
+            UseAt::Got(_, next) => {
+                return on(p, next, p.depth, true);
+            }
+            UseAt::Fault(n) => {
+                return refused(p, n);
+            }
         },
-        Skip::Fault(n) => refused(p, n),
+        Skip::Fault(n) => {
+            return refused(p, n);
+        }
     }
 }
 

@@ -23,21 +23,6 @@ opcode-form-requires c κs = search needs
 enum-told : tie.Need-enum-told
 enum-told c = search needs
 
-enum-told-2 : tie.Need-enum-told-2
-enum-told-2 c = search needs
-
-enum-told-3 : tie.Need-enum-told-3
-enum-told-3 c = search needs
-
-enum-told-4 : tie.Need-enum-told-4
-enum-told-4 c = search needs
-
-enum-told-5 : tie.Need-enum-told-5
-enum-told-5 c = search needs
-
-enum-told-6 : tie.Need-enum-told-6
-enum-told-6 c = search needs
-
 returns-4 : tie.Need-returns-4
 unfolding isSome
 returns-4 c = search (begins-low, begins-field, begins-end, begins-not, begins-form, refl) depth 8
@@ -46,39 +31,7 @@ returns-5 : tie.Need-returns-5
 unfolding isSome
 returns-5 c = search (begins-low, begins-field, begins-end, begins-not, begins-form, refl) depth 8
 
-returns-6 : tie.Need-returns-6
-unfolding isSome
-returns-6 c = search (begins-low, begins-field, begins-end, begins-not, begins-form, refl) depth 8
-
-returns-7 : tie.Need-returns-7
-unfolding isSome
-returns-7 c = search (begins-low, begins-field, begins-end, begins-not, begins-form, refl) depth 8
-
-returns-8 : tie.Need-returns-8
-unfolding isSome
-returns-8 c = search (begins-low, begins-field, begins-end, begins-not, begins-form, refl) depth 8
-
-returns-9 : tie.Need-returns-9
-unfolding isSome
-returns-9 c = search (begins-low, begins-field, begins-end, begins-not, begins-form, refl) depth 8
-
 pub begins-spec : {M : Type 1} → statement M
 begins-spec =
     tie.close
-    (tie.spec
-    returns
-    returns-2
-    returns-3
-    opcode-form-requires
-    enum-told
-    enum-told-2
-    enum-told-3
-    enum-told-4
-    enum-told-5
-    enum-told-6
-    returns-4
-    returns-5
-    returns-6
-    returns-7
-    returns-8
-    returns-9)
+    (tie.spec returns returns-2 returns-3 opcode-form-requires enum-told returns-4 returns-5)

@@ -24,30 +24,18 @@ returns-2 c = search body-ways depth 8
 after-record-requires : tie.Need-after-record-requires
 after-record-requires c κs = search needs
 
+returns-3 : tie.Need-returns-3
+returns-3 c = search body-ways depth 8
+
 enum-known-n : tie.Need-enum-known-n
 enum-known-n c = search needs
 
 refused-requires-2 : tie.Need-refused-requires-2
 refused-requires-2 c κs = search needs
 
-returns-3 : tie.Need-returns-3
-returns-3 c = search body-ways depth 8
-
 returns-4 : tie.Need-returns-4
 returns-4 c = search body-ways depth 8
 
 pub body-record-spec : {M : Type 1} → statement M
 body-record-spec =
-    tie.close
-    (tie.spec
-    read-byte-requires
-    enum-known-b
-    pass-instr-requires
-    returns
-    refused-requires
-    returns-2
-    after-record-requires
-    enum-known-n
-    refused-requires-2
-    returns-3
-    returns-4)
+    tie.close (tie.spec read-byte-requires enum-known-b pass-instr-requires returns refused-requires returns-2 after-record-requires returns-3 enum-known-n refused-requires-2 returns-4)

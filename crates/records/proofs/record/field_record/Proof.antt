@@ -15,23 +15,15 @@ field-depth-requires c κs = search needs
 after-record-requires : tie.Need-after-record-requires
 after-record-requires c κs = search needs
 
-enum-known-n : tie.Need-enum-known-n
-enum-known-n c = search needs
-
 returns : tie.Need-returns
 returns c = search (record-ways) depth 8
+
+enum-known-n : tie.Need-enum-known-n
+enum-known-n c = search needs
 
 returns-2 : tie.Need-returns-2
 returns-2 c = search (record-ways) depth 8
 
 pub field-record-spec : {M : Type 1} → statement M
 field-record-spec =
-    tie.close
-    (tie.spec
-    read-field-requires
-    enum-known-f
-    field-depth-requires
-    after-record-requires
-    enum-known-n
-    returns
-    returns-2)
+    tie.close (tie.spec read-field-requires enum-known-f field-depth-requires after-record-requires returns enum-known-n returns-2)

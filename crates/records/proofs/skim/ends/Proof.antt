@@ -15,27 +15,18 @@ sub-on c = search needs
 on-requires : tie.Need-on-requires
 on-requires c κs = search needs
 
+returns : tie.Need-returns
+returns c = search skims depth 8
+
 enum-known-n : tie.Need-enum-known-n
 enum-known-n c = search needs
 
 refused-requires : tie.Need-refused-requires
 refused-requires c κs = search needs
 
-returns : tie.Need-returns
-returns c = search skims depth 8
-
 returns-2 : tie.Need-returns-2
 returns-2 c = search skims depth 8
 
 pub ends-spec : {M : Type 1} → statement M
 ends-spec =
-    tie.close
-    (tie.spec
-    pass-label-requires
-    enum-known-next
-    sub-on
-    on-requires
-    enum-known-n
-    refused-requires
-    returns
-    returns-2)
+    tie.close (tie.spec pass-label-requires enum-known-next sub-on on-requires returns enum-known-n refused-requires returns-2)

@@ -30,11 +30,17 @@ is-short-requires c κs = search needs
 on-requires : tie.Need-on-requires
 on-requires c κs = search needs
 
+returns-2 : tie.Need-returns-2
+returns-2 c = search skims depth 8
+
 enum-known-n : tie.Need-enum-known-n
 enum-known-n c = search needs
 
 refused-requires-2 : tie.Need-refused-requires-2
 refused-requires-2 c κs = search needs
+
+returns-3 : tie.Need-returns-3
+returns-3 c = search skims depth 8
 
 enum-known-n-2 : tie.Need-enum-known-n-2
 enum-known-n-2 c = search needs
@@ -42,32 +48,9 @@ enum-known-n-2 c = search needs
 refused-requires-3 : tie.Need-refused-requires-3
 refused-requires-3 c κs = search needs
 
-returns-2 : tie.Need-returns-2
-returns-2 c = search skims depth 8
-
-returns-3 : tie.Need-returns-3
-returns-3 c = search skims depth 8
-
 returns-4 : tie.Need-returns-4
 returns-4 c = search skims depth 8
 
 pub opens-spec : {M : Type 1} → statement M
 opens-spec =
-    tie.close
-    (tie.spec
-    refused-requires
-    returns
-    pass-identifier-requires
-    enum-known-a
-    read-type-use-requires
-    enum-known-t
-    add-on
-    is-short-requires
-    on-requires
-    enum-known-n
-    refused-requires-2
-    enum-known-n-2
-    refused-requires-3
-    returns-2
-    returns-3
-    returns-4)
+    tie.close (tie.spec refused-requires returns pass-identifier-requires enum-known-a read-type-use-requires enum-known-t add-on is-short-requires on-requires returns-2 enum-known-n refused-requires-2 returns-3 enum-known-n-2 refused-requires-3 returns-4)
