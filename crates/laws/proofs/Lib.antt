@@ -6,6 +6,7 @@ pub mod Passing
 pub mod Table
 pub mod Groups
 pub mod GroupCount
+pub mod OneSpelling
 pub mod Reading
 pub mod Interning
 pub mod Bodies
