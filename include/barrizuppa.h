@@ -45,7 +45,7 @@ extern "C" {
  *
  * Returns the number, the same as the answer's first word.
  *
- * Number: 0 where the stream is assembled, else the refusal's number, 1 to 18.
+ * Number: 0 where the stream is assembled, else the refusal's number, 1 to 19.
  * docs/REFUSALS.md says when each is given, and what to do.
  *
  * Record: the count of records where the stream is assembled. On a refusal the

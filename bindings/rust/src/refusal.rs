@@ -37,6 +37,7 @@ impl Refusal {
             16 => "an inline type differs from the type its index names",
             17 => "the label on an else or end is not that of its block",
             18 => "the output is too short for the module",
+            19 => "a number is longer than needed",
             _ => "unknown",
         }
     }

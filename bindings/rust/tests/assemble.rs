@@ -259,10 +259,10 @@ fn a_refusal_in_words() {
         })
     );
     // Every number has words of its own.
-    let meanings: std::collections::HashSet<_> = (0..=18)
+    let meanings: std::collections::HashSet<_> = (0..=19)
         .map(|number| Refusal { number, record: 0 }.meaning())
         .collect();
-    assert_eq!(meanings.len(), 19);
+    assert_eq!(meanings.len(), 20);
 }
 
 #[test]
