@@ -7,15 +7,14 @@ use native.Mathlib.Omega.{arith}
 use mir.Syntax.{w32}
 use mir.Val.{Fits}
 use mathlib.Core.Bool.{true, false}
-use Rattle.definition.specs.Syntax.{Bytes}
-use Rattle.definition.specs.Assemble.{Maker, Outcome, assembleBy, outcome, outputAfter, callBy, call, callNames}
+use Rattle.definition.specs.Assemble.{Maker, assembleBy, outcome, outputAfter, callBy, call, callNames}
 use Rattle.passes.specs.Passes.{makes}
-use Rattle.assembler.specs.Run.{outcomeOf}
-use Rattle.assembler.specs.Export.{Handed, handed, answerOf, handedOn, lent, exportedBy, exported, exportedNames}
+use Rattle.assembler.specs.Run.{outcomeOf, Call}
+use Rattle.assembler.specs.Export.{Handed, handed, answerOf, handedOn, lent, exportedBy}
 use Rattle.writers.specs.declared.Said.{Said}
 
 -- what is written lies in the output
-written-within : (make : Maker) (s w old : List ℕ) → callBy make s w old .written ≤ length (callBy make s w old .output)
+pub written-within : (make : Maker) (s w old : List ℕ) → callBy make s w old .written ≤ length (callBy make s w old .output)
 unfolding callBy outcome outputAfter
 written-within make s w old =
     let bs = assembleBy make s (length w) (length old) .bytes in
@@ -38,16 +37,16 @@ module _ (old : List ℕ) (n : ℕ) (g : n ≡ lent old) where
     hands-on = ap (λ o. handedOn o (drop n old)) e ∙ ap (λ m. handedOn (callBy make s w (take m old)) (drop m old)) g
 
 -- either call
-pub hands-module : (s w old : List ℕ) (h : Handed) → h ≡ exportedBy (callBy (makes false)) s w old → h ≡ exported s w old
-unfolding exported exportedBy call
+pub hands-module : (s w old : List ℕ) (h : Handed) → h ≡ exportedBy (callBy (makes false)) s w old → h ≡ exportedBy call s w old
+unfolding exportedBy call
 hands-module s w old h e = e
 
-pub hands-names : (s w old : List ℕ) (h : Handed) → h ≡ exportedBy (callBy (makes true)) s w old → h ≡ exportedNames s w old
-unfolding exportedNames exportedBy callNames
+pub hands-names : (s w old : List ℕ) (h : Handed) → h ≡ exportedBy (callBy (makes true)) s w old → h ≡ exportedBy callNames s w old
+unfolding exportedBy callNames
 hands-names s w old h e = e
 
 -- an output whose length fits in a word is lent as a whole: an exported call is the definition's
-pub exported-call : (f : Bytes → List ℕ → Bytes → Outcome) (s w old : List ℕ) → length old ≤ 4294967295 → exportedBy f s w old ≡ handedOn (f s w old) []
+pub exported-call : (f : Call) (s w old : List ℕ) → length old ≤ 4294967295 → exportedBy f s w old ≡ handedOn (f s w old) []
 unfolding exportedBy
 exported-call f s w old h =
     let d : drop (lent old) old ≡ [] = drop-of-length-le old {i = lent old} (omega arith) in

@@ -1,9 +1,11 @@
 -- What the exported calls hand their callers.
 use Prim.Native.Nat.{ℕ, min}
+use mathlib.Core.Path.{_≡_}
 use mathlib.Core.List.{List, [], _∷_, _++_}
 use lib.ListN.{length, take, drop}
 use Rattle.definition.specs.Syntax.{Bytes}
 use Rattle.definition.specs.Assemble.{Outcome, call, callNames}
+use Rattle.assembler.specs.Run.{Call}
 
 -- the returned number, the answer's words, the output and the work area
 pub record Handed : Type 0 where
@@ -28,12 +30,16 @@ abbrev pub lent : Bytes → ℕ
 lent old = min (length old) 4294967295
 
 -- a call on what is lent
-unfoldable pub exportedBy : (Bytes → List ℕ → Bytes → Outcome) → Bytes → List ℕ → Bytes → Handed
+unfoldable pub exportedBy : Call → Bytes → List ℕ → Bytes → Handed
 exportedBy f s w old = handedOn (f s w (take (lent old) old)) (drop (lent old) old)
 
--- the definition's calls
-unfoldable pub exported : Bytes → List ℕ → Bytes → Handed
-exported s w old = exportedBy call s w old
+-- the returned number `r` and the answer's words `a`, with `out` and `w` for what was lent as `old` and `work`, are all that `f` says
+abbrev pub ExportsBy : Call → Bytes → List ℕ → Bytes → ℕ → List ℕ → Bytes → List ℕ → Type 0
+ExportsBy f s work old r a out w = handed r a out w ≡ exportedBy f s work old
 
-unfoldable pub exportedNames : Bytes → List ℕ → Bytes → Handed
-exportedNames s w old = exportedBy callNames s w old
+-- what `barrizuppa_assemble` and `barrizuppa_assemble_names` promise
+abbrev pub Exports : Bytes → List ℕ → Bytes → ℕ → List ℕ → Bytes → List ℕ → Type 0
+Exports s work old r a out w = ExportsBy call s work old r a out w
+
+abbrev pub ExportsNames : Bytes → List ℕ → Bytes → ℕ → List ℕ → Bytes → List ℕ → Type 0
+ExportsNames s work old r a out w = ExportsBy callNames s work old r a out w

@@ -5,7 +5,7 @@ use mathlib.Core.List.{List}
 use lib.ListN.{length}
 use Rattle.definition.specs.Syntax.{Bytes}
 use Rattle.definition.specs.Assemble as Assemble
-use Rattle.definition.specs.Assemble.{Maker, assembleBy}
+use Rattle.definition.specs.Assemble.{Maker, assembleBy, call, callNames}
 use Rattle.writers.specs.Does.{heard, told}
 use Rattle.writers.specs.declared.Said.{Said}
 
@@ -17,3 +17,18 @@ pub record Runs (make : Maker) (s w old : List ℕ) (r : Said) (w′ new : List 
 -- what was said, and what output and work area are then
 abbrev pub outcomeOf : Said → Bytes → List ℕ → Assemble.Outcome
 outcomeOf r new w = record { number = r .number; rec = r .rec; written = r .len; output = new; work = w }
+
+-- what a call does with a stream, a work area and an output, by the definition
+abbrev pub Call : Type 0
+Call = Bytes → List ℕ → Bytes → Assemble.Outcome
+
+-- the answer `r`, with `out` and `w` for what was lent as `old` and `work`, is all that `f` says
+abbrev pub AssemblesBy : Call → Bytes → List ℕ → Bytes → Said → Bytes → List ℕ → Type 0
+AssemblesBy f s work old r out w = outcomeOf r out w ≡ f s work old
+
+-- what `assemble` and `assemble_names` promise
+abbrev pub Assembles : Bytes → List ℕ → Bytes → Said → Bytes → List ℕ → Type 0
+Assembles s work old r out w = AssemblesBy call s work old r out w
+
+abbrev pub AssemblesNames : Bytes → List ℕ → Bytes → Said → Bytes → List ℕ → Type 0
+AssemblesNames s work old r out w = AssemblesBy callNames s work old r out w

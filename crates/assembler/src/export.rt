@@ -2,9 +2,9 @@
 use crate::call;
 ghost use mathlib.Core.Path.{_≡_};
 ghost use Prim.Native.Nat.{min};
-ghost use Rattle.definition.specs.Assemble as Assemble;
+ghost use Rattle.definition.specs.Assemble.{callBy};
 ghost use Rattle.passes.specs.Passes.{makes};
-ghost use Rattle.assembler.specs.Export.{exportedBy, exported, exportedNames, handed};
+ghost use Rattle.assembler.specs.Export.{ExportsBy, Exports, ExportsNames};
 
 // How much of an output of this length is lent: the written length has to fit in a word of the answer.
 fn room(len: usize) -> usize
@@ -21,7 +21,7 @@ fn answered(
     answer: &mut [u32; 4],
     names: bool,
 ) -> u32
-    ensures { λ r. ⌜ handed r (now (answer .exit)) (now (out .exit)) (now (work .exit)) ≡ exportedBy (Assemble.callBy (makes names)) (now (stream .entry)) (now (work .entry)) (now (out .entry)) ⌝ }
+    ensures { λ r. ⌜ ExportsBy (callBy (makes names)) (now (stream .entry)) (now (work .entry)) (now (out .entry)) r (now (answer .exit)) (now (out .exit)) (now (work .exit)) ⌝ }
 {
     let n = room(out.len());
     let said = call(stream, work, &mut out[..n], names);
@@ -39,7 +39,7 @@ pub extern "C" fn barrizuppa_assemble(
     out: &mut [u8],
     answer: &mut [u32; 4],
 ) -> u32
-    ensures { λ r. ⌜ handed r (now (answer .exit)) (now (out .exit)) (now (work .exit)) ≡ exported (now (stream .entry)) (now (work .entry)) (now (out .entry)) ⌝ }
+    ensures { λ r. ⌜ Exports (now (stream .entry)) (now (work .entry)) (now (out .entry)) r (now (answer .exit)) (now (out .exit)) (now (work .exit)) ⌝ }
 {
     answered(stream, work, out, answer, false)
 }
@@ -52,7 +52,7 @@ pub extern "C" fn barrizuppa_assemble_names(
     out: &mut [u8],
     answer: &mut [u32; 4],
 ) -> u32
-    ensures { λ r. ⌜ handed r (now (answer .exit)) (now (out .exit)) (now (work .exit)) ≡ exportedNames (now (stream .entry)) (now (work .entry)) (now (out .entry)) ⌝ }
+    ensures { λ r. ⌜ ExportsNames (now (stream .entry)) (now (work .entry)) (now (out .entry)) r (now (answer .exit)) (now (out .exit)) (now (work .exit)) ⌝ }
 {
     answered(stream, work, out, answer, true)
 }

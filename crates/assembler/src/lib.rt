@@ -3,10 +3,9 @@ pub mod export;
 
 use parts::Verdict;
 pub use writers::Said;
-ghost use mathlib.Core.Path.{_≡_};
-ghost use Rattle.definition.specs.Assemble as Assemble;
+ghost use Rattle.definition.specs.Assemble.{callBy};
 ghost use Rattle.passes.specs.Passes.{makes};
-ghost use Rattle.assembler.specs.Run.{Runs, outcomeOf};
+ghost use Rattle.assembler.specs.Run.{Runs, AssemblesBy, Assembles, AssemblesNames};
 
 // The passes, and then the writer that is asked for. Whatever has room in the kept bytes is resolved once.
 fn run_keeping(s: &[u8], work: &mut [u32], out: &mut [u8], kept: &mut [u8], names: bool) -> Said
@@ -66,7 +65,7 @@ fn run(s: &[u8], work: &mut [u32], out: &mut [u8], names: bool) -> Said
 
 // The same with the work area cleared.
 fn call(s: &[u8], work: &mut [u32], out: &mut [u8], names: bool) -> Said
-    ensures { λ r. ⌜ outcomeOf r (now (out .exit)) (now (work .exit)) ≡ Assemble.callBy (makes names) (now (s .entry)) (now (work .entry)) (now (out .entry)) ⌝ }
+    ensures { λ r. ⌜ AssemblesBy (callBy (makes names)) (now (s .entry)) (now (work .entry)) (now (out .entry)) r (now (out .exit)) (now (work .exit)) ⌝ }
 {
     let r = run(s, work, out, names);
     space::clear(work);
@@ -76,14 +75,14 @@ fn call(s: &[u8], work: &mut [u32], out: &mut [u8], names: bool) -> Said
 // Any stream to its module. The answer is a number, a record and a length; the output holds the module and beyond it its old bytes, or on a
 // refusal its old bytes; the work area is all zeros.
 pub fn assemble(s: &[u8], work: &mut [u32], out: &mut [u8]) -> Said
-    ensures { λ r. ⌜ outcomeOf r (now (out .exit)) (now (work .exit)) ≡ Assemble.call (now (s .entry)) (now (work .entry)) (now (out .entry)) ⌝ }
+    ensures { λ r. ⌜ Assembles (now (s .entry)) (now (work .entry)) (now (out .entry)) r (now (out .exit)) (now (work .exit)) ⌝ }
 {
     call(s, work, out, false)
 }
 
 // The same with the standard's name section after the module, for a debugger.
 pub fn assemble_names(s: &[u8], work: &mut [u32], out: &mut [u8]) -> Said
-    ensures { λ r. ⌜ outcomeOf r (now (out .exit)) (now (work .exit)) ≡ Assemble.callNames (now (s .entry)) (now (work .entry)) (now (out .entry)) ⌝ }
+    ensures { λ r. ⌜ AssemblesNames (now (s .entry)) (now (work .entry)) (now (out .entry)) r (now (out .exit)) (now (work .exit)) ⌝ }
 {
     call(s, work, out, true)
 }

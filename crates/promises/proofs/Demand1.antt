@@ -4,15 +4,19 @@ use mathlib.Core.Path.{_≡_, refl, _∙_, ap}
 use mathlib.Core.Bool.{Bool, true, false}
 use mathlib.Core.List.{List, [], _++_}
 use lib.Dec.{ltb}
-use lib.ListN.{length, drop, replicate}
+use lib.ListN.{length, take, drop, take-append-drop}
 use native.Mathlib.Omega.{arith}
 use Rattle.definition.specs.Basic.{if_then_else_, Answer, ok, refused, sameBytes}
 use Rattle.definition.specs.Syntax.{Bytes, Identifier, Rec}
 use Rattle.definition.specs.Read.{read}
 use Rattle.definition.specs.Assemble.{refusal, Maker, moduleIn, namedModuleIn, say, sayRead, assembleBy, outputAfter, workAfter, outcome, callBy, call, callNames}
-use Rattle.assembler.specs.Run.{outcomeOf}
+use Rattle.assembler.specs.Run.{outcomeOf, Assembles, AssemblesNames}
+use Rattle.assembler.specs.Export.{lent, ExportsBy, Exports, ExportsNames}
 use Rattle.writers.specs.declared.Said.{Said}
-use Rattle.promises.specs.Promise.{Assembles, AssemblesNames}
+use Rattle.promises.specs.Promise.{outcomeIn, Demand1}
+use Rattle.promises.proofs.Exported.{export-says}
+
+-- ## By the definition: `make` makes the bytes of a call
 
 -- what has a number other than 0 writes nothing
 say-refused : (count : ℕ) (a : Answer Bytes) → 0 < say count a .number → say count a .bytes ≡ []
@@ -31,34 +35,40 @@ refused-writes make s work room h = go (ltb 65536 (length s)) (ltb work 16384) (
     go false false (ok rs) h = say-refused (length rs) (make room rs) h
     go false false (refused n r) h = refl
 
--- of either call: `make` makes its bytes
-module _ (make : Maker) (s : Bytes) (work : List ℕ) (old : Bytes) (r : Said) (out : Bytes) (w : List ℕ) (k : outcomeOf r out w ≡ callBy make s work old) where
-  keeps : 0 < r .number → (r .len ≡ 0) × (out ≡ old)
-  unfolding callBy outcome outputAfter
-  keeps h =
-      let e = refused-writes make s (length work) (length old) (rw (← ap (λ x. x .number) k) h) in
-      (ap (λ x. x .written) k ∙ ap length e, ap (λ x. x .output) k ∙ ap (λ bs. bs ++ drop (length bs) old) e)
+demand-1-by : (make : Maker) (s : Bytes) (work : List ℕ) (old : Bytes) → Demand1 work old (callBy make s work old)
+unfolding callBy outcome outputAfter workAfter
+demand-1-by make s work old = record {
+  refused-keeps = λ h. let e = refused-writes make s (length work) (length old) h in (ap length e, ap (λ bs. bs ++ drop (length bs) old) e);
+  work-cleared = refl;
+}
 
-  cleared : w ≡ replicate (length work) 0
-  unfolding callBy outcome workAfter
-  cleared = ap (λ x. x .work) k
+-- of what is lent, and the bytes beyond it stay
+export-1-by : (make : Maker) (s : Bytes) (work : List ℕ) (old : Bytes) (r : ℕ) (a : List ℕ) (out : Bytes) (w : List ℕ)
+    → ExportsBy (callBy make) s work old r a out w → Demand1 work old (outcomeIn r a out w)
+export-1-by make s work old r a out w k =
+    let d = demand-1-by make s work (take (lent old) old) in
+    rw (export-says (callBy make) s work old r a out w k) (record {
+      refused-keeps = λ h. (d .refused-keeps h .0, ap (λ bs. bs ++ drop (lent old) old) (d .refused-keeps h .1) ∙ take-append-drop (lent old) old);
+      work-cleared = d .work-cleared;
+    })
+
+-- ## The calls
 
 module _ (s : Bytes) (work : List ℕ) (old : Bytes) (r : Said) (out : Bytes) (w : List ℕ) where
-  module _ (k : Assembles s work old r out w) where
-    pub refused-keeps : 0 < r .number → (r .len ≡ 0) × (out ≡ old)
-    unfolding call
-    refused-keeps h = keeps (moduleIn sameBytes) s work old r out w k h
+  pub demand-1-assemble : Assembles s work old r out w → Demand1 work old (outcomeOf r out w)
+  unfolding call
+  demand-1-assemble k = rw k (demand-1-by (moduleIn sameBytes) s work old)
 
-    pub work-cleared : w ≡ replicate (length work) 0
-    unfolding call
-    work-cleared = cleared (moduleIn sameBytes) s work old r out w k
+  pub demand-1-assemble-names : AssemblesNames s work old r out w → Demand1 work old (outcomeOf r out w)
+  unfolding callNames
+  demand-1-assemble-names k = rw k (demand-1-by namedModuleIn s work old)
 
-  -- with names
-  module _ (k : AssemblesNames s work old r out w) where
-    pub names-refused-keeps : 0 < r .number → (r .len ≡ 0) × (out ≡ old)
-    unfolding callNames
-    names-refused-keeps h = keeps namedModuleIn s work old r out w k h
+-- `barrizuppa_assemble`, `barrizuppa_assemble_names`
+module _ (s : Bytes) (work : List ℕ) (old : Bytes) (r : ℕ) (a : List ℕ) (out : Bytes) (w : List ℕ) where
+  pub demand-1-export : Exports s work old r a out w → Demand1 work old (outcomeIn r a out w)
+  unfolding call
+  demand-1-export k = export-1-by (moduleIn sameBytes) s work old r a out w k
 
-    pub names-work-cleared : w ≡ replicate (length work) 0
-    unfolding callNames
-    names-work-cleared = cleared namedModuleIn s work old r out w k
+  pub demand-1-export-names : ExportsNames s work old r a out w → Demand1 work old (outcomeIn r a out w)
+  unfolding callNames
+  demand-1-export-names k = export-1-by namedModuleIn s work old r a out w k

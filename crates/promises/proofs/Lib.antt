@@ -1,4 +1,6 @@
+pub mod Exported
 pub mod OneAnswer
 pub mod Demand1
 pub mod Demand3
+pub mod NamesAfter
 pub mod Shutouts

@@ -5,6 +5,7 @@ use mathlib.Core.List.{List}
 use lib.ListN.{length}
 use native.Mathlib.Omega.{arith}
 use Rattle.definition.specs.Reader.{Step}
+use Rattle.definition.specs.Assemble.{call, callNames}
 use Rattle.emit.specs.Put.{Put}
 use Rattle.leb.specs.Views.{u32At, u64At}
 use Rattle.leb.specs.declared.read.U32.{U32}
@@ -15,38 +16,36 @@ use Rattle.stream.specs.Pass.{counted, Reads}
 use Rattle.stream.specs.Export.{Told}
 use Rattle.stream.specs.declared.pass.Count.{Count}
 use Rattle.stream.specs.declared.pass.Count.the-variants as C
-use Rattle.assembler.specs.Run.{outcomeOf}
-use Rattle.assembler.specs.Export.{handed}
-use Rattle.writers.specs.declared.Said.{Said}
-use Rattle.promises.specs.Promise.{Assembles, AssemblesNames, Exports, ExportsNames}
+use Rattle.assembler.specs.Run.{Call, AssemblesBy, Assembles, AssemblesNames}
+use Rattle.assembler.specs.Export.{ExportsBy, Exports, ExportsNames}
+use Rattle.promises.specs.Promise.{OneAnswer, OneExport}
 
 -- ## The assembler
 
 -- an outcome says all of an answer
-pub outcome-one : (r r′ : Said) (out out′ w w′ : List ℕ) → outcomeOf r out w ≡ outcomeOf r′ out′ w′ → (r ≡ r′) × (out ≡ out′) × (w ≡ w′)
-outcome-one r r′ out out′ w w′ e = (λ i. record { number = e i .number; rec = e i .rec; len = e i .written }, λ i. e i .output, λ i. e i .work)
+answer-one : (f : Call) (s work old : List ℕ) → OneAnswer (AssemblesBy f s work old)
+answer-one f s work old r r′ out out′ w w′ k k′ =
+    let e = k ∙ sym k′ in
+    (λ i. record { number = e i .number; rec = e i .rec; len = e i .written }, λ i. e i .output, λ i. e i .work)
 
-pub assemble-one : (s work old : List ℕ) (r r′ : Said) (out out′ w w′ : List ℕ) → Assembles s work old r out w → Assembles s work old r′ out′ w′
-    → (r ≡ r′) × (out ≡ out′) × (w ≡ w′)
-assemble-one s work old r r′ out out′ w w′ k k′ = outcome-one r r′ out out′ w w′ (k ∙ sym k′)
+pub assemble-one : (s work old : List ℕ) → OneAnswer (Assembles s work old)
+assemble-one = answer-one call
 
-pub assemble-names-one : (s work old : List ℕ) (r r′ : Said) (out out′ w w′ : List ℕ) → AssemblesNames s work old r out w → AssemblesNames s work old r′ out′ w′
-    → (r ≡ r′) × (out ≡ out′) × (w ≡ w′)
-assemble-names-one s work old r r′ out out′ w w′ k k′ = outcome-one r r′ out out′ w w′ (k ∙ sym k′)
+pub assemble-names-one : (s work old : List ℕ) → OneAnswer (AssemblesNames s work old)
+assemble-names-one = answer-one callNames
 
--- what is handed over says all of an answer
-handed-one : (r r′ : ℕ) (a a′ out out′ w w′ : List ℕ) → handed r a out w ≡ handed r′ a′ out′ w′ → (r ≡ r′) × (a ≡ a′) × (out ≡ out′) × (w ≡ w′)
-handed-one r r′ a a′ out out′ w w′ e = (λ i. e i .number, λ i. e i .answer, λ i. e i .output, λ i. e i .work)
+-- and so does what is handed over
+handed-one : (f : Call) (s work old : List ℕ) → OneExport (ExportsBy f s work old)
+handed-one f s work old r r′ a a′ out out′ w w′ k k′ =
+    let e = k ∙ sym k′ in
+    (λ i. e i .number, λ i. e i .answer, λ i. e i .output, λ i. e i .work)
 
--- `barrizuppa_assemble`
-pub export-one : (s work old : List ℕ) (r r′ : ℕ) (a a′ out out′ w w′ : List ℕ) → Exports s work old r a out w → Exports s work old r′ a′ out′ w′
-    → (r ≡ r′) × (a ≡ a′) × (out ≡ out′) × (w ≡ w′)
-export-one s work old r r′ a a′ out out′ w w′ k k′ = handed-one r r′ a a′ out out′ w w′ (k ∙ sym k′)
+-- `barrizuppa_assemble`, `barrizuppa_assemble_names`
+pub export-one : (s work old : List ℕ) → OneExport (Exports s work old)
+export-one = handed-one call
 
--- `barrizuppa_assemble_names`
-pub export-names-one : (s work old : List ℕ) (r r′ : ℕ) (a a′ out out′ w w′ : List ℕ) → ExportsNames s work old r a out w → ExportsNames s work old r′ a′ out′ w′
-    → (r ≡ r′) × (a ≡ a′) × (out ≡ out′) × (w ≡ w′)
-export-names-one s work old r r′ a a′ out out′ w w′ k k′ = handed-one r r′ a a′ out out′ w w′ (k ∙ sym k′)
+pub export-names-one : (s work old : List ℕ) → OneExport (ExportsNames s work old)
+export-names-one = handed-one callNames
 
 -- ## The reading pass
 

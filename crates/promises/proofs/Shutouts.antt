@@ -11,8 +11,8 @@ use Rattle.definition.specs.Syntax.{Bytes}
 use Rattle.definition.specs.Assemble as Assemble
 use Rattle.definition.specs.Assemble.{refusal, say, assemble, outputAfter, outcome, callBy, call}
 use Rattle.renaming.proofs.Examples.{computing, S7}
+use Rattle.assembler.specs.Run.{Assembles}
 use Rattle.writers.specs.declared.Said.{Said}
-use Rattle.promises.specs.Promise.{Assembles}
 
 -- ## The samples, by the definition
 
@@ -83,3 +83,14 @@ module _ (work : List ℕ) (h : 16384 ≤ length work) (old : Bytes) (r : Said) 
   -- one that accepts everything
   pub not-all-accepted : Assembles (S7 0x79) work old r out w → r .number ≡ 0 → ⊥
   not-all-accepted k n = let e : r .number ≡ 14 = ap (λ x. x .number) (S7-slip-answer k .0) in omega (arith, e)
+
+  -- one with an invented length
+  pub not-invented-length : 35 ≤ length old → Assembles (S7 0x78) work old r out w → (r .len ≡ 35 → ⊥) → ⊥
+  not-invented-length b k n = n (ap (λ x. x .len) (S7-answer b k .0))
+
+  -- one with an invented record: where it accepts the count of records, where it refuses that of the fault
+  pub not-invented-record : 35 ≤ length old → Assembles (S7 0x78) work old r out w → (r .rec ≡ 3 → ⊥) → ⊥
+  not-invented-record b k n = n (ap (λ x. x .rec) (S7-answer b k .0))
+
+  pub not-invented-place : Assembles (S7 0x79) work old r out w → (r .rec ≡ 1 → ⊥) → ⊥
+  not-invented-place k n = n (ap (λ x. x .rec) (S7-slip-answer k .0))

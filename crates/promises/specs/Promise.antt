@@ -1,29 +1,35 @@
--- What the calls of the assembler promise, with names and without, and what demand 3 says of two answers.
+-- What follows from the promises of the assembler's calls (`Assembles`, `Exports` and their twins in crates/assembler/specs), with names and without.
 use mathlib.Core.Path.{_≡_}
-use mathlib.Core.List.{List}
-use Prim.Native.Nat.{ℕ}
-use lib.ListN.{length, take, getD}
-use Rattle.definition.specs.Syntax.{Bytes}
-use Rattle.definition.specs.Assemble.{call, callNames}
-use Rattle.assembler.specs.Run.{outcomeOf}
-use Rattle.assembler.specs.Export.{handed, exported, exportedNames}
+use mathlib.Core.List.{List, [], _++_}
+use Prim.Native.Nat.{ℕ, _<_}
+use lib.ListN.{length, take, getD, replicate}
+use Rattle.definition.specs.Basic.{Answer, ok, refused}
+use Rattle.definition.specs.Syntax.{Bytes, Identifier, Rec}
+use Rattle.definition.specs.Assemble.{Outcome}
+use Rattle.renaming.specs.Renamed.{namesOf}
 use Rattle.writers.specs.declared.Said.{Said}
 
--- the `ensures` of `assembler::assemble`: `work` and `old` are what was lent, `r` is the answer, `out` and `w` are what was lent after the call
-abbrev pub Assembles : Bytes → List ℕ → Bytes → Said → Bytes → List ℕ → Type 0
-Assembles s work old r out w = outcomeOf r out w ≡ call s work old
+-- what an exported call says and leaves: the returned number, and of the answer's words the record and the written length
+abbrev pub outcomeIn : ℕ → List ℕ → Bytes → List ℕ → Outcome
+outcomeIn r a out w = record { number = r; rec = getD a 1 0; written = getD a 2 0; output = out; work = w }
 
--- that of `assembler::assemble_names`
-abbrev pub AssemblesNames : Bytes → List ℕ → Bytes → Said → Bytes → List ℕ → Type 0
-AssemblesNames s work old r out w = outcomeOf r out w ≡ callNames s work old
+-- ## One promise, one answer
 
--- that of `barrizuppa_assemble`: `r` is the returned number and `a` the answer's words
-abbrev pub Exports : Bytes → List ℕ → Bytes → ℕ → List ℕ → Bytes → List ℕ → Type 0
-Exports s work old r a out w = handed r a out w ≡ exported s work old
+abbrev pub OneAnswer : (Said → Bytes → List ℕ → Type 0) → Type 0
+OneAnswer P = (r r′ : Said) (out out′ : Bytes) (w w′ : List ℕ) → P r out w → P r′ out′ w′ → (r ≡ r′) × (out ≡ out′) × (w ≡ w′)
 
--- and that of `barrizuppa_assemble_names`
-abbrev pub ExportsNames : Bytes → List ℕ → Bytes → ℕ → List ℕ → Bytes → List ℕ → Type 0
-ExportsNames s work old r a out w = handed r a out w ≡ exportedNames s work old
+abbrev pub OneExport : (ℕ → List ℕ → Bytes → List ℕ → Type 0) → Type 0
+OneExport P =
+    (r r′ : ℕ) (a a′ : List ℕ) (out out′ : Bytes) (w w′ : List ℕ) → P r a out w → P r′ a′ out′ w′
+    → (r ≡ r′) × (a ≡ a′) × (out ≡ out′) × (w ≡ w′)
+
+-- ## Demand 1, of what was lent as `work` and `old`
+
+pub record Demand1 (work : List ℕ) (old : Bytes) (o : Outcome) : Type 0 where
+  pub refused-keeps : 0 < o .number → (o .written ≡ 0) × (o .output ≡ old)
+  pub work-cleared : o .work ≡ replicate (length work) 0
+
+-- ## Demand 3
 
 -- number, record and length; the module's bytes; and where the same was lent, the whole output and the work area
 pub record SameAnswer (work work′ : List ℕ) (old old′ : Bytes) (r r′ : Said) (out out′ : Bytes) (w w′ : List ℕ) : Type 0 where
@@ -39,3 +45,17 @@ pub record SameExport (work work′ : List ℕ) (old old′ : Bytes) (r r′ : �
   pub bytes : take (getD a 2 0) out ≡ take (getD a′ 2 0) out′
   pub outputs : old ≡ old′ → out ≡ out′
   pub works : length work ≡ length work′ → w ≡ w′
+
+-- ## The module before its names
+
+-- the name section of a stream's records
+abbrev pub sectionOf : Answer (List (Rec Identifier)) → Bytes
+sectionOf (ok rs) = namesOf rs
+sectionOf (refused n r) = []
+
+-- both calls have accepted: `a`, with names, has written what `b` wrote without them, and then the section
+pub record NamesAfter (section : Bytes) (a b : Outcome) : Type 0 where
+  pub number : a .number ≡ 0
+  pub number′ : b .number ≡ 0
+  pub rec : a .rec ≡ b .rec
+  pub bytes : take (a .written) (a .output) ≡ take (b .written) (b .output) ++ section
