@@ -91,36 +91,12 @@ pub fn with_field(seen: Seen, f: Field) -> Seen
     ensures { λ r. ⌜ r ≡ fieldSeen seen f ⌝ }
 {
     match f {
-        Field::Type {
-            id: _,
-            params: _,
-            results: _,
-        } => one_more(seen, Space::Types),
-        Field::Import {
-            name: _,
-            id: _,
-            what,
-        } => one_more(seen, extern_space(what)),
-        Field::Item {
-            id: _,
-            exports: _,
-            source,
-        } => with_source(seen, source),
-        Field::Export {
-            name: _,
-            space: _,
-            index: _,
-        } => seen,
+        Field::Type { .. } => one_more(seen, Space::Types),
+        Field::Import { what, .. } => one_more(seen, extern_space(what)),
+        Field::Item { source, .. } => with_source(seen, source),
+        Field::Export { .. } => seen,
         Field::Start(_) => with_start(seen),
-        Field::Elem {
-            id: _,
-            mode: _,
-            funcs: _,
-        } => one_more(seen, Space::Elems),
-        Field::Data {
-            id: _,
-            mode: _,
-            bytes: _,
-        } => one_more(seen, Space::Datas),
+        Field::Elem { .. } => one_more(seen, Space::Elems),
+        Field::Data { .. } => one_more(seen, Space::Datas),
     }
 }

@@ -2,9 +2,12 @@
 use mathlib.Core.Path.{_≡_, refl, ap, sym, _∙_}
 use Prim.Native.Nat.{ℕ, zero, suc, _-_, _≤_, _<_}
 use mathlib.Core.Bool.{true, false}
+use mathlib.Core.List.{[], _∷_}
 use mathlib.Core.Option.{Option, none, some}
 use lib.Dec.{leb}
 use borrow.Author.Tests.{le-leb, ne-eqb}
+use types.Run.{OneOf, miss}
+use denote.Enum.Declared.{tagOf}
 use native.Mathlib.Omega.{arith}
 use native.Mathlib.Numerals.{add-one}
 use Rattle.definition.specs.Basic.{ok, refused, between, isSome}
@@ -23,6 +26,7 @@ use Rattle.fields.specs.declared.field.FieldAt.the-variants as FA
 use Rattle.instr.specs.Views.{formIs}
 use Rattle.instr.specs.declared.Form.{Form}
 use Rattle.instr.specs.declared.Form.the-variants as FM
+use Rattle.instr.proofs.Form as FormOf
 use Rattle.records.specs.Places.{bodyOf, depthOf, recordPast, placeAfter, fieldRecordAt}
 use Rattle.records.specs.Answers.{fieldDepth}
 use Rattle.records.specs.declared.record.Place.{Place}
@@ -76,8 +80,19 @@ pub begins-not : (b d : ℕ) (r : Form) → 1 ≤ d → (b ≡ 0xFF → ⊥) →
 unfolding isSome
 begins-not b d r h n e g = ap (λ x. isSome (formIs x)) (sym g) ∙ some-form b d r h n e
 
-pub begins-form : (b d : ℕ) (r v : Form) → 1 ≤ d → (b ≡ 0xFF → ⊥) → formOf b ≡ formIs r → r ≡ v → true ≡ isSome (formIs v) → true ≡ beginsIn b (bodyOf d)
-begins-form b d r v h n e g t = t ∙ ap (λ x. isSome (formIs x)) (sym g) ∙ some-form b d r h n e
+-- every other form is one
+is-form : (r : Form) → OneOf (1 ∷ 2 ∷ 3 ∷ 4 ∷ 5 ∷ []) (tagOf FormOf.the-type r) → true ≡ isSome (formIs r)
+unfolding isSome
+is-form FM.NoOpcode h = absurd (miss (1 ∷ 2 ∷ 3 ∷ 4 ∷ 5 ∷ []) 0 tt h)
+is-form FM.Opening h = refl
+is-form FM.Elsing h = refl
+is-form FM.Ending h = refl
+is-form FM.Calling h = refl
+is-form (FM.Operands w) h = refl
+
+pub begins-form : (b d : ℕ) (r : Form) → 1 ≤ d → (b ≡ 0xFF → ⊥) → formOf b ≡ formIs r → OneOf (1 ∷ 2 ∷ 3 ∷ 4 ∷ 5 ∷ []) (tagOf FormOf.the-type r)
+    → true ≡ beginsIn b (bodyOf d)
+begins-form b d r h n e t = is-form r t ∙ some-form b d r h n e
 
 -- ## The ways out
 

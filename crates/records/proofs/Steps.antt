@@ -1,14 +1,22 @@
 -- The small steps of the code: depths, bytes.
-use mathlib.Core.Path.{_≡_}
+use mathlib.Core.Path.{_≡_, refl}
 use Prim.Native.Nat.{ℕ}
 use mathlib.Core.Bool.{Bool, true, false}
-use mathlib.Core.List.{List}
+use mathlib.Core.List.{List, [], _∷_}
 use lib.ListN.{getD}
+use types.Run.{OneOf, miss}
+use denote.Enum.Declared.{tagOf}
 use Rattle.definition.specs.Basic.{if_then_else_}
 use Rattle.definition.specs.Read.{beginsIn}
 use Rattle.sources.specs.declared.source.Own.{Own}
+use Rattle.sources.specs.declared.source.Own.the-variants as O
+use Rattle.sources.proofs.source.Own as OwnOf
 use Rattle.sources.specs.declared.source.Source.{Source}
+use Rattle.sources.specs.declared.source.Source.the-variants as S
+use Rattle.sources.proofs.source.Source as SourceOf
 use Rattle.fields.specs.declared.field.Field.{Field}
+use Rattle.fields.specs.declared.field.Field.the-variants as F
+use Rattle.fields.proofs.field.Field as FieldOf
 use Rattle.records.specs.Places.{bodyOf, recordPast}
 use Rattle.records.specs.Answers.{ownDepth, sourceDepth, fieldDepth, onPast}
 use Rattle.records.specs.declared.record.Place.{Place}
@@ -25,6 +33,28 @@ source-deep n x v e d = rw e d
 
 pub own-deep : (n : ℕ) (o v : Own) → o ≡ v → n ≡ ownDepth v → n ≡ ownDepth o
 own-deep n o v e d = rw e d
+
+-- no other begins a body
+pub own-flat : (o : Own) → OneOf (1 ∷ 2 ∷ 3 ∷ []) (tagOf OwnOf.the-type o) → _≡_ {A = ℕ} 0 (ownDepth o)
+own-flat (O.Func t ls) h = absurd (miss (1 ∷ 2 ∷ 3 ∷ []) 0 tt h)
+own-flat (O.Table t) h = refl
+own-flat (O.Mem l) h = refl
+own-flat (O.Global t c) h = refl
+
+pub source-flat : (x : Source) → OneOf (1 ∷ 2 ∷ 3 ∷ []) (tagOf SourceOf.the-type x) → _≡_ {A = ℕ} 0 (sourceDepth x)
+source-flat (S.Own o) h = absurd (miss (1 ∷ 2 ∷ 3 ∷ []) 0 tt h)
+source-flat (S.Imported n x) h = refl
+source-flat (S.TableOf w xs) h = refl
+source-flat (S.MemOf w d) h = refl
+
+pub field-flat : (f : Field) → OneOf (0 ∷ 1 ∷ 3 ∷ 4 ∷ 5 ∷ 6 ∷ []) (tagOf FieldOf.the-type f) → _≡_ {A = ℕ} 0 (fieldDepth f)
+field-flat (F.Type i ps rs) h = refl
+field-flat (F.Import n i x) h = refl
+field-flat (F.Item i es x) h = absurd (miss (0 ∷ 1 ∷ 3 ∷ 4 ∷ 5 ∷ 6 ∷ []) 2 tt h)
+field-flat (F.Export n k x) h = refl
+field-flat (F.Start x) h = refl
+field-flat (F.Elem i m xs) h = refl
+field-flat (F.Data i m d) h = refl
 
 -- ## An instruction
 

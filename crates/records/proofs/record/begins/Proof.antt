@@ -29,7 +29,7 @@ returns-4 c = search (begins-low, begins-field, begins-end, begins-not, begins-f
 
 returns-5 : tie.Need-returns-5
 unfolding isSome
-returns-5 c = search (begins-low, begins-field, begins-end, begins-not, begins-form, refl) depth 8
+returns-5 c = search begins-form
 
 pub begins-spec : {M : Type 1} → statement M
 begins-spec =

@@ -1,4 +1,4 @@
-use Rattle.records.proofs.Steps.{field-deep, source-deep, own-deep}
+use Rattle.records.proofs.Steps.{field-deep, source-deep, own-deep, own-flat, source-flat, field-flat}
 use borrow.Author.Needs.{needs}
 use mathlib.Core.Path.{refl}
 use Rattle.records.proofs.record.field_depth.Statement.{statement}
@@ -17,13 +17,13 @@ returns : tie.Need-returns
 returns c = search (field-deep, source-deep, own-deep, refl) depth 8
 
 returns-2 : tie.Need-returns-2
-returns-2 c = search (field-deep, source-deep, own-deep, refl) depth 8
+returns-2 c = search (field-deep, source-deep, own-flat) depth 8
 
 returns-3 : tie.Need-returns-3
-returns-3 c = search (field-deep, source-deep, own-deep, refl) depth 8
+returns-3 c = search (field-deep, source-flat) depth 8
 
 returns-4 : tie.Need-returns-4
-returns-4 c = search (field-deep, source-deep, own-deep, refl) depth 8
+returns-4 c = search field-flat
 
 pub field-depth-spec : {M : Type 1} → statement M
 field-depth-spec =
