@@ -133,19 +133,16 @@ pub fn field_record(s: &[u8], p: Place, seen: Seen) -> OutsideAt
     requires { ⌜ p .rec < 4096 ⌝ }
     ensures { λ r. ⌜ fieldRecordAt (roomOf seen) p (now (s .entry)) ≡ outsideAnswer (now (s .entry)) (r .what) (r .place) ⌝ }
 {
+    let what;
     match field_table::read_field(s, p.at, seen) {
         FieldAt::Got(f, at) => {
             let place = after_record(p, at, field_depth(f));
-            return OutsideAt {
-                what: Outside::Field(f),
-                place,
-            };
+            what = Outside::Field(f);
+            return OutsideAt { what, place };
         }
         FieldAt::Fault(n) => {
-            return OutsideAt {
-                what: Outside::Refused(n),
-                place: p,
-            };
+            what = Outside::Refused(n);
+            return OutsideAt { what, place: p };
         }
     }
 }

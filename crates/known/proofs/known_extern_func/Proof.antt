@@ -32,4 +32,14 @@ returns-3 c = search known-externs
 
 pub known-extern-func-spec : {M : Type 1} → statement M
 known-extern-func-spec =
-    tie.close (tie.spec known-identifier-requires enum-known-id known-type-use-requires enum-known-t returns enum-known-e returns-2 enum-known-e-2 returns-3)
+    tie.close
+    (tie.spec
+    known-identifier-requires
+    enum-known-id
+    known-type-use-requires
+    enum-known-t
+    returns
+    enum-known-e
+    returns-2
+    enum-known-e-2
+    returns-3)

@@ -39,4 +39,15 @@ returns-4 c = search (ways, byte-not)
 
 pub known-field-spec : {M : Type 1} → statement M
 known-field-spec =
-    tie.close (tie.spec read-byte-requires enum-known-b known-import-requires returns known-func-requires returns-2 read-field-requires returns-3 enum-known-e returns-4)
+    tie.close
+    (tie.spec
+    read-byte-requires
+    enum-known-b
+    known-import-requires
+    returns
+    known-func-requires
+    returns-2
+    read-field-requires
+    returns-3
+    enum-known-e
+    returns-4)

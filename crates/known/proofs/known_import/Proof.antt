@@ -47,4 +47,17 @@ returns-4 c = search (ways, answers, source-answers) depth 12
 
 pub known-import-spec : {M : Type 1} → statement M
 known-import-spec =
-    tie.close (tie.spec known-import-name-requires enum-known-name read-byte-requires enum-known-kind known-extern-func-requires returns read-import-requires returns-2 enum-known-e returns-3 enum-known-e-2 returns-4)
+    tie.close
+    (tie.spec
+    known-import-name-requires
+    enum-known-name
+    read-byte-requires
+    enum-known-kind
+    known-extern-func-requires
+    returns
+    read-import-requires
+    returns-2
+    enum-known-e
+    returns-3
+    enum-known-e-2
+    returns-4)

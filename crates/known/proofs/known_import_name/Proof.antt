@@ -38,4 +38,14 @@ returns-3 c = search (ways, answers) depth 12
 
 pub known-import-name-spec : {M : Type 1} → statement M
 known-import-name-spec =
-    tie.close (tie.spec known-string-requires enum-known-module known-string-requires-2 enum-known-item returns enum-known-e returns-2 enum-known-e-2 returns-3)
+    tie.close
+    (tie.spec
+    known-string-requires
+    enum-known-module
+    known-string-requires-2
+    enum-known-item
+    returns
+    enum-known-e
+    returns-2
+    enum-known-e-2
+    returns-3)

@@ -34,4 +34,14 @@ returns-3 c = search (known-owns, use-answers)
 
 pub known-own-spec : {M : Type 1} → statement M
 known-own-spec =
-    tie.close (tie.spec known-type-use-requires enum-known-t known-local-list-requires enum-known-locals returns enum-known-e returns-2 enum-known-e-2 returns-3)
+    tie.close
+    (tie.spec
+    known-type-use-requires
+    enum-known-t
+    known-local-list-requires
+    enum-known-locals
+    returns
+    enum-known-e
+    returns-2
+    enum-known-e-2
+    returns-3)

@@ -51,4 +51,18 @@ returns-4 c = search (ways, answers, field-answers) depth 14
 
 pub read-export-spec : {M : Type 1} → statement M
 read-export-spec =
-    tie.close (tie.spec read-string-requires enum-known-name read-kind-requires enum-known-space read-present-requires enum-known-index returns enum-known-e returns-2 enum-known-e-2 returns-3 enum-known-e-3 returns-4)
+    tie.close
+    (tie.spec
+    read-string-requires
+    enum-known-name
+    read-kind-requires
+    enum-known-space
+    read-present-requires
+    enum-known-index
+    returns
+    enum-known-e
+    returns-2
+    enum-known-e-2
+    returns-3
+    enum-known-e-3
+    returns-4)

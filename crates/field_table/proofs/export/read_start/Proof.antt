@@ -30,4 +30,5 @@ returns-3 c = search (ways, answers, stop-both, starts) depth 14
 
 pub read-start-spec : {M : Type 1} → statement M
 read-start-spec =
-    tie.close (tie.spec returns read-present-requires enum-known-x returns-2 enum-known-e returns-3)
+    tie.close
+    (tie.spec returns read-present-requires enum-known-x returns-2 enum-known-e returns-3)

@@ -59,4 +59,20 @@ returns-5 c = search (ways, answers, field-answers, rooms) depth 14
 
 pub read-data-spec : {M : Type 1} → statement M
 read-data-spec =
-    tie.close (tie.spec has-room-requires returns read-identifier-requires enum-known-id read-mode-requires enum-known-mode read-data-requires enum-known-bytes returns-2 enum-known-e returns-3 enum-known-e-2 returns-4 enum-known-e-3 returns-5)
+    tie.close
+    (tie.spec
+    has-room-requires
+    returns
+    read-identifier-requires
+    enum-known-id
+    read-mode-requires
+    enum-known-mode
+    read-data-requires
+    enum-known-bytes
+    returns-2
+    enum-known-e
+    returns-3
+    enum-known-e-2
+    returns-4
+    enum-known-e-3
+    returns-5)

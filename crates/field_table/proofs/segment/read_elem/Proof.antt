@@ -60,4 +60,20 @@ returns-5 c = search (ways, answers, use-answers, field-answers, rooms) depth 14
 
 pub read-elem-spec : {M : Type 1} → statement M
 read-elem-spec =
-    tie.close (tie.spec has-room-requires returns read-identifier-requires enum-known-id read-mode-requires enum-known-mode read-list-requires enum-known-funcs returns-2 enum-known-e returns-3 enum-known-e-2 returns-4 enum-known-e-3 returns-5)
+    tie.close
+    (tie.spec
+    has-room-requires
+    returns
+    read-identifier-requires
+    enum-known-id
+    read-mode-requires
+    enum-known-mode
+    read-list-requires
+    enum-known-funcs
+    returns-2
+    enum-known-e
+    returns-3
+    enum-known-e-2
+    returns-4
+    enum-known-e-3
+    returns-5)

@@ -94,4 +94,30 @@ returns-12 c = search (ways, byte-got, byte-not) depth 16
 
 pub read-field-spec : {M : Type 1} → statement M
 read-field-spec =
-    tie.close (tie.spec read-byte-requires enum-known-b read-type-requires returns read-import-requires returns-2 read-item-requires returns-3 read-item-requires-2 returns-4 read-item-requires-3 returns-5 read-item-requires-4 returns-6 read-export-requires returns-7 read-start-requires returns-8 read-elem-requires returns-9 read-data-requires returns-10 returns-11 enum-known-e returns-12)
+    tie.close
+    (tie.spec
+    read-byte-requires
+    enum-known-b
+    read-type-requires
+    returns
+    read-import-requires
+    returns-2
+    read-item-requires
+    returns-3
+    read-item-requires-2
+    returns-4
+    read-item-requires-3
+    returns-5
+    read-item-requires-4
+    returns-6
+    read-export-requires
+    returns-7
+    read-start-requires
+    returns-8
+    read-elem-requires
+    returns-9
+    read-data-requires
+    returns-10
+    returns-11
+    enum-known-e
+    returns-12)

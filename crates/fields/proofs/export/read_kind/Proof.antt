@@ -40,4 +40,14 @@ returns-6 c = search (ways, answers) depth 14
 
 pub read-kind-spec : {M : Type 1} → statement M
 read-kind-spec =
-    tie.close (tie.spec read-byte-requires enum-known-b returns returns-2 returns-3 returns-4 returns-5 enum-known-e returns-6)
+    tie.close
+    (tie.spec
+    read-byte-requires
+    enum-known-b
+    returns
+    returns-2
+    returns-3
+    returns-4
+    returns-5
+    enum-known-e
+    returns-6)

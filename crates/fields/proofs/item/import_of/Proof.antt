@@ -45,4 +45,16 @@ returns-4 c = search (ways, answers, source-answers, rooms) depth 14
 
 pub import-of-spec : {M : Type 1} → statement M
 import-of-spec =
-    tie.close (tie.spec has-room-for-requires returns read-identifier-requires enum-known-id read-extern-requires enum-known-what returns-2 enum-known-e returns-3 enum-known-e-2 returns-4)
+    tie.close
+    (tie.spec
+    has-room-for-requires
+    returns
+    read-identifier-requires
+    enum-known-id
+    read-extern-requires
+    enum-known-what
+    returns-2
+    enum-known-e
+    returns-3
+    enum-known-e-2
+    returns-4)

@@ -22,4 +22,5 @@ returns-2 c = search (ways, source-answers, form-read) depth 8
 
 pub item-of-spec : {M : Type 1} → statement M
 item-of-spec =
-    tie.close (tie.spec read-source-requires enum-known-source returns enum-known-e returns-2)
+    tie.close
+    (tie.spec read-source-requires enum-known-source returns enum-known-e returns-2)

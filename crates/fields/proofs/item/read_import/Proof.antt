@@ -66,4 +66,22 @@ returns-7 c = search (ways, answers, source-answers) depth 14
 
 pub read-import-spec : {M : Type 1} → statement M
 read-import-spec =
-    tie.close (tie.spec read-import-name-requires enum-known-name read-byte-requires enum-known-b import-of-requires returns import-of-requires-2 returns-2 import-of-requires-3 returns-3 import-of-requires-4 returns-4 returns-5 enum-known-e returns-6 enum-known-e-2 returns-7)
+    tie.close
+    (tie.spec
+    read-import-name-requires
+    enum-known-name
+    read-byte-requires
+    enum-known-b
+    import-of-requires
+    returns
+    import-of-requires-2
+    returns-2
+    import-of-requires-3
+    returns-3
+    import-of-requires-4
+    returns-4
+    returns-5
+    enum-known-e
+    returns-6
+    enum-known-e-2
+    returns-7)

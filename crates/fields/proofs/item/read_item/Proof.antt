@@ -50,4 +50,17 @@ returns-4 c = search (ways, answers, use-answers, rooms) depth 14
 
 pub read-item-spec : {M : Type 1} → statement M
 read-item-spec =
-    tie.close (tie.spec has-room-for-requires returns read-identifier-requires enum-known-id read-list-requires enum-known-exports item-of-requires returns-2 enum-known-e returns-3 enum-known-e-2 returns-4)
+    tie.close
+    (tie.spec
+    has-room-for-requires
+    returns
+    read-identifier-requires
+    enum-known-id
+    read-list-requires
+    enum-known-exports
+    item-of-requires
+    returns-2
+    enum-known-e
+    returns-3
+    enum-known-e-2
+    returns-4)

@@ -59,4 +59,20 @@ returns-5 c = search (ways, answers, use-answers, rooms) depth 14
 
 pub read-type-spec : {M : Type 1} → statement M
 read-type-spec =
-    tie.close (tie.spec has-room-requires returns read-identifier-requires enum-known-id read-list-requires enum-known-params read-list-requires-2 enum-known-results returns-2 enum-known-e returns-3 enum-known-e-2 returns-4 enum-known-e-3 returns-5)
+    tie.close
+    (tie.spec
+    has-room-requires
+    returns
+    read-identifier-requires
+    enum-known-id
+    read-list-requires
+    enum-known-params
+    read-list-requires-2
+    enum-known-results
+    returns-2
+    enum-known-e
+    returns-3
+    enum-known-e-2
+    returns-4
+    enum-known-e-3
+    returns-5)

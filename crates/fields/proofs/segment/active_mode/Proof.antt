@@ -38,4 +38,14 @@ returns-3 c = search (ways, answers, plain-answers) depth 14
 
 pub active-mode-spec : {M : Type 1} → statement M
 active-mode-spec =
-    tie.close (tie.spec read-optional-requires enum-known-x read-const-requires enum-known-offset returns enum-known-e returns-2 enum-known-e-2 returns-3)
+    tie.close
+    (tie.spec
+    read-optional-requires
+    enum-known-x
+    read-const-requires
+    enum-known-offset
+    returns
+    enum-known-e
+    returns-2
+    enum-known-e-2
+    returns-3)

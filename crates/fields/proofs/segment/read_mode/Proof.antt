@@ -35,4 +35,13 @@ returns-4 c = search (ways, answers) depth 14
 
 pub read-mode-spec : {M : Type 1} → statement M
 read-mode-spec =
-    tie.close (tie.spec read-byte-requires enum-known-b returns active-mode-requires returns-2 returns-3 enum-known-e returns-4)
+    tie.close
+    (tie.spec
+    read-byte-requires
+    enum-known-b
+    returns
+    active-mode-requires
+    returns-2
+    returns-3
+    enum-known-e
+    returns-4)

@@ -38,4 +38,16 @@ returns-4 c = search body-ways depth 8
 
 pub body-record-spec : {M : Type 1} → statement M
 body-record-spec =
-    tie.close (tie.spec read-byte-requires enum-known-b pass-instr-requires returns refused-requires returns-2 after-record-requires returns-3 enum-known-n refused-requires-2 returns-4)
+    tie.close
+    (tie.spec
+    read-byte-requires
+    enum-known-b
+    pass-instr-requires
+    returns
+    refused-requires
+    returns-2
+    after-record-requires
+    returns-3
+    enum-known-n
+    refused-requires-2
+    returns-4)

@@ -26,4 +26,12 @@ returns-2 c = search (record-ways) depth 8
 
 pub field-record-spec : {M : Type 1} → statement M
 field-record-spec =
-    tie.close (tie.spec read-field-requires enum-known-f field-depth-requires after-record-requires returns enum-known-n returns-2)
+    tie.close
+    (tie.spec
+    read-field-requires
+    enum-known-f
+    field-depth-requires
+    after-record-requires
+    returns
+    enum-known-n
+    returns-2)

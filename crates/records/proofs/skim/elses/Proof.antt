@@ -26,4 +26,12 @@ returns-2 c = search skims depth 8
 
 pub elses-spec : {M : Type 1} → statement M
 elses-spec =
-    tie.close (tie.spec pass-label-requires enum-known-next on-requires returns enum-known-n refused-requires returns-2)
+    tie.close
+    (tie.spec
+    pass-label-requires
+    enum-known-next
+    on-requires
+    returns
+    enum-known-n
+    refused-requires
+    returns-2)

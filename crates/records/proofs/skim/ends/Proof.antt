@@ -29,4 +29,13 @@ returns-2 c = search skims depth 8
 
 pub ends-spec : {M : Type 1} → statement M
 ends-spec =
-    tie.close (tie.spec pass-label-requires enum-known-next sub-on on-requires returns enum-known-n refused-requires returns-2)
+    tie.close
+    (tie.spec
+    pass-label-requires
+    enum-known-next
+    sub-on
+    on-requires
+    returns
+    enum-known-n
+    refused-requires
+    returns-2)

@@ -41,4 +41,17 @@ returns-3 c = search skims depth 8
 
 pub indirect-spec : {M : Type 1} → statement M
 indirect-spec =
-    tie.close (tie.spec pass-optional-requires enum-known-a read-type-use-requires enum-known-next on-requires returns enum-known-n refused-requires returns-2 enum-known-n-2 refused-requires-2 returns-3)
+    tie.close
+    (tie.spec
+    pass-optional-requires
+    enum-known-a
+    read-type-use-requires
+    enum-known-next
+    on-requires
+    returns
+    enum-known-n
+    refused-requires
+    returns-2
+    enum-known-n-2
+    refused-requires-2
+    returns-3)

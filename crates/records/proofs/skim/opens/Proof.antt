@@ -53,4 +53,21 @@ returns-4 c = search skims depth 8
 
 pub opens-spec : {M : Type 1} → statement M
 opens-spec =
-    tie.close (tie.spec refused-requires returns pass-identifier-requires enum-known-a read-type-use-requires enum-known-t add-on is-short-requires on-requires returns-2 enum-known-n refused-requires-2 returns-3 enum-known-n-2 refused-requires-3 returns-4)
+    tie.close
+    (tie.spec
+    refused-requires
+    returns
+    pass-identifier-requires
+    enum-known-a
+    read-type-use-requires
+    enum-known-t
+    add-on
+    is-short-requires
+    on-requires
+    returns-2
+    enum-known-n
+    refused-requires-2
+    returns-3
+    enum-known-n-2
+    refused-requires-3
+    returns-4)

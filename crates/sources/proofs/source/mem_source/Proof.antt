@@ -49,4 +49,16 @@ returns-5 c = search (ways, answers, type-answers, use-answers, plain-answers, s
 
 pub mem-source-spec : {M : Type 1} → statement M
 mem-source-spec =
-    tie.close (tie.spec read-byte-requires enum-known-b own-mem-form-requires returns import-form-requires returns-2 inline-mem-form-requires returns-3 returns-4 enum-known-e returns-5)
+    tie.close
+    (tie.spec
+    read-byte-requires
+    enum-known-b
+    own-mem-form-requires
+    returns
+    import-form-requires
+    returns-2
+    inline-mem-form-requires
+    returns-3
+    returns-4
+    enum-known-e
+    returns-5)

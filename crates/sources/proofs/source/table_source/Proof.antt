@@ -49,4 +49,16 @@ returns-5 c = search (ways, answers, type-answers, use-answers, plain-answers, s
 
 pub table-source-spec : {M : Type 1} → statement M
 table-source-spec =
-    tie.close (tie.spec read-byte-requires enum-known-b own-table-form-requires returns import-form-requires returns-2 inline-table-form-requires returns-3 returns-4 enum-known-e returns-5)
+    tie.close
+    (tie.spec
+    read-byte-requires
+    enum-known-b
+    own-table-form-requires
+    returns
+    import-form-requires
+    returns-2
+    inline-table-form-requires
+    returns-3
+    returns-4
+    enum-known-e
+    returns-5)
