@@ -2,7 +2,7 @@
 use mathlib.Core.Path.{_≡_, _∙_, ap}
 use mathlib.Core.List.{List}
 use Prim.Native.Nat.{ℕ, _≤_, _<_}
-use lib.ListN.{length, set, length-set}
+use lib.ListN.{length, set, length-set, replicate}
 use native.Mathlib.Omega.{arith}
 use Rattle.definition.specs.Basic.{ok, refused}
 use Rattle.definition.specs.Syntax.{Bytes}
@@ -11,14 +11,18 @@ use Rattle.stream.specs.Export.{toldIn, Told}
 use Rattle.stream.specs.declared.pass.Count.{Count}
 use Rattle.stream.specs.declared.pass.Count.the-variants as C
 
-module _ (s : Bytes) (w w′ a a′ : List ℕ) (r : Count) (v : Reads s w r w′) where
+-- `w₁` is what the pass leaves, which is as long as before, and `w′` what is left when it is cleared
+module _ (s : Bytes) (w w₁ w′ a a′ : List ℕ) (r : Count) (v : Reads s w r w₁) (l : length w₁ ≡ length w) (z : w′ ≡ replicate (length w₁) 0) where
+  cleared : w′ ≡ replicate (length w) 0
+  cleared = z ∙ ap (λ n. replicate n 0) l
+
   pub told-accepted : (n : ℕ) → r ≡ C.Records n → a′ ≡ toldIn a 0 n → Told s w a 0 w′ a′
   told-accepted n e d = let g : reading s (length w) ≡ ok n = v .says ∙ ap counted e in
-      record { number = rw g; answer = rw g d; leaves = v .leaves }
+      record { number = rw g; answer = rw g d; leaves = cleared }
 
   pub told-refused : (n m q : ℕ) → r ≡ C.Refused n q → m ≡ n → a′ ≡ toldIn a m q → Told s w a m w′ a′
   told-refused n m q e f d = let g : reading s (length w) ≡ refused n q = v .says ∙ ap counted e in
-      record { number = rw g f; answer = rw (g, ← f) d; leaves = v .leaves }
+      record { number = rw g f; answer = rw (g, ← f) d; leaves = cleared }
 
 pub second-answer : (a : List ℕ) (n : ℕ) → 2 ≤ length a → 1 < length (set a 0 n)
 second-answer a n h = rw (length-set a 0 n) (omega arith)

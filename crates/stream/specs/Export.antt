@@ -3,10 +3,10 @@ use Prim.Native.Nat.{ℕ}
 use mathlib.Core.Path.{_≡_}
 use mathlib.Core.List.{List}
 use lib.Dec.{leb}
-use lib.ListN.{length, set}
+use lib.ListN.{length, set, replicate}
 use Rattle.definition.specs.Basic.{if_then_else_, Answer, ok, refused}
 use Rattle.definition.specs.Syntax.{Bytes}
-use Rattle.stream.specs.Pass.{reading, readingArea}
+use Rattle.stream.specs.Pass.{reading}
 
 -- document 01's number and record for an answer: 0 and the count where the stream is accepted
 abbrev pub numberOf : Answer ℕ → ℕ
@@ -23,4 +23,4 @@ toldIn old n r = if leb 2 (length old) then set (set old 0 n) 1 r else old
 pub record Told (s : Bytes) (w a : List ℕ) (r : ℕ) (w′ a′ : List ℕ) : Type 0 where
   pub number : r ≡ numberOf (reading s (length w))
   pub answer : a′ ≡ toldIn a (numberOf (reading s (length w))) (recordOf (reading s (length w)))
-  pub leaves : w′ ≡ readingArea s w
+  pub leaves : w′ ≡ replicate (length w) 0

@@ -15,12 +15,14 @@ fn tell(answer: &mut [u32], number: u32, rec: u32)
 }
 
 // Returns 0, or the refusal's number. The answer's first word is the same, its second the count of records, or the refusal's
-// record.
+// record. The work area is all zeros.
 #[no_mangle]
 pub extern "C" fn barrizuppa_read(stream: &[u8], work: &mut [u32], answer: &mut [u32]) -> u32
     ensures { λ r. ⌜ Told (now (stream .entry)) (now (work .entry)) (now (answer .entry)) r (now (work .exit)) (now (answer .exit)) ⌝ }
 {
-    match read_all(stream, work) {
+    let said = read_all(stream, work);
+    space::clear(work);
+    match said {
         Count::Records(n) => {
             tell(answer, 0, n);
             0
