@@ -1,1 +1,1 @@
-// What follows from the promises of the public calls alone: the promises stand in specs/, the theorems in proofs/.
+// What follows from the promises of the public calls alone: the statements stand in specs/, the theorems in proofs/.
