@@ -74,11 +74,11 @@ pub fn assemble_names_into(
     result(call(library::barrizuppa_assemble_names, stream, work, out))
 }
 
+/// [`assemble_into`] or [`assemble_names_into`].
+type AssembleInto = fn(&[u8], &mut [u32], &mut [u8]) -> Result<usize, Refusal>;
+
 /// What is written, in a buffer that grows until it has room.
-fn with_room(
-    stream: &[u8],
-    assemble: fn(&[u8], &mut [u32], &mut [u8]) -> Result<usize, Refusal>,
-) -> Result<Vec<u8>, Refusal> {
+fn with_room(stream: &[u8], assemble: AssembleInto) -> Result<Vec<u8>, Refusal> {
     let mut work = vec![0; WORK_WORDS];
     let mut out = vec![0; FIRST_ROOM];
     loop {

@@ -46,6 +46,9 @@ mark { background: none; color: var(--bad); font-weight: 700; text-decoration: u
 /// Bytes of a record that are shown.
 const BYTES: usize = 48;
 
+/// Letters of a record's text that are shown.
+const TEXT: usize = 600;
+
 /// Text as a page may have it.
 fn escaped(text: &str) -> String {
     let mut out = String::new();
@@ -162,7 +165,10 @@ impl Explanation<'_> {
             (false, true) => "",
         };
         let indent = "  ".repeat(row.depth);
-        let mut text = escaped(&row.text);
+        let mut text = match row.text.get(..TEXT) {
+            Some(start) if !is_bad => escaped(start) + " ..",
+            _ => escaped(&row.text),
+        };
         if is_bad {
             let part = self.finding.marked.as_ref();
             let place = part.and_then(|part| super::find_word(&row.text, part, self.finding.last));
