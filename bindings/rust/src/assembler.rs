@@ -5,7 +5,7 @@ use crate::Refusal;
 /// The least work area, in words.
 pub const WORK_WORDS: usize = 16_384;
 
-/// The output buffer that [`assemble`] and [`assemble_names`] begin with, in bytes.
+/// The output that an [`Assembler`] begins with, in bytes.
 const FIRST_ROOM: usize = STREAM_BYTES;
 
 mod library {
@@ -46,13 +46,72 @@ mod library {
 
 /// The module of a stream.
 pub fn assemble(stream: &[u8]) -> Result<Vec<u8>, Refusal> {
-    with_room(stream, assemble_into)
+    let mut assembler = Assembler::new();
+    let len = assembler.with_room(stream, assemble_into)?;
+    Ok(assembler.into_module(len))
 }
 
 /// The module of a stream, and after it the name section, for a debugger: the
 /// stream's identifiers of functions, parameters and locals.
 pub fn assemble_names(stream: &[u8]) -> Result<Vec<u8>, Refusal> {
-    with_room(stream, assemble_names_into)
+    let mut assembler = Assembler::new();
+    let len = assembler.with_room(stream, assemble_names_into)?;
+    Ok(assembler.into_module(len))
+}
+
+/// What a call is lent, kept for the next one: for whoever assembles many
+/// streams. Each thread has its own.
+#[derive(Clone, Debug)]
+pub struct Assembler {
+    work: Vec<u32>,
+    out: Vec<u8>,
+}
+
+impl Assembler {
+    /// With room for most modules; it grows where one needs more.
+    pub fn new() -> Self {
+        Assembler {
+            work: vec![0; WORK_WORDS],
+            out: vec![0; FIRST_ROOM],
+        }
+    }
+
+    /// The same as [`assemble`].
+    pub fn assemble(&mut self, stream: &[u8]) -> Result<&[u8], Refusal> {
+        let len = self.with_room(stream, assemble_into)?;
+        Ok(&self.out[..len])
+    }
+
+    /// The same as [`assemble_names`].
+    pub fn assemble_names(&mut self, stream: &[u8]) -> Result<&[u8], Refusal> {
+        let len = self.with_room(stream, assemble_names_into)?;
+        Ok(&self.out[..len])
+    }
+
+    /// Grows the output until the module has room; gives its length.
+    fn with_room(&mut self, stream: &[u8], assemble: AssembleInto) -> Result<usize, Refusal> {
+        loop {
+            match assemble(stream, &mut self.work, &mut self.out) {
+                // A module may be longer than its stream, by a few bytes for each record.
+                Err(Refusal {
+                    number: Refusal::NO_ROOM,
+                    ..
+                }) => self.out.resize(self.out.len() * 2, 0),
+                answer => return answer,
+            }
+        }
+    }
+
+    fn into_module(mut self, len: usize) -> Vec<u8> {
+        self.out.truncate(len);
+        self.out
+    }
+}
+
+impl Default for Assembler {
+    fn default() -> Self {
+        Assembler::new()
+    }
 }
 
 /// Assembles a stream into `out` and gives the length of the module; allocates
@@ -76,26 +135,6 @@ pub fn assemble_names_into(
 
 /// [`assemble_into`] or [`assemble_names_into`].
 type AssembleInto = fn(&[u8], &mut [u32], &mut [u8]) -> Result<usize, Refusal>;
-
-/// What is written, in a buffer that grows until it has room.
-fn with_room(stream: &[u8], assemble: AssembleInto) -> Result<Vec<u8>, Refusal> {
-    let mut work = vec![0; WORK_WORDS];
-    let mut out = vec![0; FIRST_ROOM];
-    loop {
-        match assemble(stream, &mut work, &mut out) {
-            Ok(len) => {
-                out.truncate(len);
-                return Ok(out);
-            }
-            // A module may be longer than its stream, by a few bytes for each record.
-            Err(Refusal {
-                number: Refusal::NO_ROOM,
-                ..
-            }) => out.resize(out.len() * 2, 0),
-            Err(refusal) => return Err(refusal),
-        }
-    }
-}
 
 /// A call's answer as a length, or as a refusal.
 fn result((number, [_, record, len, _]): (u32, [u32; 4])) -> Result<usize, Refusal> {

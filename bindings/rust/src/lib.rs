@@ -30,6 +30,8 @@ mod refusal;
 pub mod stream;
 
 #[cfg(feature = "library")]
-pub use assembler::{assemble, assemble_into, assemble_names, assemble_names_into, WORK_WORDS};
+pub use assembler::{
+    assemble, assemble_into, assemble_names, assemble_names_into, Assembler, WORK_WORDS,
+};
 pub use refusal::Refusal;
 pub use stream::STREAM_BYTES;

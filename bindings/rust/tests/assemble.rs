@@ -223,6 +223,18 @@ fn a_work_area_that_is_too_short() {
 }
 
 #[test]
+fn one_assembler_for_many_streams() {
+    let mut assembler = barrizuppa::Assembler::new();
+    let long = [&b"\x0A\0\0\xFA\xFF\x03"[..], &[b'z'; STREAM_BYTES - 6]].concat();
+    for stream in [S7, S7_WITH_Y, &long, b"", S7] {
+        let module = assembler.assemble(stream).map(<[u8]>::to_vec);
+        assert_eq!(module, assemble(stream));
+        let module = assembler.assemble_names(stream).map(<[u8]>::to_vec);
+        assert_eq!(module, assemble_names(stream));
+    }
+}
+
+#[test]
 fn a_refusal_in_words() {
     let refusal = assemble(S7_WITH_Y).unwrap_err();
     assert_eq!(refusal.to_string(), "refused 14 at 1: no such identifier");

@@ -1,14 +1,19 @@
 //! The commands that ask the assembler of one stream.
 use crate::arguments::Arguments;
 use crate::{files, End, Run, Trouble};
-use barrizuppa::Refusal;
+use barrizuppa::{Assembler, Refusal};
 use std::io::{self, IsTerminal};
 
-/// The call that is meant. Another way of assembling has its place here.
-pub fn call(arguments: &Arguments) -> fn(&[u8]) -> Result<Vec<u8>, Refusal> {
+/// The module of a stream, by the call that is meant. Another way of assembling
+/// has its place here.
+pub fn module<'a>(
+    assembler: &'a mut Assembler,
+    arguments: &Arguments,
+    stream: &[u8],
+) -> Result<&'a [u8], Refusal> {
     match arguments.names {
-        true => barrizuppa::assemble_names,
-        false => barrizuppa::assemble,
+        true => assembler.assemble_names(stream),
+        false => assembler.assemble(stream),
     }
 }
 
@@ -19,8 +24,8 @@ pub fn assemble(arguments: &Arguments) -> Run {
         return Err(Trouble(advice.to_string()));
     }
     let stream = files::read(arguments)?;
-    match call(arguments)(&stream) {
-        Ok(module) => files::write(arguments, &module),
+    match module(&mut Assembler::new(), arguments, &stream) {
+        Ok(module) => files::write(arguments, module),
         Err(refusal) => {
             eprintln!("barrizuppa: {}: {refusal}", files::name(arguments));
             if let Some(path) = &arguments.input {

@@ -2,7 +2,7 @@
 use crate::arguments::Arguments;
 use crate::{assemble, End, Run, Trouble};
 use barrizuppa::explain::words;
-use barrizuppa::Refusal;
+use barrizuppa::{Assembler, Refusal};
 use std::collections::BTreeMap;
 use std::fs;
 use std::io::{self, IsTerminal, Write};
@@ -80,15 +80,18 @@ fn all(streams: &[PathBuf], to: &Path, arguments: &Arguments) -> Vec<Outcome> {
     let progress = Progress::new(streams.len());
     std::thread::scope(|scope| {
         for _ in 0..threads {
-            scope.spawn(|| loop {
-                let at = next.fetch_add(1, Ordering::Relaxed);
-                let Some(stream) = streams.get(at) else {
-                    return;
-                };
-                let outcome = one(stream, to, arguments);
-                let mut outcomes = outcomes.lock().expect("no thread panics");
-                outcomes.insert(at, outcome);
-                progress.show(&outcomes);
+            scope.spawn(|| {
+                let mut assembler = Assembler::new();
+                loop {
+                    let at = next.fetch_add(1, Ordering::Relaxed);
+                    let Some(stream) = streams.get(at) else {
+                        return;
+                    };
+                    let outcome = one(stream, to, &mut assembler, arguments);
+                    let mut outcomes = outcomes.lock().expect("no thread panics");
+                    outcomes.insert(at, outcome);
+                    progress.show(&outcomes);
+                }
             });
         }
     });
@@ -101,17 +104,17 @@ fn all(streams: &[PathBuf], to: &Path, arguments: &Arguments) -> Vec<Outcome> {
 }
 
 /// One stream to its module.
-fn one(stream: &Path, to: &Path, arguments: &Arguments) -> Outcome {
+fn one(stream: &Path, to: &Path, assembler: &mut Assembler, arguments: &Arguments) -> Outcome {
     let trouble = |path: &Path, error| Outcome::Trouble(format!("{}: {error}", path.display()));
     let bytes = match fs::read(stream) {
         Ok(bytes) => bytes,
         Err(error) => return trouble(stream, error),
     };
-    match assemble::call(arguments)(&bytes) {
+    match assemble::module(assembler, arguments, &bytes) {
         Ok(module) => {
             let name = Path::new(stream.file_name().expect("it has a name"));
             let path = to.join(name.with_extension(MODULE));
-            match fs::write(&path, &module) {
+            match fs::write(&path, module) {
                 Ok(()) => Outcome::Assembled(module.len()),
                 Err(error) => trouble(&path, error),
             }
