@@ -30,7 +30,7 @@ HERE = os.path.dirname(os.path.abspath(__file__))
 DOCUMENT = os.path.join(HERE, '..', 'docs', 'REFUSALS.md')
 PROGRAM = os.path.join(HERE, 'assemble')
 DRIVER = os.path.join(HERE, 'driver', 'target', 'release', 'driver')
-NUMBERS = range(1, 19)
+NUMBERS = range(1, 20)
 
 TRIED = 3               # bytes: every stream up to this length is tried
 STRUCK = 17             # bytes: up to this length every part is tried

@@ -81,13 +81,11 @@ class Maker:
     # ---- parts ----
 
     def number(self, value, width=32):
-        """Shortest, seldom padded."""
-        short = groups(value)
-        if self.random() < 0.97:
+        """Shortest; with fault 19 in more groups than needed."""
+        short, most = groups(value), (width + 6) // 7
+        if len(short) == most or not self.fault(19):
             return short
-        size = self.chance.randint(len(short), (width + 6) // 7)
-        if size == len(short):
-            return short
+        size = self.chance.randint(len(short) + 1, most)
         return short[:-1] + bytes([short[-1] | 0x80]) + b'\x80' * (size - len(short) - 1) + b'\0'
 
     def identifier(self, name):
@@ -801,7 +799,10 @@ def names(chance):
 # ---------------------------------------------------------------------------
 
 def damaged(chance):
-    """Bytes changed, mostly refused while reading; or whole records moved."""
+    """Bytes changed, mostly refused while reading; numbers in too many groups;
+    or whole records moved."""
+    if chance.random() < 0.08:
+        return Maker(chance, {19: chance.choice((0.003, 0.02, 0.2))}).stream()
     stream = bytearray(chance.choice((rich, rich, faulty, edges if chance.random() < 0.05 else rich))(chance))
     if chance.random() < 0.4:
         return moved(chance, bytes(stream))

@@ -21,7 +21,7 @@ The list is always the same for a seed. FOLDER/stdin has the streams, each after
 its length in seven-bit groups (the batch form of reading_model.py), and
 FOLDER/stdout two answers to each, a line without names and one with them: `ok HEX`
 or `refused N at R`. They are
-the crate's; for our own refusals (1 to 9, 12, 18) they are those on which the
+the crate's; for our own refusals (1 to 9, 12, 18, 19) they are those on which the
 oracle's front and model.py agree. Where the crate's name section has its known
 difference (docs/DIFFERENCES.md) they are the model's.
 """
@@ -288,7 +288,7 @@ def ask(oracle, streams, names):
 def shows_all(seen, opcodes):
     """Every refusal but 10 and, in a plain list, every opcode."""
     numbers = {one[1] for one in seen if one[0] == 'refused'}
-    missing = set(range(1, 19)) - {10} - numbers
+    missing = set(range(1, 20)) - {10} - numbers
     if missing or opcodes and not {('opcode', one) for one in opcodes} <= seen:
         sys.exit('not shown: refusals %s' % sorted(missing))
 

@@ -1,11 +1,11 @@
 #!/usr/bin/env python3
 """A plain model of the whole of document 01, and of document 02's call with
-names (§1): what a call says of a stream.
+names (§1) and one spelling (§5): what a call says of a stream.
 
 It says what the documents and the standard's chapter 5 and appendix (the name
 section) say, in their order, and shares nothing with the definition, the proved
 code or the crate; but whoever wrote it had read the crate's passes. The reading
-rules (2 to 9) are those of reading_model.py. What document 01 leaves to oracle
+rules (2 to 9 and 19) are those of reading_model.py. What document 01 leaves to oracle
 runs is as the oracle answered (docs/DECISIONS.md, 13 and 14).
 
 As a module:   assemble(stream) -> ('ok', module) or ('refused', number, record)
@@ -72,7 +72,7 @@ class Parser:
         return self.stream[self.at - 1]
 
     def number(self):
-        """A number of any width, padded or not."""
+        """A number of any width."""
         value = shift = 0
         while True:
             group = self.byte()

@@ -1,6 +1,6 @@
 #!/usr/bin/env python3
-"""A reading of document 01's record stream, refusals 1 to 9, written from
-document 01 alone, to be compared with the proved code.
+"""A reading of document 01's record stream, refusals 1 to 9, and 19 of document
+02 (§5), written from the documents alone, to be compared with the proved code.
 
 As a module:   read(stream) -> ('ok', count of records)
                             or ('refused', number, record)
@@ -8,8 +8,8 @@ As a program:  reads streams in the batch form from standard input and prints
 a line for each, `records N` or `refused N at R`.
 
 Batch form: each stream is preceded by its length in seven-bit groups, low
-first. A length past BATCH_STREAM, or a set that ends inside a length or a
-stream, ends the run: the lines up to there are printed, a message goes to
+first. A length past BATCH_STREAM or longer than needed, or a set that ends
+inside a length or a stream, ends the run: the lines up to there are printed, a message goes to
 standard error, and the exit status is 2.
 """
 import sys
@@ -76,7 +76,8 @@ class Reader:
 
     def number(self, width):
         """Refusal 3 at the group that passes the width, or that has its high
-        bit set as the last allowed: both make it more than the bits left."""
+        bit set as the last allowed: both make it more than the bits left.
+        Refusal 19 at a last group without which the number is the same."""
         value = 0
         for shift in range(0, width, 7):
             group = self.byte()
@@ -84,6 +85,8 @@ class Reader:
             if bits_left < 7 and group >= 1 << bits_left:
                 raise Refused(3)
             value += (group & 0x7F) << shift
+            if group == 0 and shift > 0:
+                raise Refused(19)
             if group < 0x80:
                 return value
 
@@ -391,6 +394,8 @@ def unbatch(data):
             at += 1
             if length > BATCH_STREAM or shift > 35:
                 raise BrokenBatch('the length at byte %d is too large' % start)
+            if data[at - 1] == 0 and at > start + 1:
+                raise BrokenBatch('the length at byte %d is longer than needed' % start)
             if data[at - 1] < 0x80:
                 break
         if length > len(data) - at:

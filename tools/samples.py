@@ -1,5 +1,6 @@
-"""Streams with an answer that document 01 itself gives: its samples, and for each
-of the refusals 11 to 17 streams with two faults that compete.
+"""Streams with an answer that document 01 or 02 itself gives: the samples of 01,
+and for each of the refusals 11 to 17, and 19, streams with two faults that
+compete.
 
 SAMPLES is a list of (what it is, stream, answer). An answer is 'refused N at R',
 or bytes in hex that the module must hold: the resolved numbers where they stand.
@@ -105,4 +106,19 @@ COMPETING = [
     ('17 of the outer block', func(None, None, (), code(block('a'), block('b'), end('b'), end('b'), 'br 0')), 'refused 17 at 4'),
 ]
 
-SAMPLES = DOCUMENT + COMPETING
+# document 02, §5: a number longer than needed, at its last byte, after 2 and 3 and before 4 to 7
+SPELLED = [
+    ('a count of two groups', bytes.fromhex('01 00 80 00 00'), 'refused 19 at 0'),
+    ('an index of two groups', start(0)[:-1] + b'\x80\0', 'refused 19 at 0'),
+    ('an index that takes two groups', start(128), '08028001'),
+    ('a constant of ten groups', func(None, None, (), b'\x42' + b'\x80' * 9 + b'\0'), 'refused 19 at 1'),
+    ('19 before 5', bytes.fromhex('01 C1 80 80 80 00'), 'refused 19 at 0'),
+    ('3 before 19', bytes.fromhex('01 C1 80 80 80 80 00'), 'refused 3 at 0'),
+    ('2 before 19', bytes.fromhex('01 C1 80'), 'refused 2 at 0'),
+    ('19 before an empty name', bytes.fromhex('08 02 80 00'), 'refused 19 at 0'),
+    ('19 before 6', bytes.fromhex('07 80 82 00'), 'refused 19 at 0'),
+    ('19 before 7', bytes.fromhex('03 00 89 00'), 'refused 19 at 0'),
+    ('19 and a name taken before it', func('a') + func('a') + bytes.fromhex('01 80 00 00 00'), 'refused 19 at 4'),
+]
+
+SAMPLES = DOCUMENT + COMPETING + SPELLED

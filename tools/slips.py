@@ -152,12 +152,10 @@ MODEL = [
 
 # The same in reading_model.py: each ceiling one too high and one too low, and
 READING = [
-    ('padded numbers refused',
-     'if group < 0x80:\n                return value',
-     'if group == 0 and shift:\n'
-     '                raise Refused(3)\n'
-     '            if group < 0x80:\n'
-     '                return value'),
+    ('padded numbers read', 'if group == 0 and shift > 0:', 'if False:'),
+    ('padded numbers too large', 'raise Refused(19)', 'raise Refused(3)'),
+    ('a last group of 0 with more before it refused early', 'if group == 0 and shift > 0:',
+     'if group & 0x7F == 0 and shift > 0:'),
     ('a u32 of 33 bits', 'group >= 1 << bits_left', 'group >= 1 << bits_left + 1'),
     ('an empty name in an index', 'raise Refused(5)\n            self.text', 'pass\n            self.text'),
     ('FF with a block open', 'if self.open_blocks > 0:\n                    raise Refused(8)',

@@ -7,7 +7,7 @@ usage: streams.py [WHAT ...] [--list] [--seed S] [--count N]
   --samples    S1, S7, S8, S9 and S11 of document 01
   --damage     each valid stream with each byte changed, and cut at each length
   --ceilings   each ceiling, exactly at it and just past it
-  --faults     refusals 2 to 9 at each place of each kind of record
+  --faults     refusals 2 to 9 and 19 at each place of each kind of record
   --random N   N streams, changed in a few places at random
 Writes the batch form of reading_model.py, or with --list lines of text:
   HEX  EXPECTED  # what it is           (HEX is - for the empty stream)
@@ -39,6 +39,12 @@ def padded(value, width=32):
     return bytes(value >> 7 * i & 0x7F | 0x80 for i in range(size - 1)) + bytes([value >> 7 * (size - 1)])
 
 
+def longer(value):
+    """A number in one group more than needed."""
+    short = groups(value)
+    return short[:-1] + bytes([short[-1] | 0x80, 0])
+
+
 def accepted(count):
     return 'records %d' % count
 
@@ -55,42 +61,28 @@ Token = namedtuple('Token', 'sort data extra')
 
 
 class Maker:
-    """Makes the parts of records; with a source of chance, some numbers are
-    padded."""
-
-    def __init__(self, chance=None):
-        self.chance = chance
-
-    def groups(self, value, width=32):
-        short = groups(value)
-        if self.chance and self.chance.random() < 0.08:
-            full = padded(value, width)
-            size = self.chance.randrange(len(short), len(full) + 1)
-            if size < len(full):
-                return full[:size - 1] + bytes([full[size - 1] & 0x7F])
-            return full
-        return short
+    """Makes the parts of records."""
 
     def byte(self, value, *wrong):
         return [Token('byte', bytes([value]), wrong)]
 
     def number(self, value, width=32):
-        return [Token('number', self.groups(value, width), width)]
+        return [Token('number', groups(value), width)]
 
     def count(self, value, ceiling):
-        return [Token('count', self.groups(value), ceiling)]
+        return [Token('count', groups(value), ceiling)]
 
     def identifier(self, name=b'', needed=False):
-        return [Token('identifier', self.groups(len(name)) + name, needed)]
+        return [Token('identifier', groups(len(name)) + name, needed)]
 
     def string(self, text):
-        return [Token('string', self.groups(len(text)) + text, None)]
+        return [Token('string', groups(len(text)) + text, None)]
 
     def raw(self, data):
         return [Token('raw', data, None)]
 
     def data(self, data):
-        return [Token('length', self.groups(len(data)), None)] + self.raw(data)
+        return [Token('length', groups(len(data)), None)] + self.raw(data)
 
     def index(self, what, optional=False):
         """what: None, a number, or a name."""
@@ -210,7 +202,7 @@ class Rich:
 
     def __init__(self, chance):
         self.chance = chance
-        self.make = Maker(chance)
+        self.make = Maker()
         self.records = []
 
     def some(self, most, ceiling=None):
@@ -487,29 +479,34 @@ def variants(token):
         for refusal, what, number in wide(width):
             yield refusal, what, number
     if sort == 'number':
-        yield None, 'greatest', padded(2**extra - 1, extra)
+        yield None, 'greatest', groups(2**extra - 1)
     if sort in ('number', 'count', 'length'):
         value = sum((byte & 0x7F) << 7 * i for i, byte in enumerate(data))
-        yield None, 'padded', padded(value, extra if sort == 'number' else 32)
+        if len(data) < (width + 6) // 7:
+            yield 19, 'one group too many', longer(value)
+            yield 19, 'padded', padded(value, width)
     if sort == 'count':
         yield 7, 'count past its ceiling', groups(extra + 1)
-        yield 7, 'greatest count', padded(U32)
+        yield 19, 'count past its ceiling, padded', padded(extra + 1)
+        yield 7, 'greatest count', groups(U32)
     if sort == 'length':
-        yield 2, 'greatest length', padded(U32)
+        yield 2, 'greatest length', groups(U32)
     if sort in ('identifier', 'string'):
         refusal, most, bad = (5, 64, b' ') if sort == 'identifier' else (6, 255, b'\x7F')
         text = data[1:]
         for number, what, length in wide(32):
             yield number, what + ' in the length', length + text
         yield None, 'longest', groups(most) + b'a' * most
-        yield None, 'padded length', padded(len(text)) + text
+        yield 19, 'one group too many in the length', longer(len(text)) + text
+        yield 19, 'padded length', padded(len(text)) + text
+        yield 19, 'too long, padded', padded(most + 1) + b'a' * (most + 1)
         yield refusal, 'too long', groups(most + 1) + b'a' * (most + 1)
-        yield refusal, 'greatest length', padded(U32) + text
+        yield refusal, 'greatest length', groups(U32) + text
         yield refusal, 'wrong first byte', groups(len(text) + 1) + bad + text
         yield refusal, 'wrong last byte', groups(len(text) + 1) + text + bad
         if sort == 'identifier' and extra:
             yield 5, 'empty', b'\0'
-            yield 5, 'empty, padded', padded(0)
+            yield 19, 'empty, padded', padded(0)
 
 
 def wide(width):
@@ -623,6 +620,16 @@ def faults():
             ('string length past u32', hexed('07 FF FF FF FF 1F'), refused(3, 0)),
             ('count past u32', hexed('03 00 FF FF FF FF 7F'), refused(3, 0)),
             ('data length past u32', hexed('0A 00 00 80 80 80 80 80'), refused(3, 0)),
+            # 19: after 2 and 3, before what the place makes of the value
+            ('identifier longer than needed and too long', hexed('01 C1 00'), refused(19, 0)),
+            ('the same in five groups', hexed('01 C1 80 80 80 00'), refused(19, 0)),
+            ('the same, the fifth group with its high bit', hexed('01 C1 80 80 80 80'), refused(3, 0)),
+            ('the same, cut before its last group', hexed('01 C1 80'), refused(2, 0)),
+            ('string longer than needed and too long', hexed('07 80 82 00'), refused(19, 0)),
+            ('count longer than needed and too large', hexed('03 00 89 00'), refused(19, 0)),
+            ('empty name in an index, longer than needed', hexed('08 02 80 00'), refused(19, 0)),
+            ('data length longer than needed and too large', hexed('0A 00 00 84 00 61'), refused(19, 0)),
+            ('a second number longer than needed', func + hexed('41 80 01 41 80 00'), refused(19, 2)),
             # 8
             ('else first in a body', func + hexed('05 00 FF'), refused(8, 1)),
             ('end first in a body', func + hexed('0B 00 FF'), refused(8, 1)),
@@ -666,7 +673,7 @@ def ceilings():
     in_body = lambda code: func + code + b'\xFF'
 
     # 65,536 bytes
-    data = lambda size: b'\x0A\0\0' + padded(size - 8) + b'\xFF' * (size - 8)
+    data = lambda size: b'\x0A\0\0' + groups(size - 6) + b'\xFF' * (size - 6)
     yield Case('65,536 bytes', data(65536), accepted(1))
     yield Case('65,537 bytes', data(65537), refused(1, 0))
     yield Case('65,537 bytes, a fault in record 2', hexed('01 00 00 00') * 2 + b'\0' * 65529, refused(1, 0))
@@ -776,12 +783,15 @@ def ceilings():
             yield Case('string of %d: %s' % (size, what), before + groups(size) + text + after,
                        refused(6, 0) if size > 255 else accepted(1))
 
-    # The ends of u32 and u64, short and padded
+    # The ends of u32 and u64, and where they take a group more
     for width, opcode in ((32, 0x41), (64, 0x42)):
         size = (width + 6) // 7
-        for value in (0, 1, 127, 128, 2**(width - 1) - 1, 2**(width - 1), 2**width - 1):
+        ends = {2**bits for bits in range(0, width, 7)} | {2**bits - 1 for bits in range(0, width, 7)}
+        for value in sorted(ends | {2**(width - 1) - 1, 2**(width - 1), 2**width - 1}):
             yield Case('u%d %d' % (width, value), in_body(bytes([opcode]) + groups(value)), accepted(3))
-            yield Case('u%d %d padded' % (width, value), in_body(bytes([opcode]) + padded(value, width)), accepted(3))
+            for length in range(len(groups(value)) + 1, size + 1):
+                more = groups(value | 1 << 7 * (length - 1))[:-1] + b'\0'
+                yield Case('u%d %d in %d groups' % (width, value, length), in_body(bytes([opcode]) + more), refused(19, 1))
         yield Case('u%d one past' % width, in_body(bytes([opcode]) + groups(2**width)), refused(3, 1))
         yield Case('u%d, all bits' % width, in_body(bytes([opcode]) + b'\xFF' * size), refused(3, 1))
         yield Case('u%d zero in one group too many' % width,
@@ -844,13 +854,16 @@ def damage(cases):
             for new in sorted({byte ^ 0x01, byte ^ 0x80, byte ^ 0xFF, 0x00, 0xFF} - {byte}):
                 changed = stream[:at] + bytes([new]) + stream[at + 1:]
                 yield Case('%s, byte %d made %02X' % (what, at, new), changed, None)
+            if byte < 0x80:
+                yield Case('%s, byte %d with a group after it' % (what, at), stream[:at] + longer(byte) + stream[at + 1:], None)
         for size in range(len(stream)):
             yield Case('%s, cut to %d' % (what, size), stream[:size], None)
 
 
 def randoms(seed, count):
-    """Rich streams, most with one to four changes: a byte changed, put in or
-    left out, a piece of a stream left out, doubled or moved in."""
+    """Rich streams, most with one to four changes: a byte changed, put in, left
+    out or made a group that another follows, a piece of a stream left out,
+    doubled or moved in."""
     chance = random.Random('random %d' % seed)
     for number in range(count):
         maker = Rich(chance)
@@ -859,7 +872,7 @@ def randoms(seed, count):
         for _ in range(chance.choice([0, 1, 1, 2, 4])):
             at = chance.randint(0, len(stream))
             piece = chance.randint(1, 12)
-            change = chance.randrange(6)
+            change = chance.randrange(7)
             if change == 0 and at < len(stream):
                 stream[at] = chance.getrandbits(8)
             elif change == 1:
@@ -873,6 +886,8 @@ def randoms(seed, count):
             elif change == 5:
                 other = chance.randint(0, len(stream))
                 stream[at:at] = stream[other:other + piece]
+            elif change == 6 and at < len(stream):
+                stream[at:at + 1] = bytes([stream[at] | 0x80]) + b'\x80' * chance.choice([0, 0, 1, 3]) + b'\0'
         yield Case('random %d' % number, bytes(stream), None)
 
 

@@ -112,12 +112,15 @@ impl<'a> Reader<'a> {
             let group = self.byte()?;
             value |= u32::from(group & 0x7F) << shift;
             if group < 0x80 {
-                return Ok(value);
+                return if group == 0 && shift > 0 { Err(19) } else { Ok(value) };
             }
         }
         let group = self.byte()?;
         if group > 0x0F {
             return Err(3);
+        }
+        if group == 0 {
+            return Err(19);
         }
         Ok(value | u32::from(group) << 28)
     }
@@ -128,12 +131,15 @@ impl<'a> Reader<'a> {
             let group = self.byte()?;
             value |= u64::from(group & 0x7F) << shift;
             if group < 0x80 {
-                return Ok(value);
+                return if group == 0 && shift > 0 { Err(19) } else { Ok(value) };
             }
         }
         let group = self.byte()?;
         if group > 0x01 {
             return Err(3);
+        }
+        if group == 0 {
+            return Err(19);
         }
         Ok(value | u64::from(group) << 63)
     }

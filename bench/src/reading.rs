@@ -1,4 +1,4 @@
-//! A plain reading pass: refusals 1 to 9, every ceiling, one loop over a slice
+//! A plain reading pass: refusals 1 to 9 and 19, every ceiling, one loop over a slice
 //! with a position, nothing allocated. What one would write in Rust without
 //! proofs; the measure for the proved pass.
 use crate::reader::*;

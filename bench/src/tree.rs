@@ -85,7 +85,7 @@ pub struct Tree<'a> {
     pub records: u32,
 }
 
-/// The tree of a stream, or the first of refusals 1 to 9.
+/// The tree of a stream, or the first of refusals 1 to 9 and 19.
 pub fn read(stream: &[u8]) -> Result<Tree<'_>, Refusal> {
     let mut reader = Reader::new(stream)?;
     let mut fields = Vec::new();

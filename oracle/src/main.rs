@@ -8,7 +8,7 @@
 //!                      keeps subsections 1 and 2 of the name section
 //!   refused N at R     the crate's refusal (11, 13 to 17), by document 01's
 //!                      number; with --why the crate's message follows
-//!   ours N at R        one of our own refusals (1 to 9, 12, 18) by the front's
+//!   ours N at R        one of our own refusals (1 to 9, 12, 18, 19) by the front's
 //!                      reading of document 01: no question for the crate
 //!   panicked           the crate's code, or a stand-in, panicked
 //! --room is the length of the output, 65,536 if not given.

@@ -141,7 +141,7 @@ struct Reader<'a> {
     started: bool,
 }
 
-/// The stream's records, or the first of refusals 1 to 9 and its record.
+/// The stream's records, or the first of refusals 1 to 9 and 19 and its record.
 pub fn read(bytes: &[u8]) -> Result<Stream<'_>, (u32, usize)> {
     if bytes.len() > STREAM {
         return Err((1, 0));
@@ -174,7 +174,8 @@ impl<'a> Reader<'a> {
     }
 
     /// 3 at the group that passes the width, or that is the last allowed and
-    /// has its high bit set.
+    /// has its high bit set; 19 (document 02, §5) at a last group of no bits
+    /// that has others before it.
     fn number(&mut self, width: u32) -> Read<u64> {
         let mut value = 0;
         let mut shift = 0;
@@ -184,6 +185,9 @@ impl<'a> Reader<'a> {
             let left = width - shift;
             if left < 7 && (byte >= 0x80 || group >> left != 0) {
                 return Err(3);
+            }
+            if byte == 0 && shift != 0 {
+                return Err(19);
             }
             value |= group << shift;
             shift += 7;

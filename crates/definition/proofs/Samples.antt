@@ -1,4 +1,5 @@
--- The starred samples of document 01, two more, and those of the name section: one table, and one statement, proved by computing.
+-- The starred samples of document 01, two more, those of one spelling (02 §5), and those of the name section: one table, and one statement, proved by
+-- computing.
 use mathlib.Core.Path.{_≡_, refl}
 use Prim.Native.Nat.{ℕ}
 use mathlib.Core.Bool.{Bool, true, false, _&&_}
@@ -200,6 +201,15 @@ samples =
     -- the natural exponents: alignment byte, offset and memory index are 0
     ∷ assembles (function ++ concatMap (λ x. x .0 ∷ 0x00 ∷ 0x00 ∷ 0x00 ∷ []) accesses ++ bodyEnd) 25
     (oneFunction ++ (0x0A ∷ 0x49 ∷ 0x01 ∷ 0x47 ∷ 0x00 ∷ []) ++ concatMap (λ x. x .0 ∷ x .1 ∷ 0x00 ∷ []) accesses ++ (0x0B ∷ []))
+    -- (02 §5) a count, an index and a body's number in more groups than needed; a number of two groups that are
+    ∷ refuses (0x01 ∷ 0x00 ∷ 0x80 ∷ 0x00 ∷ 0x00 ∷ []) 19 0
+    ∷ refuses (0x08 ∷ 0x01 ∷ 0x80 ∷ 0x00 ∷ []) 19 0
+    ∷ refuses (function ++ (0x41 ∷ 0xFF ∷ 0x00 ∷ 0x1A ∷ []) ++ bodyEnd) 19 1
+    ∷ assembles (0x08 ∷ 0x01 ∷ 0x80 ∷ 0x01 ∷ []) 1 (S1 ++ (0x08 ∷ 0x02 ∷ 0x80 ∷ 0x01 ∷ []))
+    -- 19 before 5: the length 65 in five groups; 3 and 2 before 19: a fifth group with its high bit, and no last group
+    ∷ refuses (0x01 ∷ 0xC1 ∷ 0x80 ∷ 0x80 ∷ 0x80 ∷ 0x00 ∷ 0x00 ∷ 0x00 ∷ []) 19 0
+    ∷ refuses (0x01 ∷ 0xC1 ∷ 0x80 ∷ 0x80 ∷ 0x80 ∷ 0x80 ∷ 0x00 ∷ 0x00 ∷ 0x00 ∷ []) 3 0
+    ∷ refuses (0x01 ∷ 0xC1 ∷ 0x80 ∷ []) 2 0
     -- no name, no section
     ∷ assemblesNames [] 0 S1 []
     -- S7's parameter x is 0, and its function has no identifier; S8's l is 2
@@ -211,8 +221,8 @@ samples =
 
 pub samples-hold : every samples ≡ true
 unfolding Basic._>>=_ Basic.each Basic.concatMap Basic.same Basic.sameBytes Basic.firstAt Basic.at Basic.isSome Basic.between
-    Spaces.externSpace Spaces.ownSpace Spaces.sourceSpace Spaces.segments Spaces.brings Spaces.count Reader.byte Reader.many Token.groups
-    Token.u32 Token.u64 Token.upTo Token.counted Token.idchar Token.idByte Token.identifier Token.identifier₁ Token.stringByte
+    Spaces.externSpace Spaces.ownSpace Spaces.sourceSpace Spaces.segments Spaces.brings Spaces.count Reader.byte Reader.many Token.needed
+    Token.groups Token.u32 Token.u64 Token.upTo Token.counted Token.idchar Token.idByte Token.identifier Token.identifier₁ Token.stringByte
     Token.string Token.bytes Token.isRef Token.isVal Token.valType Token.refType Token.flag Token.flag64 Token.bound Token.maximum
     Token.limitsOf Token.limits Token.tableType Token.globalType Token.numberIndex Token.namedIndex Token.present Token.optional
     Token.param Token.typeUse Instructions.opcodes Instructions.formIn Instructions.formOf Instructions.naturals Instructions.exponent

@@ -1,4 +1,4 @@
--- The record stream: from a list of bytes to its records, or to the first reading fault in byte order (refusals 2 to 9).
+-- The record stream: from a list of bytes to its records, or to the first reading fault in byte order (refusals 2 to 9 and 19).
 use Prim.Native.Nat.{ℕ, zero, suc, _+_, _-_}
 use mathlib.Core.Bool.{Bool, true, false, _||_, not}
 use mathlib.Core.List.{List, [], _∷_, _++_}

@@ -10,15 +10,20 @@ use Rattle.definition.specs.Reader.{Reader, _>>=_, _>>_, give, refuse, r
 
 -- ## Numbers in groups
 
+-- what a last group must be: the first, or not 0
+unfoldable pub needed : ℕ → ℕ → Bool
+needed scale b = eqb scale 1 || ltb 0 b
+
 -- A number below `bound` in at most `left` more groups: `value` is what the groups so far say, and `scale` what the next one counts.
--- Refused by 3 at the group that passes the bound or, as the last allowed, has its high bit set. Padded forms are read.
+-- Refused by 3 at the group that passes the bound or, as the last allowed, has its high bit set; by 19 at a last group that could be
+-- left out.
 unfoldable pub groups : ℕ → ℕ → ℕ → ℕ → Reader ℕ
 groups zero bound scale value = refuse 3
 groups (suc left) bound scale value = do
   b ← byte
   let next = value + b % 128 * scale
   require 3 (ltb next bound)
-  if ltb b 128 then give next else groups left bound (scale * 128) next
+  if ltb b 128 then (require 19 (needed scale b) >> give next) else groups left bound (scale * 128) next
 
 unfoldable pub u32 : Reader ℕ
 u32 = groups 5 (2 ^ 32) 1 0

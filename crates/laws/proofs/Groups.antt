@@ -2,7 +2,7 @@
 use Prim.Native.Nat.{ℕ, zero, suc, _+_, _-_, _*_, _/_, _%_, _^_, _≤_, _<_}
 use mathlib.Core.Path.{_≡_, refl, sym, _∙_}
 use mathlib.Core.List.{[], _∷_}
-use mathlib.Core.Bool.{true, false}
+use mathlib.Core.Bool.{Bool, true, false}
 use lib.ListN.{length, getD}
 use lib.IntN.{ℤ, pos, negsuc}
 use lib.Signed.{mag}
@@ -10,9 +10,10 @@ use borrow.Author.Tests.{lt-ltb, le-ltb, ltb-false}
 use native.Mathlib.Omega.{arith}
 use native.Mathlib.Decide.{decLt}
 use native.Mathlib.Nat.{mul-assoc, pow-suc, div-lt-iff-lt-mul}
+use Rattle.definition.specs.Basic.{if_then_else_}
 use Rattle.definition.specs.Syntax.{Bytes}
 use Rattle.definition.specs.Reader.{Step, got, fault, byte}
-use Rattle.definition.specs.Token.{groups, u32}
+use Rattle.definition.specs.Token.{needed, groups, u32}
 use Rattle.definition.specs.Binary.{unsigned, low7, over128, fits7, signed}
 use Rattle.laws.proofs.Readers.{byte-in, byte-out}
 
@@ -33,11 +34,28 @@ module _ (bound scale value : ℕ) (s : Bytes) (at : ℕ) where
   groups-wide (suc left) h e w = rw (e, le-ltb _ _ w)
 
   -- the number's last group
-  pub groups-last : (left : ℕ) {b next : ℕ} → 0 < left → byte s at ≡ got b next → value + b % 128 * scale < bound → b < 128
+  pub groups-last : (left : ℕ) {b next : ℕ} → 0 < left → byte s at ≡ got b next → value + b % 128 * scale < bound → b < 128 → needed scale b ≡ true
       → groups left bound scale value s at ≡ got (value + b % 128 * scale) next
   unfolding groups
-  groups-last zero h e w l = absurd (omega arith)
-  groups-last (suc left) h e w l = rw (e, lt-ltb _ _ w, lt-ltb _ _ l)
+  groups-last zero h e w l n = absurd (omega arith)
+  groups-last (suc left) h e w l n = rw (e, lt-ltb _ _ w, lt-ltb _ _ l, n)
+
+  -- a last group that could be left out
+  pub groups-padded : (left : ℕ) {b next : ℕ} → 0 < left → byte s at ≡ got b next → value + b % 128 * scale < bound → b < 128 → needed scale b ≡ false
+      → groups left bound scale value s at ≡ fault 19
+  unfolding groups
+  groups-padded zero h e w l n = absurd (omega arith)
+  groups-padded (suc left) h e w l n = rw (e, lt-ltb _ _ w, lt-ltb _ _ l, n)
+
+  -- a last group, whichever it is
+  end-by : (left : ℕ) {b next : ℕ} → 0 < left → byte s at ≡ got b next → value + b % 128 * scale < bound → b < 128 → (t : Bool) → needed scale b ≡ t
+      → groups left bound scale value s at ≡ if t then got (value + b % 128 * scale) next else fault 19
+  end-by left h e w l true n = groups-last left h e w l n
+  end-by left h e w l false n = groups-padded left h e w l n
+
+  pub groups-end : (left : ℕ) {b next : ℕ} → 0 < left → byte s at ≡ got b next → value + b % 128 * scale < bound → b < 128
+      → groups left bound scale value s at ≡ if needed scale b then got (value + b % 128 * scale) next else fault 19
+  groups-end left {b} h e w l = end-by left h e w l (needed scale b) refl
 
   -- a group that another one follows
   pub groups-more : (left : ℕ) {b next : ℕ} → 0 < left → byte s at ≡ got b next → value + b % 128 * scale < bound → 128 ≤ b
@@ -53,44 +71,66 @@ module _ (bound scale value : ℕ) (s : Bytes) (at : ℕ) where
   unfolding groups
   groups-none left e = rw e
 
+-- no step is both a refusal and a number
+refused : {A : Type 0} {step : Step ℕ} {n v next : ℕ} → step ≡ fault n → step ≡ got v next → A
+refused f e = let z : _≡_ {A = ℕ} 0 1 = cc in absurd (omega arith)
+
+-- the first group of a number that was read: it is the last, or others follow
+pub data First (left bound scale value : ℕ) (s : Bytes) (at v next : ℕ) : Type 0 where
+  ended : at < length s → getD s at 0 < 128 → needed scale (getD s at 0) ≡ true → v < bound → value + getD s at 0 % 128 * scale ≡ v → at + 1 ≡ next
+      → First left bound scale value s at v next
+  followed : at < length s → 128 ≤ getD s at 0 → groups left bound (scale * 128) (value + getD s at 0 % 128 * scale) s (at + 1) ≡ got v next
+      → First left bound scale value s at v next
+
+module _ (left bound scale value : ℕ) (s : Bytes) (at : ℕ) {v next : ℕ} (e : groups (suc left) bound scale value s at ≡ got v next) where
+  closes : (b : ℕ) → getD s at 0 ≡ b → at < length s → value + b % 128 * scale < bound → b < 128 → (t : Bool) → needed scale b ≡ t
+      → First left bound scale value s at v next
+  closes b r h w l true n =
+      let d : got (value + b % 128 * scale) (at + 1) ≡ got v next = sym (groups-last bound scale value s at (suc left) (omega arith) (rw r at (byte-in s at h)) w l n) ∙ e in
+      let dv : value + b % 128 * scale ≡ v = cc in
+      ended h (rw r l) (rw r n) (rw dv at w) (rw r dv) (cc)
+  closes b r h w l false n = refused (groups-padded bound scale value s at (suc left) (omega arith) (rw r at (byte-in s at h)) w l n) e
+
+  ends : (b : ℕ) → getD s at 0 ≡ b → at < length s → value + b % 128 * scale < bound → Dec (b < 128) → First left bound scale value s at v next
+  ends b r h w (yes l) = closes b r h w l (needed scale b) refl
+  ends b r h w (no l) =
+      let m : (suc left - 1) ≡ left = omega arith in
+      followed h (rw r (omega arith)) (rw r (rw m at (sym (groups-more bound scale value s at (suc left) (omega arith) (rw r at (byte-in s at h)) w (omega arith)) ∙ e)))
+
+  fits : (b : ℕ) → getD s at 0 ≡ b → at < length s → Dec (value + b % 128 * scale < bound) → First left bound scale value s at v next
+  fits b r h (yes w) = ends b r h w (decLt b 128)
+  fits b r h (no w) = refused (groups-wide bound scale value s at (suc left) (omega arith) (rw r at (byte-in s at h)) (omega arith)) e
+
+  reads : Dec (at < length s) → First left bound scale value s at v next
+  reads (yes h) = fits (getD s at 0) refl h (decLt (value + getD s at 0 % 128 * scale) bound)
+  reads (no h) = refused (groups-fault bound scale value s at (suc left) (omega arith) (byte-out s at (omega arith))) e
+
+  pub first-group : First left bound scale value s at v next
+  first-group = reads (decLt at (length s))
+
+-- where no group is allowed none is read
+pub no-group : {A : Type 0} (bound scale value : ℕ) (s : Bytes) (at : ℕ) {v next : ℕ} → groups zero bound scale value s at ≡ got v next → A
+no-group bound scale value s at e = refused (groups-none bound scale value s at zero refl) e
+
 -- what a number that was read at `at` is known to be: below the bound, and its groups end past `at` within the stream
 pub record Within (bound : ℕ) (s : Bytes) (at v next : ℕ) : Type 0 where
   pub small : v < bound
   pub past : at < next
   pub inside : next ≤ length s
 
--- no step is both a refusal and a number
-refused : {A : Type 0} {step : Step ℕ} {n v next : ℕ} → step ≡ fault n → step ≡ got v next → A
-refused f e = let z : _≡_ {A = ℕ} 0 1 = cc in absurd (omega arith)
-
--- one group, where those after it are known
-module _ (left bound scale value : ℕ) (s : Bytes) (at : ℕ) {v next : ℕ} (e : groups (suc left) bound scale value s at ≡ got v next)
-    (after : (now : ℕ) → groups left bound (scale * 128) now s (at + 1) ≡ got v next → Within bound s (at + 1) v next) where
-  ends : (b : ℕ) → byte s at ≡ got b (at + 1) → at < length s → value + b % 128 * scale < bound → Dec (b < 128) → Within bound s at v next
-  ends b r h w (yes l) =
-      let d : got (value + b % 128 * scale) (at + 1) ≡ got v next = sym (groups-last bound scale value s at (suc left) (omega arith) r w l) ∙ e in
-      let dv : value + b % 128 * scale ≡ v = cc in
-      let dn : at + 1 ≡ next = cc in
-      record { small = rw dv at w; past = omega arith; inside = omega arith }
-  ends b r h w (no l) =
-      let m : (suc left - 1) ≡ left = omega arith in
-      let rest = after (value + b % 128 * scale) (rw m at (sym (groups-more bound scale value s at (suc left) (omega arith) r w (omega arith)) ∙ e)) in
-      record { small = rest .small; past = omega (arith, rest .past); inside = rest .inside }
-
-  fits : (b : ℕ) → byte s at ≡ got b (at + 1) → at < length s → Dec (value + b % 128 * scale < bound) → Within bound s at v next
-  fits b r h (yes w) = ends b r h w (decLt b 128)
-  fits b r h (no w) = refused (groups-wide bound scale value s at (suc left) (omega arith) r (omega arith)) e
-
-  reads : Dec (at < length s) → Within bound s at v next
-  reads (yes h) = fits (getD s at 0) (byte-in s at h) h (decLt (value + getD s at 0 % 128 * scale) bound)
-  reads (no h) = refused (groups-fault bound scale value s at (suc left) (omega arith) (byte-out s at (omega arith))) e
+within : (left bound scale value : ℕ) (s : Bytes) (at : ℕ) {v next : ℕ} → First left bound scale value s at v next
+    → ((now : ℕ) → groups left bound (scale * 128) now s (at + 1) ≡ got v next → Within bound s (at + 1) v next) → Within bound s at v next
+within left bound scale value s at (ended h l n w dv dn) after = record { small = w; past = omega arith; inside = omega arith }
+within left bound scale value s at (followed h l e) after =
+    let rest = after (value + getD s at 0 % 128 * scale) e in
+    record { small = rest .small; past = omega (arith, rest .past); inside = rest .inside }
 
 -- the bounds of a number, at any width
 pub groups-within : (left bound scale value : ℕ) (s : Bytes) (at : ℕ) {v next : ℕ}
     → groups left bound scale value s at ≡ got v next → Within bound s at v next
-groups-within zero bound scale value s at e = refused (groups-none bound scale value s at zero refl) e
+groups-within zero bound scale value s at e = no-group bound scale value s at e
 groups-within (suc left) bound scale value s at e =
-    reads left bound scale value s at e (λ now d. groups-within left bound (scale * 128) now s (at + 1) d) (decLt at (length s))
+    within left bound scale value s at (first-group left bound scale value s at e) (λ now d. groups-within left bound (scale * 128) now s (at + 1) d)
 
 -- the same of a u32
 pub u32-within : (s : Bytes) (at : ℕ) {v next : ℕ} → u32 s at ≡ got v next → Within (2 ^ 32) s at v next

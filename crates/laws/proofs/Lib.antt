@@ -5,6 +5,8 @@ pub mod Ways
 pub mod Passing
 pub mod Table
 pub mod Groups
+pub mod GroupCount
+pub mod OneSpelling
 pub mod Reading
 pub mod Interning
 pub mod Bodies

@@ -1,22 +1,43 @@
--- The loop of `groups_at`: what is still to be read gives what was to be read, and the value so far is below the scale.
+-- Numbers in their shortest form. The loop of `groups_at`: what is still to be read gives what was to be read, and the value so far is below the
+-- scale.
 use Prim.Native.Nat.{ℕ, suc, _+_, _-_, _*_, _%_, _^_, _≤_, _<_}
 use mathlib.Core.Path.{_≡_, refl, sym, _∙_, ap}
+use mathlib.Core.Bool.{or-true}
+use lib.Dec.{eqb}
 use lib.ListN.{length, getD}
+use borrow.Author.Tests.{lt-ltb, ne-eqb}
 use native.Mathlib.Decide.{decLt}
 use native.Mathlib.Nat.{zero-add, one-mul, mul-one, mul-assoc, mod-eq-of-lt, mul-le-mul-left, mul-le-mul-right, pow-succ', pow-le-pow-right}
 use native.Mathlib.Omega.{arith}
 use mir.Syntax.{w32, w64}
 use mir.Val.{Fits}
 use Rattle.definition.specs.Syntax.{Bytes}
-use Rattle.definition.specs.Reader.{got, fault}
-use Rattle.definition.specs.Token.{groups}
+use Rattle.definition.specs.Reader.{Step, got, fault}
+use Rattle.definition.specs.Token.{needed, groups}
 use Rattle.laws.proofs.Readers.{byte-in, byte-out}
-use Rattle.laws.proofs.Groups.{groups-fault, groups-wide, groups-last, groups-more, groups-none, groups-within}
+use Rattle.laws.proofs.Groups.{groups-fault, groups-wide, groups-last, groups-end, groups-more, groups-none, groups-within}
 use Rattle.leb.specs.Width.{Width, limit}
-use Rattle.leb.specs.Views.{u64At}
+use Rattle.leb.specs.Views.{u64At, endAt}
 use Rattle.leb.specs.declared.read.U64.{U64}
 use Rattle.leb.specs.declared.read.U64.the-variants as U64
 use Rattle.leb.proofs.Answers.{u64-got}
+
+-- ## `end_of`
+
+module _ (scale b value next : ℕ) where
+  pub end-first : scale ≡ 1 → endAt scale b value next ≡ got value next
+  unfolding needed
+  end-first e = rw e
+
+  pub end-some : (b ≡ 0 → ⊥) → endAt scale b value next ≡ got value next
+  unfolding needed
+  end-some h = rw (lt-ltb 0 b (omega arith), or-true (eqb scale 1))
+
+  pub end-padded : (scale ≡ 1 → ⊥) → b ≡ 0 → endAt scale b value next ≡ fault 19
+  unfolding needed
+  end-padded h e = rw (ne-eqb scale 1 h, e)
+
+-- ## `groups_at`
 
 -- `left` groups are allowed from `here` on
 pub record Still (s : Bytes) (at most last left scale value here : ℕ) : Type 0 where
@@ -68,8 +89,9 @@ module _ {s : Bytes} {at most last left scale value here : ℕ} (v : Still s at 
 
     module _ (h : here < length s) where
       -- the number ends
-      pub ends : getD s here 0 < 128 → groups most (limit most last) 1 0 s at ≡ got (value + getD s here 0 % 128 * scale) (here + 1)
-      ends l = v .same ∙ groups-last (limit most last) scale value s here left (v .some) (byte-in s here h) (below _) l
+      pub ends : {x : Step ℕ} → getD s here 0 < 128 → endAt scale (getD s here 0) (value + getD s here 0 % 128 * scale) (here + 1) ≡ x
+          → groups most (limit most last) 1 0 s at ≡ x
+      ends l e = v .same ∙ groups-end (limit most last) scale value s here left (v .some) (byte-in s here h) (below _) l ∙ e
 
       -- another group follows
       pub again : 128 ≤ getD s here 0 → Still s at most last (left - 1) (scale * 128) (value + getD s here 0 % 128 * scale) (here + 1)
@@ -104,10 +126,11 @@ module _ {s : Bytes} {at most last left scale value here : ℕ} (v : Still s at 
 
     module _ (h : here < length s) where
       -- the number ends
-      pub last-ends : getD s here 0 ≤ last → groups most (limit most last) 1 0 s at ≡ got (value + getD s here 0 * scale) (here + 1)
-      last-ends l =
+      pub last-ends : {x : Step ℕ} → getD s here 0 ≤ last → endAt scale (getD s here 0) (value + getD s here 0 * scale) (here + 1) ≡ x
+          → groups most (limit most last) 1 0 s at ≡ x
+      last-ends l d =
           let e : getD s here 0 % 128 ≡ getD s here 0 = mod-eq-of-lt (omega (arith, w .seven)) in
-          v .same ∙ rw e at (groups-last (limit most last) scale value s here left (v .some) (byte-in s here h) (rw e (fits-last _ l)) (omega (arith, w .seven)))
+          v .same ∙ rw e at (groups-end (limit most last) scale value s here left (v .some) (byte-in s here h) (rw e (fits-last _ l)) (omega (arith, w .seven))) ∙ d
 
       -- more than `last` is refused: the number passes the limit, or the high bit is set
       refused : last < getD s here 0 → Dec (getD s here 0 < 128) → Dec (value + getD s here 0 % 128 * scale < limit most last)
@@ -128,9 +151,10 @@ module _ {s : Bytes} {at most last left scale value here : ℕ} (v : Still s at 
 -- a number of one group is that group, at either width
 pub one-group : (most bound : ℕ) (s : Bytes) (at : ℕ) → 0 < most → 128 ≤ bound → at < length s → getD s at 0 < 128
     → groups most bound 1 0 s at ≡ got (getD s at 0) (at + 1)
+unfolding needed
 one-group most bound s at g w h l =
     let e : 0 + getD s at 0 % 128 * 1 ≡ getD s at 0 = zero-add _ ∙ mul-one _ ∙ mod-eq-of-lt l in
-    rw e at (groups-last bound 1 0 s at most g (byte-in s at h) (rw e (omega arith)) l)
+    rw e at (groups-last bound 1 0 s at most g (byte-in s at h) (rw e (omega arith)) l refl)
 
 -- what the loop gives at the narrower width fits it
 pub narrow : (s : Bytes) (at : ℕ) {r : U64} {v next : ℕ} → groups 5 (limit 5 15) 1 0 s at ≡ u64At r → r ≡ U64.Got v next → Fits w32 v

@@ -1,14 +1,16 @@
--- The loops over the shortest groups of a number, `group_count` and `put_u`: the groups that are done, and the number that is left.
-use Prim.Native.Nat.{ℕ, suc, _+_, _*_, _/_, _%_, _^_, _≤_, _<_}
+-- The shortest groups of a number: `group_count` by the rule, and the loop of `put_u`, the groups that are done and the number that is left.
+use Prim.Native.Nat.{ℕ, zero, suc, _+_, _-_, _*_, _/_, _%_, _^_, _≤_, _<_}
 use mathlib.Core.Path.{_≡_, refl, sym, _∙_, ap}
 use mathlib.Core.List.{[], _∷_, _++_, append-assoc}
-use lib.ListN.{length, length-append}
+use lib.Count.{leadingZeros}
+use lib.ListN.{length}
 use native.Mathlib.Omega.{arith}
 use mir.Syntax.{w64}
 use mir.Val.{Fits}
 use Rattle.definition.specs.Syntax.{Bytes}
 use Rattle.definition.specs.Binary.{unsigned, u}
 use Rattle.laws.proofs.Groups.{OneMore, unsigned-end, unsigned-more}
+use Rattle.laws.proofs.GroupCount.{group-rule}
 use Rattle.emit.specs.Put.{Put}
 use Rattle.emit.proofs.Laws.{put-none, put-then, put-is}
 
@@ -17,11 +19,10 @@ pub record Split (x : ℕ) (done : Bytes) (rest : ℕ) : Type 0 where
   pub left : ℕ
   pub same : u x ≡ done ++ unsigned left rest
   pub below : rest < 128 ^ suc left
-  pub few : length done + left ≡ 9
 
 split-none : {x : ℕ} → Fits w64 x → Split x [] x
 unfolding u
-split-none f = record { left = 9; same = refl; below = omega arith; few = refl }
+split-none f = record { left = 9; same = refl; below = omega arith }
 
 module _ {x rest : ℕ} {done : Bytes} (p : Split x done rest) where
   split-more : 128 ≤ rest → Split x (done ++ ((rest % 128 + 128) ∷ [])) (rest / 128)
@@ -31,7 +32,6 @@ module _ {x rest : ℕ} {done : Bytes} (p : Split x done rest) where
         left = m .less;
         same = p .same ∙ ap (λ bs. done ++ bs) (m .first) ∙ sym (append-assoc done ((rest % 128 + 128) ∷ []) (unsigned (m .less) (rest / 128)));
         below = m .below;
-        few = omega (arith, p .few, m .one, length-append done ((rest % 128 + 128) ∷ []));
       }
 
   split-end : rest < 128 → u x ≡ done ++ (rest ∷ [])
@@ -39,20 +39,15 @@ module _ {x rest : ℕ} {done : Bytes} (p : Split x done rest) where
 
 -- ## `group_count`
 
-pub record Counted (x n rest : ℕ) : Type 0 where
-  pub done : Bytes
-  pub split : Split x done rest
-  pub count : n ≡ length done + 1
+-- zero takes a group
+pub count-zero : (x : ℕ) → x ≡ 0 → 1 ≡ length (u x)
+unfolding u unsigned
+count-zero x e = rw e
 
-pub count-begin : {x : ℕ} → Fits w64 x → Counted x 1 x
-count-begin f = record { done = []; split = split-none f; count = refl }
-
-module _ {x n rest : ℕ} (v : Counted x n rest) where
-  pub count-more : 128 ≤ rest → Counted x (n + 1) (rest / 128)
-  count-more h = record { done = v .done ++ ((rest % 128 + 128) ∷ []); split = split-more (v .split) h; count = omega (arith, v .count, length-append (v .done) ((rest % 128 + 128) ∷ [])) }
-
-  pub count-end : rest < 128 → n ≡ length (u x)
-  count-end h = v .count ∙ sym (ap length (split-end (v .split) h) ∙ length-append (v .done) (rest ∷ []))
+-- any other number as many as the rule says
+pub count-rule : (x : ℕ) → Fits w64 x → (x ≡ 0 → ⊥) → (64 - leadingZeros 64 x + 6) / 7 ≡ length (u x)
+count-rule zero f h = absurd (h refl)
+count-rule (suc n) f h = sym (group-rule (suc n) (f .fits))
 
 -- ## `put_u`
 

@@ -1,6 +1,8 @@
 -- What the answers of the readers mean: each as a step of the definition.
 use Prim.Native.Nat.{ℕ}
+use Rattle.definition.specs.Basic.{if_then_else_}
 use Rattle.definition.specs.Reader.{Step, got, fault}
+use Rattle.definition.specs.Token.{needed}
 use Rattle.leb.specs.declared.read.U32.{U32}
 use Rattle.leb.specs.declared.read.U32.the-variants as U32
 use Rattle.leb.specs.declared.read.U64.{U64}
@@ -13,3 +15,7 @@ u32At (U32.Fault n) = fault n
 abbrev pub u64At : U64 → Step ℕ
 u64At (U64.Got v next) = got v next
 u64At (U64.Fault n) = fault n
+
+-- a number that ends with the group `b`: refused by 19 where that could be left out
+abbrev pub endAt : ℕ → ℕ → ℕ → ℕ → Step ℕ
+endAt scale b value next = if needed scale b then got value next else fault 19

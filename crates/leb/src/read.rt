@@ -1,7 +1,7 @@
-// Numbers of the record stream. Padded forms are read too.
+// Numbers of the record stream, in their shortest form: one longer than needed is refused.
 ghost use mathlib.Core.Path.{_≡_};
 ghost use Rattle.definition.specs.Token as Token;
-ghost use Rattle.leb.specs.Views.{u32At, u64At};
+ghost use Rattle.leb.specs.Views.{u32At, u64At, endAt};
 ghost use Rattle.leb.specs.Width.{Width, limit};
 
 // A number and the place after it, or a refusal's number.
@@ -13,6 +13,19 @@ pub enum U32 {
 pub enum U64 {
     Got(u64, usize),
     Fault(u8),
+}
+
+// The end of a number: its last group is the first, or not 0.
+fn end_of(value: u64, next: usize, scale: u64, b: u8) -> U64
+    ensures { λ r. ⌜ endAt scale b value next ≡ u64At r ⌝ }
+{
+    if scale == 1 {
+        return U64::Got(value, next);
+    }
+    if b == 0 {
+        return U64::Fault(19);
+    }
+    U64::Got(value, next)
 }
 
 // A number of at most `most` groups, the last of which is at most `last`. What the groups before say is below `scale`, so
@@ -33,7 +46,7 @@ fn groups_at(s: &[u8], at: usize, most: usize, last: u8) -> U64
         value += (b % 128) as u64 * scale;
         here += 1;
         if b < 128 {
-            return U64::Got(value, here);
+            return end_of(value, here, scale, b);
         }
         scale *= 128;
         left -= 1;
@@ -46,7 +59,7 @@ fn groups_at(s: &[u8], at: usize, most: usize, last: u8) -> U64
         return U64::Fault(3);
     }
     value += b as u64 * scale;
-    U64::Got(value, here + 1)
+    end_of(value, here + 1, scale, b)
 }
 
 pub fn read_u32(s: &[u8], at: usize) -> U32

@@ -4,17 +4,15 @@ ghost use lib.ListN.{length};
 ghost use Rattle.definition.specs.Binary as Binary;
 ghost use Rattle.emit.specs.Put.{Put};
 
-// How many there are.
+// How many there are: the significant bits over seven, rounded up, and one group for zero.
 pub fn group_count(x: u64) -> usize
     ensures { λ r. ⌜ r ≡ length (Binary.u x) ⌝ }
 {
-    let mut n = 1;
-    let mut left = x;
-    while 128 <= left {
-        left /= 128;
-        n += 1;
+    if x == 0 {
+        return 1;
     }
-    n
+    let bits = 64 - u64::leading_zeros(x);
+    ((bits + 6) / 7) as usize
 }
 
 pub fn put_u(out: &mut [u8], at: usize, x: u64) -> usize

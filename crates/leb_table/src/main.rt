@@ -123,18 +123,26 @@ fn unsigned_ends() {
     u(18446744073709551615);
 }
 
+// A power of 128, and the number below it.
+fn around(below: u64, power: u64) {
+    count(below);
+    count(power);
+}
+
 fn counts() {
-    count(0);
-    count(127);
-    count(128);
-    count(16383);
-    count(16384);
+    around(0, 1);
+    around(127, 128);
+    around(16383, 16384);
+    around(2097151, 2097152);
+    around(268435455, 268435456);
 }
 
 fn count_ends() {
-    count(4294967295);
-    count(9223372036854775807);
-    count(9223372036854775808);
+    around(34359738367, 34359738368);
+    around(4398046511103, 4398046511104);
+    around(562949953421311, 562949953421312);
+    around(72057594037927935, 72057594037927936);
+    around(9223372036854775807, 9223372036854775808);
     count(18446744073709551615);
 }
 

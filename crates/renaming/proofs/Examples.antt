@@ -29,7 +29,7 @@ unfoldable pub computing : Unit {0}
 unfolding
     Basic._>>=_ Basic.each Basic.concatMap Basic.same Basic.sameBytes Basic.firstAt Basic.at Basic.isSome Basic.between
     Reader.byte Reader.many
-    Token.groups Token.u32 Token.upTo Token.counted Token.idchar Token.idByte Token.identifier Token.identifier₁ Token.stringByte Token.string
+    Token.needed Token.groups Token.u32 Token.upTo Token.counted Token.idchar Token.idByte Token.identifier Token.identifier₁ Token.stringByte Token.string
     Token.isVal Token.valType Token.namedIndex Token.present Token.optional Token.param Token.typeUse
     Instructions.opcodes Instructions.formIn Instructions.formOf Instructions.plainOf Instructions.instruction Instructions.bodyRec
     Records.importName Records.funcExtern Records.importOf Records.importRec Records.itemRec Records.ownFuncForm Records.funcRec Records.typeRec

@@ -1,4 +1,4 @@
--- Demand 3's premise, on two streams: they are free of refusals 1 to 9 (10 is about the work area) and differ only in identifiers. And
+-- Demand 3's premise, on two streams: they are free of refusals 1 to 9 and 19 (10 is about the work area) and differ only in identifiers. And
 -- what it says of two calls.
 use Prim.Native.Nat.{ℕ, _≤_}
 use mathlib.Core.Path.{_≡_}
@@ -27,7 +27,7 @@ pub record Renamed (s t : Bytes) : Type 0 where
   -- free of refusal 1
   pub short : length s ≤ 65536
   pub short′ : length t ≤ 65536
-  -- free of refusals 2 to 9
+  -- free of refusals 2 to 9 and 19
   pub first : List (Rec Identifier)
   pub second : List (Rec Identifier)
   pub reads : read s ≡ ok first

@@ -31,6 +31,9 @@ add-value c = search sum-fits
 add-here : tie.Need-add-here Inv-loop μ-loop
 add-here c = search needs
 
+end-of-requires : tie.Need-end-of-requires Inv-loop μ-loop
+end-of-requires c κs = search needs
+
 returns-2 : tie.Need-returns-2 Inv-loop μ-loop
 returns-2 c = search ends
 
@@ -64,8 +67,11 @@ mul-value-2 c = search last-mul-fits
 add-value-2 : tie.Need-add-value-2 Inv-loop μ-loop
 add-value-2 c = search last-sum-fits
 
-add-t17 : tie.Need-add-t17 Inv-loop μ-loop
-add-t17 c = search needs
+add-end-of : tie.Need-add-end-of Inv-loop μ-loop
+add-end-of c = search needs
+
+end-of-requires-2 : tie.Need-end-of-requires-2 Inv-loop μ-loop
+end-of-requires-2 c κs = search needs
 
 returns-5 : tie.Need-returns-5 Inv-loop μ-loop
 returns-5 c = search last-ends
@@ -83,6 +89,7 @@ groups-at-spec =
     mul-value
     add-value
     add-here
+    end-of-requires
     returns-2
     mul-scale
     sub-left
@@ -94,5 +101,6 @@ groups-at-spec =
     cast-value-2
     mul-value-2
     add-value-2
-    add-t17
+    add-end-of
+    end-of-requires-2
     returns-5)
