@@ -1,13 +1,13 @@
 //! FRONT (ours): a stream's fields, with the bodies of functions beside them, as
 //! the reader of bindings/rust reads them. It says of a stream outside the
 //! comparison which of our refusals 1 to 9 and 19 is expected there; 12 is here.
-use barrizuppa::stream::{Content, Field, Func, Instruction, ItemType, Reader, TypeUse, ValType};
+use barrizuppa::stream::{Content, Fault, Field, Func, Instruction, ItemType, Reader, TypeUse, ValType};
 
 /// The ceiling of types, added ones included.
 const TYPES: usize = 256;
 
 /// An instruction, and the number of its record.
-pub type Located<'a> = (usize, Instruction<'a>);
+pub type Located<'a> = (u32, Instruction<'a>);
 
 /// A field, the number of its record, and the body of an own function.
 pub struct Whole<'a> {
@@ -23,20 +23,16 @@ pub struct Stream<'a> {
 
 /// The stream's records, or the first of refusals 1 to 9 and 19 and its record.
 pub fn read(bytes: &[u8]) -> Result<Stream<'_>, (u32, usize)> {
+    let refused = |fault: Fault| (fault.refusal.number, fault.refusal.record as usize);
+    let mut reader = Reader::new(bytes);
     let mut stream = Stream { fields: Vec::new(), records: 0 };
-    for record in Reader::new(bytes) {
-        let record = record.map_err(|fault| (fault.refusal.number, fault.refusal.record as usize))?;
-        let number = record.number as usize;
-        match record.content {
-            Content::Field(field) => stream.fields.push(Whole { record: number, field, body: Vec::new() }),
-            Content::Instruction(instruction) => {
-                let function = stream.fields.last_mut().expect("a body comes after its function");
-                function.body.push((number, instruction));
-            }
-            Content::BodyEnd => {}
-        }
-        stream.records = number + 1;
+    while let Some(record) = reader.next() {
+        let record = record.map_err(refused)?;
+        let Content::Field(field) = record.content else { unreachable!("bodies are read whole") };
+        let body = reader.body().map_err(refused)?;
+        stream.fields.push(Whole { record: record.number as usize, field, body });
     }
+    stream.records = reader.record() as usize;
     Ok(stream)
 }
 
@@ -58,8 +54,8 @@ pub fn type_too_many(stream: &Stream<'_>) -> Option<usize> {
         }
         for (record, instruction) in body {
             match instruction {
-                Instruction::Open(_, _, ty) => uses.push((*record, ty, true)),
-                Instruction::CallIndirect(_, ty) => uses.push((*record, ty, false)),
+                Instruction::Open(_, _, ty) => uses.push((*record as usize, ty, true)),
+                Instruction::CallIndirect(_, ty) => uses.push((*record as usize, ty, false)),
                 _ => {}
             }
         }

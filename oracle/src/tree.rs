@@ -228,7 +228,7 @@ fn function<'a>(whole: &Whole<'a>, head: &Head<'a>, func: &records::Func<'a>) ->
             let kind = FuncKind::Inline {
                 locals: locals.iter().map(local).collect(),
                 expression: Expression {
-                    instrs: whole.body.iter().map(|(record, given)| instruction(*record, given)).collect(),
+                    instrs: whole.body.iter().map(|(record, given)| instruction(*record as usize, given)).collect(),
                     branch_hints: Box::new([]),
                     instr_spans: None,
                 },

@@ -371,6 +371,39 @@ fn the_reader_ends_with_its_fault() {
 }
 
 #[test]
+fn a_body_at_once() {
+    let mut reader = Reader::new(NOTICE);
+    assert_eq!(reader.body(), Ok(vec![]));
+    let (mut fields, mut instructions) = (0, 0);
+    while let Some(record) = reader.next() {
+        let record = record.unwrap();
+        assert!(matches!(record.content, Content::Field(_)), "{record:?}");
+        let body = reader.body().unwrap();
+        assert!(body
+            .iter()
+            .map(|(number, _)| *number)
+            .eq((record.number + 1..).take(body.len())));
+        fields += 1;
+        instructions += body.len();
+    }
+    // Four bodies, each with its FF.
+    assert_eq!((fields, instructions, reader.record()), (10, 63, 77));
+
+    // The same faults as one by one, and the same end.
+    for cut in 0..NOTICE.len() {
+        let mut reader = Reader::new(&NOTICE[..cut]);
+        let mut fault = None;
+        while let Some(record) = reader.next() {
+            fault = record.err().or_else(|| reader.body().err());
+            if fault.is_some() {
+                assert_eq!((reader.body(), reader.next()), (Ok(vec![]), None));
+            }
+        }
+        assert_eq!(fault, read(&NOTICE[..cut]).err());
+    }
+}
+
+#[test]
 fn the_account_of_the_example() {
     let told = account(NOTICE);
     assert!(

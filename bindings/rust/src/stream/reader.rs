@@ -44,8 +44,11 @@ impl From<Fault> for Refusal {
     }
 }
 
+/// A refusal's number, and what is wrong in a few words.
+struct Wrong(u32, &'static str);
+
 /// A step of reading; the fault stands at the byte that was read last.
-type Step<T> = Result<T, (u32, &'static str)>;
+type Step<T> = Result<T, &'static Wrong>;
 
 /// Counts of items stand at these places; the first four are the kinds.
 const TYPE: usize = 4;
@@ -90,47 +93,62 @@ impl<'a> Reader<'a> {
         self.at
     }
 
+    /// The number of the next record: how many have been read.
+    pub fn record(&self) -> u32 {
+        self.record
+    }
+
     // ---- bytes and numbers ----
 
+    #[inline]
     fn byte(&mut self) -> Step<u8> {
         match self.stream.get(self.at) {
             Some(byte) => {
                 self.at += 1;
                 Ok(*byte)
             }
-            None => Err((2, "the stream ends")),
+            None => Err(&Wrong(2, "the stream ends")),
         }
     }
 
     /// A byte that stands for something.
-    fn one_of<T>(&mut self, known: fn(u8) -> Option<T>, what: &'static str) -> Step<T> {
-        known(self.byte()?).ok_or((4, what))
+    fn one_of<T>(&mut self, known: fn(u8) -> Option<T>, what: &'static Wrong) -> Step<T> {
+        known(self.byte()?).ok_or(what)
     }
 
     /// One of the forms 0 to `last`.
-    fn form(&mut self, last: u8, what: &'static str) -> Step<u8> {
+    fn form(&mut self, last: u8, what: &'static Wrong) -> Step<u8> {
         let byte = self.byte()?;
         if byte > last {
-            return Err((4, what));
+            return Err(what);
         }
         Ok(byte)
     }
 
     /// Groups of seven bits, low first, in the shortest form.
+    #[inline]
     fn number(&mut self, width: u32) -> Step<u64> {
-        let mut value = 0;
-        let mut shift = 0;
+        match self.byte()? {
+            byte @ 0..=0x7F => Ok(byte.into()),
+            byte => self.more_groups(byte, width),
+        }
+    }
+
+    /// A number of more than one group.
+    fn more_groups(&mut self, first: u8, width: u32) -> Step<u64> {
+        let mut value = u64::from(first & 0x7F);
+        let mut shift = 7;
         loop {
             let byte = self.byte()?;
             let group = u64::from(byte & 0x7F);
             let left = width - shift;
             if left < 7 && (byte >= 0x80 || group >> left != 0) {
-                return Err((3, "a number does not fit its width"));
+                return Err(&Wrong(3, "a number does not fit its width"));
             }
             value |= group << shift;
             if byte < 0x80 {
-                if byte == 0 && shift > 0 {
-                    return Err((19, "a number has a group more than it needs"));
+                if byte == 0 {
+                    return Err(&Wrong(19, "a number has a group more than it needs"));
                 }
                 return Ok(value);
             }
@@ -138,12 +156,13 @@ impl<'a> Reader<'a> {
         }
     }
 
+    #[inline]
     fn u32(&mut self) -> Step<u32> {
         Ok(self.number(32)? as u32)
     }
 
     /// A count or length up to its ceiling.
-    fn up_to(&mut self, ceiling: u32, fault: (u32, &'static str)) -> Step<u32> {
+    fn up_to(&mut self, ceiling: u32, fault: &'static Wrong) -> Step<u32> {
         let count = self.u32()?;
         if count > ceiling {
             return Err(fault);
@@ -155,10 +174,10 @@ impl<'a> Reader<'a> {
     fn many<T>(
         &mut self,
         ceiling: u32,
-        too_many: &'static str,
+        too_many: &'static Wrong,
         mut one: impl FnMut(&mut Self) -> Step<T>,
     ) -> Step<Vec<T>> {
-        let count = self.up_to(ceiling, (7, too_many))?;
+        let count = self.up_to(ceiling, too_many)?;
         (0..count).map(|_| one(self)).collect()
     }
 
@@ -171,7 +190,7 @@ impl<'a> Reader<'a> {
             }
             None => {
                 self.at = self.stream.len();
-                Err((2, "the stream ends"))
+                Err(&Wrong(2, "the stream ends"))
             }
         }
     }
@@ -190,34 +209,36 @@ impl<'a> Reader<'a> {
     // ---- identifiers, strings, indices ----
 
     /// A wrong byte comes before an end of the stream behind it.
+    #[inline]
     fn text(
         &mut self,
         length: u32,
-        known: fn(u8) -> bool,
-        fault: (u32, &'static str),
+        known: impl Fn(u8) -> bool,
+        fault: &'static Wrong,
     ) -> Step<&'a str> {
-        let start = self.at;
-        for _ in 0..length {
-            if !known(self.byte()?) {
-                return Err(fault);
-            }
+        let rest = &self.stream[self.at..];
+        let part = &rest[..rest.len().min(length as usize)];
+        if let Some(wrong) = part.iter().position(|byte| !known(*byte)) {
+            self.at += wrong + 1;
+            return Err(fault);
         }
-        Ok(std::str::from_utf8(&self.stream[start..self.at]).expect("bytes below 80"))
+        self.raw(length as usize)?;
+        Ok(std::str::from_utf8(part).expect("bytes below 80"))
     }
 
     fn name(&mut self) -> Step<Option<&'a str>> {
-        let length = self.up_to(NAME, (5, "a name has more than 64 bytes"))?;
+        let length = self.up_to(NAME, &Wrong(5, "a name has more than 64 bytes"))?;
         let text = self.text(
             length,
             is_idchar,
-            (5, "a byte stands that no name may have"),
+            &Wrong(5, "a byte stands that no name may have"),
         )?;
         Ok(Some(text).filter(|text| !text.is_empty()))
     }
 
     fn string(&mut self) -> Step<&'a str> {
-        let length = self.up_to(STRING, (6, "a string has more than 255 bytes"))?;
-        let fault = (6, "a byte stands that no string may have");
+        let length = self.up_to(STRING, &Wrong(6, "a string has more than 255 bytes"))?;
+        let fault = &Wrong(6, "a byte stands that no string may have");
         self.text(length, |byte| (0x20..=0x7E).contains(&byte), fault)
     }
 
@@ -229,15 +250,15 @@ impl<'a> Reader<'a> {
     }
 
     fn optional_index(&mut self) -> Step<Option<Index<'a>>> {
-        match self.form(2, "no index begins with this byte")? {
+        match self.form(2, &Wrong(4, "no index begins with this byte"))? {
             0 => Ok(None),
             form => self.index_of(form).map(Some),
         }
     }
 
     fn index(&mut self) -> Step<Index<'a>> {
-        match self.form(2, "no index begins with this byte")? {
-            0 => Err((4, "an index is absent that must be there")),
+        match self.form(2, &Wrong(4, "no index begins with this byte"))? {
+            0 => Err(&Wrong(4, "an index is absent that must be there")),
             form => self.index_of(form),
         }
     }
@@ -249,25 +270,34 @@ impl<'a> Reader<'a> {
             return Ok(Index::Number(self.u32()?));
         }
         let name = self.name()?;
-        Ok(Index::Name(name.ok_or((5, "a name is empty in an index"))?))
+        Ok(Index::Name(
+            name.ok_or(&Wrong(5, "a name is empty in an index"))?,
+        ))
     }
 
     fn funcs(&mut self) -> Step<Vec<Index<'a>>> {
-        self.many(INDICES, "there are more than 1,024 functions", Self::index)
+        self.many(
+            INDICES,
+            &Wrong(7, "there are more than 1,024 functions"),
+            Self::index,
+        )
     }
 
     // ---- types, limits, constants ----
 
     fn val_type(&mut self) -> Step<ValType> {
-        self.one_of(ValType::from_byte, "no value type has this byte")
+        self.one_of(ValType::from_byte, &Wrong(4, "no value type has this byte"))
     }
 
     fn ref_type(&mut self) -> Step<RefType> {
-        self.one_of(RefType::from_byte, "no reference type has this byte")
+        self.one_of(
+            RefType::from_byte,
+            &Wrong(4, "no reference type has this byte"),
+        )
     }
 
     fn kind(&mut self) -> Step<Kind> {
-        self.one_of(Kind::from_byte, "no kind has this byte")
+        self.one_of(Kind::from_byte, &Wrong(4, "no kind has this byte"))
     }
 
     fn var(&mut self) -> Step<Var<'a>> {
@@ -278,13 +308,21 @@ impl<'a> Reader<'a> {
     }
 
     fn results(&mut self) -> Step<Vec<ValType>> {
-        self.many(RESULTS, "there are more than 16 results", Self::val_type)
+        self.many(
+            RESULTS,
+            &Wrong(7, "there are more than 16 results"),
+            Self::val_type,
+        )
     }
 
     fn type_use(&mut self) -> Step<TypeUse<'a>> {
         Ok(TypeUse {
             index: self.optional_index()?,
-            params: self.many(PARAMS, "there are more than 64 parameters", Self::var)?,
+            params: self.many(
+                PARAMS,
+                &Wrong(7, "there are more than 64 parameters"),
+                Self::var,
+            )?,
             results: self.results()?,
         })
     }
@@ -307,7 +345,7 @@ impl<'a> Reader<'a> {
                 min: self.number(64)?,
                 max: Some(self.number(64)?),
             },
-            _ => return Err((4, "no limits begin with this byte")),
+            _ => return Err(&Wrong(4, "no limits begin with this byte")),
         })
     }
 
@@ -321,7 +359,7 @@ impl<'a> Reader<'a> {
     fn global_type(&mut self) -> Step<GlobalType> {
         Ok(GlobalType {
             ty: self.val_type()?,
-            mutable: self.form(1, "neither mutable nor not")? == 1,
+            mutable: self.form(1, &Wrong(4, "neither mutable nor not"))? == 1,
         })
     }
 
@@ -330,24 +368,26 @@ impl<'a> Reader<'a> {
         match self.byte()? {
             0 => Ok(false),
             4 => Ok(true),
-            _ => Err((4, "neither of 32 nor of 64 bits")),
+            _ => Err(&Wrong(4, "neither of 32 nor of 64 bits")),
         }
     }
 
     fn constant(&mut self) -> Step<Const<'a>> {
-        Ok(match self.form(6, "no constant begins with this byte")? {
-            0 => Const::I32(self.u32()? as i32),
-            1 => Const::I64(self.number(64)? as i64),
-            2 => Const::F32(u32::from_le_bytes(self.array()?)),
-            3 => Const::F64(u64::from_le_bytes(self.array()?)),
-            4 => Const::GlobalGet(self.index()?),
-            5 => Const::RefNull(self.ref_type()?),
-            _ => Const::RefFunc(self.index()?),
-        })
+        Ok(
+            match self.form(6, &Wrong(4, "no constant begins with this byte"))? {
+                0 => Const::I32(self.u32()? as i32),
+                1 => Const::I64(self.number(64)? as i64),
+                2 => Const::F32(u32::from_le_bytes(self.array()?)),
+                3 => Const::F64(u64::from_le_bytes(self.array()?)),
+                4 => Const::GlobalGet(self.index()?),
+                5 => Const::RefNull(self.ref_type()?),
+                _ => Const::RefFunc(self.index()?),
+            },
+        )
     }
 
     fn place(&mut self) -> Step<Option<Place<'a>>> {
-        if self.form(1, "neither passive nor active")? == 0 {
+        if self.form(1, &Wrong(4, "neither passive nor active"))? == 0 {
             return Ok(None);
         }
         Ok(Some(Place {
@@ -361,7 +401,7 @@ impl<'a> Reader<'a> {
     /// One more item, shown by the byte that was just read.
     fn item(&mut self, space: usize) -> Step<()> {
         if self.items[space] == ITEMS {
-            return Err((7, "there are 256 of these already"));
+            return Err(&Wrong(7, "there are 256 of these already"));
         }
         self.items[space] += 1;
         Ok(())
@@ -369,13 +409,13 @@ impl<'a> Reader<'a> {
 
     /// The first byte of a record: 4 where none begins with it, then 7 if it is
     /// one too many.
-    fn begin(&mut self, known: fn(u8) -> bool, what: &'static str) -> Step<u8> {
+    fn begin(&mut self, known: fn(u8) -> bool, what: &'static Wrong) -> Step<u8> {
         let first = self.byte()?;
         if !known(first) {
-            return Err((4, what));
+            return Err(what);
         }
         if self.record == RECORDS {
-            return Err((7, "there are 4,096 records already"));
+            return Err(&Wrong(7, "there are 4,096 records already"));
         }
         Ok(first)
     }
@@ -384,28 +424,71 @@ impl<'a> Reader<'a> {
         if !self.in_body {
             return Ok(Content::Field(self.field()?));
         }
+        Ok(match self.opcode()? {
+            Some(opcode) => Content::Instruction(self.instruction(opcode)?),
+            None => Content::BodyEnd,
+        })
+    }
+
+    /// The first byte of a body's record; None is FF, which ends the body.
+    #[inline]
+    fn opcode(&mut self) -> Step<Option<u8>> {
         let known = |byte| is_opcode(byte) || byte == 0xFF;
-        match self.begin(known, "no record of a body begins with this byte")? {
-            0xFF if self.open_blocks > 0 => Err((8, "the body ends, and a block is open")),
+        match self.begin(
+            known,
+            &Wrong(4, "no record of a body begins with this byte"),
+        )? {
+            0xFF if self.open_blocks > 0 => Err(&Wrong(8, "the body ends, and a block is open")),
             0xFF => {
                 self.in_body = false;
-                Ok(Content::BodyEnd)
+                Ok(None)
             }
-            opcode => Ok(Content::Instruction(self.instruction(opcode)?)),
+            opcode => Ok(Some(opcode)),
+        }
+    }
+
+    /// All that is left of a body, FF included: for whoever makes a tree. Each
+    /// instruction has its record's number. Outside a body there is nothing.
+    pub fn body(&mut self) -> Result<Vec<(u32, Instruction<'a>)>, Fault> {
+        let mut body = Vec::new();
+        while self.in_body && !self.stopped {
+            self.one_more(&mut body).map_err(|fault| self.stop(fault))?;
+            self.record += 1;
+        }
+        Ok(body)
+    }
+
+    /// One more record of a body.
+    #[inline]
+    fn one_more(&mut self, body: &mut Vec<(u32, Instruction<'a>)>) -> Step<()> {
+        if let Some(opcode) = self.opcode()? {
+            let number = self.record;
+            body.push((number, self.instruction(opcode)?));
+        }
+        Ok(())
+    }
+
+    /// The fault at the record that is being read; nothing more is read.
+    fn stop(&mut self, &Wrong(number, what): &'static Wrong) -> Fault {
+        self.stopped = true;
+        Fault {
+            refusal: Refusal::new(number, self.record),
+            offset: if number == 2 { self.at } else { self.at - 1 },
+            what,
         }
     }
 
     fn field(&mut self) -> Step<Field<'a>> {
         let known = |byte| (0x01..=0x0A).contains(&byte);
         Ok(
-            match self.begin(known, "no record begins with this byte")? {
+            match self.begin(known, &Wrong(4, "no record begins with this byte"))? {
                 0x01 => {
                     self.item(TYPE)?;
                     Field::Type {
                         name: self.name()?,
                         params: self.many(
                             PARAMS,
-                            "there are more than 64 parameters",
+                            &Wrong(7, "there are more than 64 parameters"),
                             Self::val_type,
                         )?,
                         results: self.results()?,
@@ -444,7 +527,7 @@ impl<'a> Reader<'a> {
                 },
                 0x08 => {
                     if self.started {
-                        return Err((9, "there is a start already"));
+                        return Err(&Wrong(9, "there is a start already"));
                     }
                     self.started = true;
                     Field::Start(self.index()?)
@@ -474,9 +557,16 @@ impl<'a> Reader<'a> {
         self.item(kind as usize)?;
         let head = Head {
             name: self.name()?,
-            exports: self.many(EXPORTS, "an item has more than 8 exports", Self::string)?,
+            exports: self.many(
+                EXPORTS,
+                &Wrong(7, "an item has more than 8 exports"),
+                Self::string,
+            )?,
         };
-        Ok((head, self.form(last_form, "no form has this byte")?))
+        Ok((
+            head,
+            self.form(last_form, &Wrong(4, "no form has this byte"))?,
+        ))
     }
 
     fn func(&mut self) -> Step<Field<'a>> {
@@ -484,7 +574,11 @@ impl<'a> Reader<'a> {
         let func = match form {
             0 => Func::Own {
                 ty: self.type_use()?,
-                locals: self.many(LOCALS, "there are more than 64 locals", Self::var)?,
+                locals: self.many(
+                    LOCALS,
+                    &Wrong(7, "there are more than 64 locals"),
+                    Self::var,
+                )?,
             },
             _ => Func::Import(self.import_name()?, self.type_use()?),
         };
@@ -530,7 +624,7 @@ impl<'a> Reader<'a> {
             0x02 => self.open(Opening::Block)?,
             0x03 => self.open(Opening::Loop)?,
             0x04 => self.open(Opening::If)?,
-            0x05 | 0x0B if self.open_blocks == 0 => return Err((8, "no block is open")),
+            0x05 | 0x0B if self.open_blocks == 0 => return Err(&Wrong(8, "no block is open")),
             0x05 => Instruction::Else(self.name()?),
             0x0B => {
                 self.open_blocks -= 1;
@@ -539,7 +633,7 @@ impl<'a> Reader<'a> {
             0x0C => Instruction::Br(self.index()?),
             0x0D => Instruction::BrIf(self.index()?),
             0x0E => {
-                let too_many = "there are more than 1,024 labels";
+                let too_many = &Wrong(7, "there are more than 1,024 labels");
                 let labels = self.many(INDICES, too_many, Self::index)?;
                 Instruction::BrTable(labels, self.index()?)
             }
@@ -558,18 +652,17 @@ impl<'a> Reader<'a> {
             0x44 => Instruction::F64Const(u64::from_le_bytes(self.array()?)),
             0xD0 => Instruction::RefNull(self.ref_type()?),
             0xD2 => Instruction::RefFunc(self.index()?),
-            _ => match Access::from_opcode(opcode) {
-                Some(access) => Instruction::Access(access, self.mem_arg()?),
-                None => {
-                    Instruction::Op(Op::from_opcode(opcode).expect("the opcodes that are left"))
-                }
-            },
+            0x28..=0x3E => {
+                let access = Access::from_opcode(opcode).expect("a load or a store");
+                Instruction::Access(access, self.mem_arg()?)
+            }
+            _ => Instruction::Op(Op::from_opcode(opcode).expect("the opcodes that are left")),
         })
     }
 
     fn open(&mut self, opening: Opening) -> Step<Instruction<'a>> {
         if self.open_blocks == OPEN_BLOCKS {
-            return Err((7, "128 blocks are open already"));
+            return Err(&Wrong(7, "128 blocks are open already"));
         }
         self.open_blocks += 1;
         let label = self.name()?;
@@ -577,7 +670,7 @@ impl<'a> Reader<'a> {
     }
 
     fn mem_arg(&mut self) -> Step<MemArg<'a>> {
-        let alignment = self.form(ALIGNMENT, "no alignment has this byte")?;
+        let alignment = self.form(ALIGNMENT, &Wrong(4, "no alignment has this byte"))?;
         Ok(MemArg {
             align: alignment.checked_sub(1),
             offset: self.u32()?,
@@ -616,14 +709,7 @@ impl<'a> Iterator for Reader<'a> {
                     content,
                 })
             }
-            Err((refused, what)) => {
-                self.stopped = true;
-                Err(Fault {
-                    refusal: Refusal::new(refused, number),
-                    offset: if refused == 2 { self.at } else { self.at - 1 },
-                    what,
-                })
-            }
+            Err(fault) => Err(self.stop(fault)),
         })
     }
 }
@@ -638,7 +724,21 @@ fn is_opcode(byte: u8) -> bool {
     )
 }
 
-/// The standard's idchar.
+/// The standard's idchar: what is printed but for the blank, the quotation mark,
+/// comma, semicolon and brackets.
 fn is_idchar(byte: u8) -> bool {
-    byte.is_ascii_alphanumeric() || b"!#$%&'*+-./:<=>?@\\^_`|~".contains(&byte)
+    const IDCHAR: [bool; 256] = {
+        let mut table = [false; 256];
+        let mut byte = 0x21;
+        while byte < 0x7F {
+            let barred = matches!(
+                byte as u8,
+                b'"' | b',' | b';' | b'(' | b')' | b'[' | b']' | b'{' | b'}'
+            );
+            table[byte] = !barred;
+            byte += 1;
+        }
+        table
+    };
+    IDCHAR[usize::from(byte)]
 }
