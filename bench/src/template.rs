@@ -50,12 +50,12 @@ pub fn stream(size: usize, seed: u64) -> Vec<u8> {
             misses += 1;
         }
     }
-    let left = size - template.out.len() - LAST;
+    let left = size - template.out.len();
     template.last_text(left);
     template.out
 }
 
-/// What the last text takes beside its letters.
+/// What the last text takes at least.
 const LAST: usize = 6;
 
 impl Template {
@@ -204,11 +204,23 @@ impl Template {
         self.letters(length);
     }
 
-    fn last_text(&mut self, length: usize) {
-        self.out.extend_from_slice(&[0x0A, 0, 0]);
-        // Three groups whatever the length, so that the size comes out.
-        self.out.extend_from_slice(&[length as u8 | 0x80, (length >> 7) as u8 | 0x80, (length >> 14) as u8]);
-        self.out.extend(TEXT.iter().cycle().take(length));
+    /// A text that takes so many bytes with its head. Where no length in its
+    /// shortest form makes the size come out, a name of one letter does.
+    fn last_text(&mut self, size: usize) {
+        let start = self.out.len();
+        for (name, groups) in [("", 1), ("", 2), ("", 3), ("t", 1), ("t", 2)] {
+            self.out.push(0x0A);
+            self.name(name);
+            self.out.push(0);
+            let letters = (start + size).saturating_sub(self.out.len() + groups);
+            self.number(letters);
+            self.out.extend(TEXT.iter().cycle().take(letters));
+            if self.out.len() == start + size {
+                return;
+            }
+            self.out.truncate(start);
+        }
+        unreachable!("a text of {size} bytes");
     }
 
     fn letters(&mut self, length: usize) {

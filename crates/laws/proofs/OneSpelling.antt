@@ -10,10 +10,10 @@ use lib.Seq.{drop-cons}
 use borrow.Author.Tests.{lt-ltb, le-ltb, ltb-true, ne-eqb}
 use native.Mathlib.Omega.{arith}
 use native.Mathlib.Decide.{decLt}
-use native.Mathlib.Nat.{mul-assoc, add-mul, div-add-mod', mul-comm, mul-one, zero-add, mod-eq-of-lt, div-lt-iff-lt-mul, pow-suc, pow-le-pow-right}
+use native.Mathlib.Nat.{mul-assoc, add-mul, div-add-mod', mul-comm, mul-le-mul-right, mul-one, zero-add, mod-eq-of-lt, div-lt-iff-lt-mul, pow-suc, pow-le-pow-right}
 use native.Mathlib.Numerals.{add-one}
 use Rattle.definition.specs.Syntax.{Bytes}
-use Rattle.definition.specs.Reader.{got}
+use Rattle.definition.specs.Reader.{got, byte}
 use Rattle.definition.specs.Token.{needed, groups, u32, u64}
 use Rattle.definition.specs.Binary.{unsigned, u}
 use Rattle.laws.proofs.Readers.{byte-in}
@@ -203,3 +203,27 @@ module _ (s t : Bytes) (at here : ℕ) {v next after : ℕ} (o : Octets s) (p : 
 
   pub u64-one-spelling : u64 s at ≡ got v next → u64 t here ≡ got v after → spelling s at next ≡ spelling t here after
   u64-one-spelling e f = u64-spelling s at o e ∙ sym (u64-spelling t here p f)
+
+-- ## A number below 128
+
+-- groups after the first add at least their scale
+adds : (left bound scale value : ℕ) (s : Bytes) (at : ℕ) {v next : ℕ} → 1 < scale → First left bound scale value s at v next
+    → ((now : ℕ) → groups left bound (scale * 128) now s (at + 1) ≡ got v next → now + scale * 128 ≤ v) → value + scale ≤ v
+adds left bound scale value s at p (ended h l n w dv dn) after =
+    let b : 0 < getD s at 0 = not-zero scale (getD s at 0) n p in
+    omega (arith, rw (mod-eq-of-lt l) at dv, mul-le-mul-right {m = 1} {n = getD s at 0} scale b)
+adds left bound scale value s at p (followed h l e) after = omega (arith, after _ e)
+
+groups-add : (left bound scale value : ℕ) (s : Bytes) (at : ℕ) {v next : ℕ} → 1 < scale → groups left bound scale value s at ≡ got v next → value + scale ≤ v
+groups-add zero bound scale value s at p e = no-group bound scale value s at e
+groups-add (suc left) bound scale value s at p e =
+    adds left bound scale value s at p (first-group left bound scale value s at e) (λ now d. groups-add left bound (scale * 128) now s (at + 1) (omega arith) d)
+
+-- it is one byte
+pub u32-byte : (s : Bytes) (at : ℕ) {v next : ℕ} → v < 128 → u32 s at ≡ got v next → byte s at ≡ got v next
+unfolding u32
+u32-byte s at {v} {next} l e = go (first-group 4 (2 ^ 32) 1 0 s at e)
+  where
+    go : First 4 (2 ^ 32) 1 0 s at v next → byte s at ≡ got v next
+    go (ended h b n w dv dn) = byte-in s at h ∙ ap₂ got (sym (mod-eq-of-lt b) ∙ omega arith) dn
+    go (followed h b d) = absurd (omega (arith, groups-add 4 (2 ^ 32) 128 _ s (at + 1) (omega arith) d))

@@ -181,7 +181,7 @@ fn read32() {
     read_u32(b"\x00");
     read_u32(b"\x7F");
     read_u32(b"\x80\x01");
-    read_u32(b"\x80\x80\x80\x80\x00");
+    read_u32(b"\x80\x80\x80\x80\x01");
     read_u32(b"\xFF\xFF\xFF\xFF\x0F");
 }
 
@@ -195,7 +195,7 @@ fn refused32() {
 
 fn read64() {
     read_u64(b"\x7F");
-    read_u64(b"\x80\x80\x80\x80\x80\x80\x80\x80\x80\x00");
+    read_u64(b"\x80\x80\x80\x80\x80\x80\x80\x80\x80\x01");
     read_u64(b"\xFF\xFF\xFF\xFF\xFF\xFF\xFF\xFF\xFF\x01");
 }
 
@@ -204,6 +204,15 @@ fn refused64() {
     read_u64(b"\xFF\xFF\xFF\xFF\xFF");
     read_u64(b"\xFF\xFF\xFF\xFF\xFF\xFF\xFF\xFF\xFF\x02");
     read_u64(b"\xFF\xFF\xFF\xFF\xFF\xFF\xFF\xFF\xFF\x81");
+}
+
+// Longer than needed, and one past the width as well.
+fn padded() {
+    read_u32(b"\x80\x00");
+    read_u32(b"\x80\x80\x80\x80\x00");
+    read_u32(b"\x80\x80\x80\x80\x80\x00");
+    read_u64(b"\xFF\x00");
+    read_u64(b"\x80\x80\x80\x80\x80\x80\x80\x80\x80\x00");
 }
 
 fn main() {
@@ -219,4 +228,5 @@ fn main() {
     refused32();
     read64();
     refused64();
+    padded();
 }

@@ -8,7 +8,7 @@ use lib.ListN.{length}
 use lib.Dec.{eqb, leb}
 use mir.Syntax.{w64}
 use mir.Val.{Fits}
-use borrow.Author.Tests.{ne-eqb}
+use borrow.Author.Tests.{ne-eqb, leb-true}
 use Rattle.definition.specs.Basic.{if_then_else_}
 use Rattle.definition.specs.Syntax as Syntax
 use Rattle.definition.specs.Syntax.{Bytes, Identifier, absent}
@@ -16,7 +16,8 @@ use Rattle.definition.specs.Reader.{Step, got, fault, Reader, onward, require, 
 use Rattle.definition.specs.Token.{u32, upTo, idByte, identifier, identifier₁, stringByte, string, numberIndex, namedIndex, present, optional}
 use Rattle.laws.specs.Steps.{stops}
 use Rattle.laws.proofs.Backwards.{came, passed}
-use Rattle.laws.proofs.Groups.{u32-within}
+use Rattle.laws.proofs.Groups.{groups-fault, u32-within}
+use Rattle.laws.proofs.OneSpelling.{u32-byte}
 use Rattle.leb.specs.Views.{u32At}
 use Rattle.leb.specs.declared.read.U32.{U32}
 use Rattle.leb.specs.declared.read.U32.the-variants as U32
@@ -81,76 +82,104 @@ module _ (p : Reader ℕ) (i : Single p) (n : ℕ) (s : Bytes) (at : ℕ) (h : a
   pub run-fits : length s * 1 < 2 ^ 63 → Fits w64 (at + n)
   run-fits f = let r = run-ends p i n s at (g .value) (g .next) h (g .is) in record { fits = omega (arith, r .0, r .1) }
 
--- ## Identifiers and strings
+-- ## Identifiers: the length is at most 64, and so a byte
 
-module _ (s : Bytes) (at : ℕ) (r : U32) (e : u32 s at ≡ u32At r) where
-  module _ (n next : ℕ) (d : r ≡ U32.Got n next) where
-    read : u32 s at ≡ got n next
-    read = e ∙ ap u32At d
-
-    inside : next ≤ length s
-    inside = u32-within s at read .inside
+module _ (s : Bytes) (at : ℕ) (r : ByteAt) (e : byte s at ≡ byteAt r) where
+  module _ (n next : ℕ) (d : r ≡ B.Got n next) where
+    -- the number that is known to be allowed is that byte
+    one-byte : {A : Type 0} (k : ℕ → ℕ → Step A) → Gets (onward k (upTo 5 64 s at)) → u32 s at ≡ got n next
+    unfolding upTo
+    one-byte k g =
+        let u : Gets (upTo 5 64 s at) = gets-first k (upTo 5 64 s at) g in
+        let m : Gets (u32 s at) = gets-first _ (u32 s at) u in
+        let l : m .value ≤ 64 = leb-true _ _ (gets-passed _ 5 (leb (m .value) 64) s (m .next) (gets-rest _ (u32 s at) u (m .value) (m .next) (m .is))) in
+        let b : byte s at ≡ got (m .value) (m .next) = u32-byte s at (omega arith) (m .is) in
+        m .is ∙ sym b ∙ e ∙ ap byteAt d
 
     module _ (g : Gets (identifier s at)) where
+      id-length : u32 s at ≡ got n next
+      unfolding identifier
+      id-length = one-byte _ g
+
       id-run : Gets (many n idByte s next)
       unfolding identifier
-      id-run = gets-first _ (many n idByte s next) (length-then _ 5 64 s at n next g read)
+      id-run = gets-first _ (many n idByte s next) (length-then _ 5 64 s at n next g id-length)
 
       pub id-known : identifier s at ≡ got (if eqb n 0 then none else some (part s next n)) (next + n)
       unfolding identifier
-      id-known = rw (length-is _ 5 64 s at n next g read, run-known idByte id-single n s next inside id-run)
+      id-known = rw (length-is _ 5 64 s at n next g id-length, run-known idByte id-single n s next (u32-within s at id-length .inside) id-run)
 
       pub id-skipped : stops (identifier s at) ≡ got tt (next + n)
       id-skipped = ap stops id-known
 
       pub id-fits : length s * 1 < 2 ^ 63 → Fits w64 (next + n)
-      id-fits h = run-fits idByte id-single n s next inside id-run h
+      id-fits h = run-fits idByte id-single n s next (u32-within s at id-length .inside) id-run h
 
     module _ (g : Gets (identifier₁ s at)) where
+      name-length : u32 s at ≡ got n next
+      unfolding identifier₁
+      name-length = one-byte _ g
+
       name-test : Gets (onward (λ _ q. many n idByte s q) (require 5 (leb 1 n) s next))
       unfolding identifier₁
-      name-test = length-then _ 5 64 s at n next g read
+      name-test = length-then _ 5 64 s at n next g name-length
 
       name-run : Gets (many n idByte s next)
       name-run = gets-after _ 5 (leb 1 n) s next name-test
 
       pub name-known : identifier₁ s at ≡ got (part s next n) (next + n)
       unfolding identifier₁
-      name-known = rw (length-is _ 5 64 s at n next g read, gets-passed _ 5 (leb 1 n) s next name-test, run-known idByte id-single n s next inside name-run)
+      name-known = rw (length-is _ 5 64 s at n next g name-length, gets-passed _ 5 (leb 1 n) s next name-test, run-known idByte id-single n s next (u32-within s at name-length .inside) name-run)
 
       pub name-fits : length s * 1 < 2 ^ 63 → Fits w64 (next + n)
-      name-fits h = run-fits idByte id-single n s next inside name-run h
+      name-fits h = run-fits idByte id-single n s next (u32-within s at name-length .inside) name-run h
 
-    module _ (g : Gets (string s at)) where
-      string-run : Gets (many n stringByte s next)
-      unfolding string
-      string-run = length-then _ 6 255 s at n next g read
+  -- no byte is left
+  module _ (k : ℕ) (d : r ≡ B.Fault k) where
+    no-length : u32 s at ≡ fault k
+    unfolding u32
+    no-length = groups-fault (2 ^ 32) 1 0 s at 5 (omega arith) (e ∙ ap byteAt d)
 
-      pub string-known : string s at ≡ got (part s next n) (next + n)
-      unfolding string
-      string-known = rw (length-is _ 6 255 s at n next g read, run-known stringByte string-single n s next inside string-run)
-
-      pub string-fits : length s * 1 < 2 ^ 63 → Fits w64 (next + n)
-      string-fits h = run-fits stringByte string-single n s next inside string-run h
-
-  -- a length that is refused
-  module _ (k : ℕ) (d : r ≡ U32.Fault k) where
     pub id-refused : identifier s at ≡ fault k
     unfolding identifier upTo
-    id-refused = rw (e, d)
+    id-refused = rw no-length
 
     pub id-stopped : stops (identifier s at) ≡ fault k
     id-stopped = ap stops id-refused
 
     pub name-refused : identifier₁ s at ≡ fault k
     unfolding identifier₁ upTo
-    name-refused = rw (e, d)
+    name-refused = rw no-length
 
-    pub string-refused : string s at ≡ fault k
-    unfolding string upTo
-    string-refused = rw (e, d)
+pub ruleset known-names = (id-known, id-skipped, id-fits, id-refused, id-stopped, name-known, name-fits, name-refused)
 
-pub ruleset known-names = (id-known, id-skipped, id-fits, id-refused, id-stopped, name-known, name-fits, name-refused, string-known, string-fits, string-refused)
+-- ## Strings
+
+module _ (s : Bytes) (at : ℕ) (r : U32) (e : u32 s at ≡ u32At r) where
+  module _ (n next : ℕ) (d : r ≡ U32.Got n next) (g : Gets (string s at)) where
+    read : u32 s at ≡ got n next
+    read = e ∙ ap u32At d
+
+    inside : next ≤ length s
+    inside = u32-within s at read .inside
+
+    string-run : Gets (many n stringByte s next)
+    unfolding string
+    string-run = length-then _ 6 255 s at n next g read
+
+    pub string-known : string s at ≡ got (part s next n) (next + n)
+    unfolding string
+    string-known = rw (length-is _ 6 255 s at n next g read, run-known stringByte string-single n s next inside string-run)
+
+    pub string-fits : length s * 1 < 2 ^ 63 → Fits w64 (next + n)
+    string-fits h = run-fits stringByte string-single n s next inside string-run h
+
+  -- a length that is refused
+  pub string-refused : (k : ℕ) → r ≡ U32.Fault k → string s at ≡ fault k
+  unfolding string upTo
+  string-refused k d = rw (e, d)
+
+pub ruleset known-strings = (string-known, string-fits, string-refused)
 
 -- ## Indices
 

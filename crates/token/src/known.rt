@@ -1,4 +1,5 @@
-// Readers of what is known to be readable: of a name or a string only the length is looked at.
+// Readers of what is known to be readable: of a name or a string only the length is looked at. That of a name is at most 64,
+// and so it is a byte: a number has one spelling.
 use crate::byte::ByteAt;
 use crate::byte::Skip;
 use crate::index::Index;
@@ -17,9 +18,15 @@ pub fn known_identifier(s: &[u8], at: usize) -> PartAt
     requires { ⌜ Gets (Token.identifier (now s) at) ⌝ }
     ensures { λ r. ⌜ Token.identifier (now (s .entry)) at ≡ idAt (now (s .entry)) r ⌝ }
 {
-    match leb::read_u32(s, at) {
-        U32::Got(len, next) => PartAt::Got(Part { at: next, len }, next + len as usize),
-        U32::Fault(e) => PartAt::Fault(e),
+    match crate::byte::read_byte(s, at) {
+        ByteAt::Got(n, next) => PartAt::Got(
+            Part {
+                at: next,
+                len: n as u32,
+            },
+            next + n as usize,
+        ),
+        ByteAt::Fault(e) => PartAt::Fault(e),
     }
 }
 
@@ -28,9 +35,9 @@ pub fn skip_identifier(s: &[u8], at: usize) -> Skip
     requires { ⌜ Gets (Token.identifier (now s) at) ⌝ }
     ensures { λ r. ⌜ stops (Token.identifier (now (s .entry)) at) ≡ skip r ⌝ }
 {
-    match leb::read_u32(s, at) {
-        U32::Got(len, next) => Skip::Past(next + len as usize),
-        U32::Fault(e) => Skip::Fault(e),
+    match crate::byte::read_byte(s, at) {
+        ByteAt::Got(n, next) => Skip::Past(next + n as usize),
+        ByteAt::Fault(e) => Skip::Fault(e),
     }
 }
 
@@ -39,9 +46,15 @@ pub fn known_name(s: &[u8], at: usize) -> PartAt
     requires { ⌜ Gets (Token.identifier₁ (now s) at) ⌝ }
     ensures { λ r. ⌜ Token.identifier₁ (now (s .entry)) at ≡ partAt (now (s .entry)) r ⌝ }
 {
-    match leb::read_u32(s, at) {
-        U32::Got(len, next) => PartAt::Got(Part { at: next, len }, next + len as usize),
-        U32::Fault(e) => PartAt::Fault(e),
+    match crate::byte::read_byte(s, at) {
+        ByteAt::Got(n, next) => PartAt::Got(
+            Part {
+                at: next,
+                len: n as u32,
+            },
+            next + n as usize,
+        ),
+        ByteAt::Fault(e) => PartAt::Fault(e),
     }
 }
 

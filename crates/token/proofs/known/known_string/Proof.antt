@@ -1,4 +1,4 @@
-use Rattle.token.proofs.Gets.{known-names}
+use Rattle.token.proofs.Gets.{known-strings}
 use borrow.Author.Needs.{needs}
 use Rattle.token.proofs.known.known_string.Statement.{statement}
 use Rattle.token.proofs.known.known_string.Tie as tie
@@ -13,16 +13,16 @@ cast-t9 : tie.Need-cast-t9
 cast-t9 c = search needs
 
 add-t10 : tie.Need-add-t10
-add-t10 c = search known-names
+add-t10 c = search known-strings
 
 enum-known-e : tie.Need-enum-known-e
 enum-known-e c = search needs
 
 returns : tie.Need-returns
-returns c = search known-names
+returns c = search known-strings
 
 returns-2 : tie.Need-returns-2
-returns-2 c = search known-names
+returns-2 c = search known-strings
 
 pub known-string-spec : {M : Type 1} → statement M
 known-string-spec =

@@ -3,11 +3,11 @@ use borrow.Author.Needs.{needs}
 use Rattle.token.proofs.known.skip_identifier.Statement.{statement}
 use Rattle.token.proofs.known.skip_identifier.Tie as tie
 
-read-u32-requires : tie.Need-read-u32-requires
-read-u32-requires c κs = search needs
+read-byte-requires : tie.Need-read-byte-requires
+read-byte-requires c κs = search needs
 
-enum-known-len : tie.Need-enum-known-len
-enum-known-len c = search needs
+enum-known-n : tie.Need-enum-known-n
+enum-known-n c = search needs
 
 cast-t8 : tie.Need-cast-t8
 cast-t8 c = search needs
@@ -27,4 +27,4 @@ returns-2 c = search known-names
 pub skip-identifier-spec : {M : Type 1} → statement M
 skip-identifier-spec =
     tie.close
-    (tie.spec read-u32-requires enum-known-len cast-t8 add-t9 enum-known-e returns returns-2)
+    (tie.spec read-byte-requires enum-known-n cast-t8 add-t9 enum-known-e returns returns-2)
