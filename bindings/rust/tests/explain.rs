@@ -79,6 +79,17 @@ fn a_name_of_another_sort() {
 }
 
 #[test]
+fn a_refusal_by_other_rules() {
+    // Cut short, and yet refused otherwise: nothing is said of what was not meant.
+    let text = explain(&NOTICE[..400], Refusal::new(14, 40)).to_string();
+    assert!(
+        text.contains("    40 |   call $say\n       |   ^^^^^^^^^\n"),
+        "{text}"
+    );
+    assert!(!text.contains("at byte"), "{text}");
+}
+
+#[test]
 fn a_label_of_a_block_that_has_ended() {
     let mut stream = Writer::new();
     stream.func(Head::new(), TypeUse::new(), &[], |body| {

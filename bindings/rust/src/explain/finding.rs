@@ -47,6 +47,17 @@ impl Space {
         }
     }
 
+    /// The same with its article.
+    fn some(self) -> String {
+        let one = self.one();
+        let article = if one.starts_with(['e', 'o']) {
+            "an"
+        } else {
+            "a"
+        };
+        format!("{article} {one}")
+    }
+
     fn of(kind: Kind) -> Space {
         match kind {
             Kind::Func => Space::Func,
@@ -72,7 +83,11 @@ pub(super) fn find(account: &Account<'_>, refusal: Refusal) -> Finding {
     let rows = &account.rows;
     let at = refusal.record as usize;
     if let Some(fault) = account.fault {
-        return reading(rows, fault);
+        // Another refusal than the reader's was not given of these bytes by these rules.
+        return match fault.refusal == refusal {
+            true => reading(rows, fault),
+            false => Finding::default(),
+        };
     }
     let Some(row) = rows.get(at) else {
         return Finding::default();
@@ -238,7 +253,7 @@ fn taken(rows: &[Row<'_>], at: usize, content: &Content<'_>) -> Finding {
             .find(|(other, _)| *other == name);
         if let Some((_, first)) = first {
             return Finding {
-                note: format!("there is a {} of this name", space.one()),
+                note: format!("there is {} of this name", space.some()),
                 marked: Some(format!("${name}")),
                 last: false,
                 beside: vec![(first, format!("has the name {name} first"))],
@@ -410,7 +425,7 @@ fn missing(rows: &[Row<'_>], at: usize, content: &Content<'_>) -> Finding {
             });
         let mut beside = Vec::new();
         if let Some(other) = elsewhere {
-            note += &format!("; a {} is", other.one());
+            note += &format!("; {} is", other.some());
         } else if let Some((_, other, row)) = near {
             note += &format!("; is {other} meant?");
             if space != Space::Local {

@@ -16,7 +16,7 @@ mod words;
 
 pub use words::{words, Words};
 
-use crate::stream::{account, Account};
+use crate::stream::{account, Account, Row};
 use crate::Refusal;
 use finding::Finding;
 use std::fmt;
@@ -100,48 +100,41 @@ impl<'a> Explanation<'a> {
         shown
     }
 
-    /// A line of the template, and where in it the marked part stands.
+    /// Where in a record's text the part at fault stands, and its length. The
+    /// text is ASCII, so bytes are letters.
+    fn marked(&self, text: &str) -> (usize, usize) {
+        let part = self.finding.marked.as_deref();
+        part.and_then(|part| find_word(text, part, self.finding.last))
+            .unwrap_or((0, text.len()))
+    }
+
+    /// A line of the template; of the record at fault also what to mark in it.
+    /// A long line is cut, so that the mark is to be seen.
     fn line(&self, row: usize) -> (String, Option<(usize, usize)>) {
-        let text = &self.account.rows[row].text;
-        let indent = "  ".repeat(self.account.rows[row].depth);
-        let marked = (Some(row) == self.row()).then(|| match &self.finding.marked {
-            Some(part) => find_word(text, part, self.finding.last),
-            None => None,
-        });
-        let cut = text.chars().count() > LINE;
-        let line = match marked.flatten() {
-            // A part far to the right is shown with what stands before it.
-            Some((at, length)) if cut && at + length > LINE => {
-                let from = at.saturating_sub(LINE / 2);
-                let part: String = text.chars().skip(from).take(LINE).collect();
-                return (
-                    format!("{indent}.. {part} .."),
-                    Some((indent.len() + 3 + at - from, length)),
-                );
-            }
-            _ if cut => format!("{indent}{} ..", text.chars().take(LINE).collect::<String>()),
-            _ => format!("{indent}{text}"),
+        let Row { text, depth, .. } = &self.account.rows[row];
+        let is_fault = Some(row) == self.row();
+        let (at, length) = if is_fault { self.marked(text) } else { (0, 0) };
+        let from = if at + length > LINE {
+            at.saturating_sub(LINE / 2)
+        } else {
+            0
         };
-        let whole = || (indent.len(), text.chars().count().min(LINE));
-        let span = (Some(row) == self.row()).then(|| {
-            marked
-                .flatten()
-                .map_or_else(whole, |(at, length)| (indent.len() + at, length))
-        });
-        (line, span)
+        let to = text.len().min(from + LINE);
+        let indent = "  ".repeat(*depth);
+        let before = if from > 0 { ".. " } else { "" };
+        let after = if to < text.len() { " .." } else { "" };
+        let line = format!("{indent}{before}{}{after}", &text[from..to]);
+        let mark = (indent.len() + before.len() + at - from, length.min(to - at));
+        (line, is_fault.then_some(mark))
     }
 
     /// The bytes around a reading fault, and where among them it stands.
     fn bytes(&self) -> Option<(String, usize)> {
         let fault = self.account.fault?;
-        if !self.has_record() {
+        if fault.refusal != self.refusal || !self.has_record() {
             return None;
         }
-        let rows = &self.account.rows;
-        let start = rows
-            .last()
-            .map_or(0, |row| row.record.offset + row.record.bytes.len());
-        let at = fault.offset - start;
+        let at = fault.offset - self.account.read();
         let from = at.saturating_sub(BYTES);
         let to = (at + BYTES).min(self.account.rest.len());
         let before = if from > 0 { ".. " } else { "" };
