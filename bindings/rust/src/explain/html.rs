@@ -135,17 +135,11 @@ impl Explanation<'_> {
                  <td class=\"b\">{before}<mark>{byte}</mark>{after}</td>\
                  <td class=\"t\"><span class=\"note\">{2}</span></td></tr>",
                 number(fault.refusal.record as usize, whole),
-                self.rest_offset(),
+                self.account.read(),
                 escaped(&self.finding.note)
             )?;
         }
         writeln!(page, "</table></div>")
-    }
-
-    /// Where what was not read begins.
-    fn rest_offset(&self) -> usize {
-        let last = self.account.rows.last();
-        last.map_or(0, |row| row.record.offset + row.record.bytes.len())
     }
 
     /// A record of the template.
@@ -170,17 +164,13 @@ impl Explanation<'_> {
             _ => escaped(&row.text),
         };
         if is_bad {
-            let part = self.finding.marked.as_ref();
-            let place = part.and_then(|part| super::find_word(&row.text, part, self.finding.last));
-            text = match place {
-                Some((from, length)) => format!(
-                    "{}<mark>{}</mark>{}",
-                    escaped(&row.text[..from]),
-                    escaped(&row.text[from..from + length]),
-                    escaped(&row.text[from + length..])
-                ),
-                None => format!("<mark>{text}</mark>"),
-            };
+            let (from, length) = self.marked(&row.text);
+            text = format!(
+                "{}<mark>{}</mark>{}",
+                escaped(&row.text[..from]),
+                escaped(&row.text[from..from + length]),
+                escaped(&row.text[from + length..])
+            );
         }
         let notes = near
             .into_iter()

@@ -71,6 +71,14 @@ fn depths(depth: usize, content: &Content<'_>) -> (usize, usize) {
     }
 }
 
+impl Account<'_> {
+    /// How many bytes were read as records.
+    pub fn read(&self) -> usize {
+        let last = self.rows.last().map(|row| &row.record);
+        last.map_or(0, |record| record.offset + record.bytes.len())
+    }
+}
+
 impl fmt::Display for Account<'_> {
     fn fmt(&self, f: &mut fmt::Formatter<'_>) -> fmt::Result {
         let width = 3 * WIDTH - 1;
@@ -86,10 +94,7 @@ impl fmt::Display for Account<'_> {
         }
         if let Some(fault) = self.fault {
             let number = self.rows.len() as u32;
-            let offset = self
-                .rows
-                .last()
-                .map_or(0, |row| row.record.offset + row.record.bytes.len());
+            let offset = self.read();
             let left = &self.rest[..self.rest.len().min(LEFT)];
             show(f, number, offset, left, &fault.to_string())?;
         }
