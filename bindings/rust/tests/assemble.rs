@@ -1,4 +1,6 @@
 //! Document 01's samples, refusals, and what a call leaves of what it is lent.
+mod common;
+
 use barrizuppa::{
     assemble, assemble_into, assemble_names, assemble_names_into, Refusal, STREAM_BYTES, WORK_WORDS,
 };
@@ -220,6 +222,13 @@ fn a_work_area_that_is_too_short() {
             Err(Refusal::new(1, 0))
         );
     }
+}
+
+#[test]
+fn the_example_of_the_description() {
+    let (stream, module) = common::described();
+    assert_eq!(module.len(), 117);
+    assert_eq!(assemble(&stream), Ok(module));
 }
 
 #[test]

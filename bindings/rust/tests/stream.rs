@@ -4,27 +4,13 @@ mod common;
 use barrizuppa::stream::ValType::*;
 use barrizuppa::stream::*;
 use barrizuppa::Refusal;
-use common::{bytes_at_head, refused};
+use common::{described, refused};
 
 const NOTICE: &[u8] = include_bytes!("../../../examples/notice.stream");
 const NOTICE_RECORDS: &str = include_str!("../../../examples/notice.md");
-const DESCRIPTION: &str = include_str!("../../../docs/STREAM.md");
 
 /// S7: a function, exported as f, that returns its parameter x.
 const S7: &[u8] = b"\x03\0\x01\x01f\0\0\x01\x01x\x7F\x01\x7F\0\x20\x02\x01x\xFF";
-
-/// The example of docs/STREAM.md.
-fn described() -> Vec<u8> {
-    let example = DESCRIPTION
-        .split("\n## An example, record by record\n")
-        .nth(1)
-        .unwrap();
-    let fences = example.split("```").skip(3).step_by(2);
-    fences
-        .flat_map(str::lines)
-        .flat_map(bytes_at_head)
-        .collect()
-}
 
 /// All records written again.
 fn again(stream: &[u8]) -> Vec<u8> {
@@ -74,13 +60,13 @@ fn the_example_of_the_description() {
     });
     stream.export("greet", Kind::Func, "greet");
     let stream = stream.finish().unwrap();
-    assert_eq!(stream, described());
+    assert_eq!(stream, described().0);
     assert_eq!((stream.len(), read(&stream).unwrap().len()), (203, 22));
 }
 
 #[test]
 fn what_is_read_is_written_as_the_same_bytes() {
-    for stream in [NOTICE, S7, b"", &described()] {
+    for stream in [NOTICE, S7, b"", &described().0] {
         assert_eq!(again(stream), stream);
     }
 }

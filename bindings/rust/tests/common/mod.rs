@@ -2,6 +2,7 @@
 #![allow(dead_code)] // no test uses all of it
 use barrizuppa::Refusal;
 
+const DESCRIPTION: &str = include_str!("../../../../docs/STREAM.md");
 const REFUSALS: &str = include_str!("../../../../docs/REFUSALS.md");
 
 /// The bytes in hex at the head of a text.
@@ -58,4 +59,16 @@ fn bytes(text: &str) -> Vec<u8> {
         }
     }
     bytes
+}
+
+/// The example of docs/STREAM.md: its stream and its module.
+pub fn described() -> (Vec<u8>, Vec<u8>) {
+    let example = DESCRIPTION
+        .split("\n## An example, record by record\n")
+        .nth(1)
+        .unwrap();
+    let fences = example.split("```").skip(3).step_by(2);
+    let stream = fences.flat_map(str::lines).flat_map(bytes_at_head);
+    let indented = example.lines().filter_map(|line| line.strip_prefix("    "));
+    (stream.collect(), indented.flat_map(bytes_at_head).collect())
 }
