@@ -1,6 +1,6 @@
 #!/usr/bin/env python3
 """A reading of document 01's record stream, refusals 1 to 9, and 19 of document
-02 (§5), written from the documents alone, to be compared with the proved code.
+02 (§5), written from the documents, to be compared with the proved code.
 
 As a module:   read(stream) -> ('ok', count of records)
                             or ('refused', number, record)
