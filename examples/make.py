@@ -86,8 +86,9 @@ FIELDS = (
 
 ACCOUNT = '''# The records of notice.stream
 
-Written by `python3 examples/make.py`, which has the description that the stream is made from. Offsets and record numbers count from 0, bytes
-are in hex. `python3 tools/account.py < STREAM` shows any stream so.
+Written by `python3 examples/make.py`, which has the description that the stream is made from. Offsets
+and record numbers count from 0, bytes are in hex. `barrizuppa account STREAM` shows any stream so, and
+`python3 tools/account.py < STREAM` does, too; docs/STREAM.md says what the bytes mean.
 
 ```
 %s

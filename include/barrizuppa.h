@@ -1,9 +1,10 @@
 /*
- * Barrizuppa: an assembler for WebAssembly. A record stream goes in, a binary
- * module or a refusal comes out.
+ * Barrizuppa: an assembler for WebAssembly. A record stream (docs/STREAM.md)
+ * goes in, a binary module or a refusal comes out.
  *
  * Link with target/staticlib/libassembler.a, which `rt staticlib assembler`
- * proves and writes, for x86-64 Linux. It needs memcpy and memset and nothing
+ * proves and writes, for x86-64 Linux; installed by bindings/c/install.sh it is
+ * `pkg-config --cflags --libs barrizuppa`. It needs memcpy and memset and nothing
  * else, allocates nothing, keeps nothing between calls, and may be called from
  * several threads at a time, each with buffers of its own. A call takes less
  * than 96 KB of stack.
@@ -22,6 +23,12 @@
 extern "C" {
 #endif
 
+/* The release that this header and the library belong to. */
+#define BARRIZUPPA_VERSION_MAJOR 0
+#define BARRIZUPPA_VERSION_MINOR 2
+#define BARRIZUPPA_VERSION_PATCH 0
+#define BARRIZUPPA_VERSION "0.2.0"
+
 /* The least work area, in words. */
 #define BARRIZUPPA_WORK_WORDS 16384
 
@@ -34,6 +41,30 @@ extern "C" {
 #define BARRIZUPPA_LENGTH 2
 #define BARRIZUPPA_RECORD_AGAIN 3
 
+/* What a call's number may be. A later release may have more. */
+enum barrizuppa_number {
+    BARRIZUPPA_ASSEMBLED = 0,
+    BARRIZUPPA_REFUSED_STREAM = 1,        /* the stream is too long */
+    BARRIZUPPA_REFUSED_END = 2,           /* it ends inside a record or a body */
+    BARRIZUPPA_REFUSED_NUMBER = 3,        /* a number does not fit its width */
+    BARRIZUPPA_REFUSED_BYTE = 4,          /* a byte stands where no form allows it */
+    BARRIZUPPA_REFUSED_IDENTIFIER = 5,    /* too long, a wrong byte, or empty in an index */
+    BARRIZUPPA_REFUSED_STRING = 6,        /* too long, or a wrong byte */
+    BARRIZUPPA_REFUSED_COUNT = 7,         /* another count passes its ceiling */
+    BARRIZUPPA_REFUSED_BLOCK = 8,         /* else, end or the body's end, and the blocks */
+    BARRIZUPPA_REFUSED_START = 9,         /* a second start */
+    BARRIZUPPA_REFUSED_WORK = 10,         /* the work area is too short */
+    BARRIZUPPA_REFUSED_IMPORT = 11,       /* an import after an own item */
+    BARRIZUPPA_REFUSED_TYPES = 12,        /* a use would add a 257th type */
+    BARRIZUPPA_REFUSED_TAKEN = 13,        /* an identifier is taken */
+    BARRIZUPPA_REFUSED_UNKNOWN = 14,      /* no such identifier */
+    BARRIZUPPA_REFUSED_TYPE_NUMBER = 15,  /* an inline type use has a number that no type has */
+    BARRIZUPPA_REFUSED_TYPE = 16,         /* an inline type differs from the type it names */
+    BARRIZUPPA_REFUSED_LABEL = 17,        /* the label on else or end is not its block's */
+    BARRIZUPPA_REFUSED_ROOM = 18,         /* the output is too short */
+    BARRIZUPPA_REFUSED_PADDING = 19       /* a number is longer than needed */
+};
+
 /*
  * Assembles the stream.
  *
@@ -45,8 +76,9 @@ extern "C" {
  *
  * Returns the number, the same as the answer's first word.
  *
- * Number: 0 where the stream is assembled, else the refusal's number, 1 to 19.
- * docs/REFUSALS.md says when each is given, and what to do.
+ * Number: 0 where the stream is assembled, else the refusal's number, 1 to 19
+ * (enum barrizuppa_number). docs/REFUSALS.md says when each is given, and what
+ * to do.
  *
  * Record: the count of records where the stream is assembled. On a refusal the
  * record, counted from 0, that holds the fault; 0 with 1 and 10; the count of

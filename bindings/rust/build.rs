@@ -1,11 +1,14 @@
 //! Links libassembler.a, which `rt staticlib assembler` makes.
 //! BARRIZUPPA_STATICLIB is its folder if it is not target/staticlib of the
-//! repository.
+//! repository. Without the feature `library` nothing is linked.
 use std::env;
 use std::path::PathBuf;
 
 fn main() {
     println!("cargo:rerun-if-env-changed=BARRIZUPPA_STATICLIB");
+    if env::var_os("CARGO_FEATURE_LIBRARY").is_none() {
+        return;
+    }
     let here =
         PathBuf::from(env::var_os("CARGO_MANIFEST_DIR").expect("cargo says where the package is"));
     let folder = env::var_os("BARRIZUPPA_STATICLIB")

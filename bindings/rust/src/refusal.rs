@@ -5,8 +5,10 @@ use std::fmt;
 /// A refusal: its number, and the record that holds the fault.
 ///
 /// Records count from 0. The record is 0 with the numbers 1 and 10, and the
-/// count of records with 18. docs/REFUSALS.md says when each is given.
+/// count of records with 18. docs/REFUSALS.md says when each is given, and what
+/// to do; [`explain`](crate::explain) says it of a stream.
 #[derive(Clone, Copy, Debug, PartialEq, Eq, Hash)]
+#[non_exhaustive]
 pub struct Refusal {
     pub number: u32,
     pub record: u32,
@@ -15,6 +17,11 @@ pub struct Refusal {
 impl Refusal {
     /// The number of a refusal for want of room in the output.
     pub const NO_ROOM: u32 = 18;
+
+    /// The refusal of this number at this record.
+    pub const fn new(number: u32, record: u32) -> Self {
+        Refusal { number, record }
+    }
 
     /// What the number means, in a few words.
     pub fn meaning(&self) -> &'static str {

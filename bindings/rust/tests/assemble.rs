@@ -1,4 +1,6 @@
 //! Document 01's samples, refusals, and what a call leaves of what it is lent.
+mod common;
+
 use barrizuppa::{
     assemble, assemble_into, assemble_names, assemble_names_into, Refusal, STREAM_BYTES, WORK_WORDS,
 };
@@ -19,7 +21,7 @@ const S7_NAMES: &[u8] = b"\0\x0D\x04name\x02\x06\x01\0\x01\0\x01x";
 const S7_WITH_Y: &[u8] = b"\x03\0\x01\x01f\0\0\x01\x01x\x7F\x01\x7F\0\x20\x02\x01y\xFF";
 
 fn refused(number: u32, record: u32) -> Result<Vec<u8>, Refusal> {
-    Err(Refusal { number, record })
+    Err(Refusal::new(number, record))
 }
 
 /// S1's bytes and these sections.
@@ -167,10 +169,7 @@ fn just_enough_room_and_a_byte_less() {
     let mut out = [0xAA; 34];
     assert_eq!(
         assemble_into(S7, &mut work, &mut out),
-        Err(Refusal {
-            number: 18,
-            record: S7_RECORDS
-        })
+        Err(Refusal::new(18, S7_RECORDS))
     );
     assert_eq!(out, [0xAA; 34]);
 }
@@ -182,10 +181,7 @@ fn old_bytes_beyond_the_module_and_after_a_refusal() {
     let old = out.clone();
     assert_eq!(
         assemble_into(S7_WITH_Y, &mut work, &mut out),
-        Err(Refusal {
-            number: 14,
-            record: 1
-        })
+        Err(Refusal::new(14, 1))
     );
     assert_eq!(out, old);
     assert_eq!(assemble_into(S7, &mut work, &mut out), Ok(35));
@@ -199,20 +195,8 @@ fn the_work_area_is_zeros_after_every_call() {
     for words in [WORK_WORDS, WORK_WORDS + 1, 2 * WORK_WORDS] {
         for (stream, answer) in [
             (S7, Ok(35)),
-            (
-                S7_WITH_Y,
-                Err(Refusal {
-                    number: 14,
-                    record: 1,
-                }),
-            ),
-            (
-                &[0; STREAM_BYTES + 1],
-                Err(Refusal {
-                    number: 1,
-                    record: 0,
-                }),
-            ),
+            (S7_WITH_Y, Err(Refusal::new(14, 1))),
+            (&[0; STREAM_BYTES + 1], Err(Refusal::new(1, 0))),
         ] {
             let mut work: Vec<u32> = (1..).take(words).collect();
             assert_eq!(assemble_into(stream, &mut work, &mut out), answer);
@@ -228,21 +212,34 @@ fn a_work_area_that_is_too_short() {
         let mut work = vec![u32::MAX; words];
         assert_eq!(
             assemble_into(S7, &mut work, &mut out),
-            Err(Refusal {
-                number: 10,
-                record: 0
-            })
+            Err(Refusal::new(10, 0))
         );
         assert!(work.iter().all(|word| *word == 0));
         assert_eq!(out, [0xAA; 64]);
         // A stream that is too long comes first.
         assert_eq!(
             assemble_into(&[0; STREAM_BYTES + 1], &mut work, &mut out),
-            Err(Refusal {
-                number: 1,
-                record: 0
-            })
+            Err(Refusal::new(1, 0))
         );
+    }
+}
+
+#[test]
+fn the_example_of_the_description() {
+    let (stream, module) = common::described();
+    assert_eq!(module.len(), 117);
+    assert_eq!(assemble(&stream), Ok(module));
+}
+
+#[test]
+fn one_assembler_for_many_streams() {
+    let mut assembler = barrizuppa::Assembler::new();
+    let long = [&b"\x0A\0\0\xFA\xFF\x03"[..], &[b'z'; STREAM_BYTES - 6]].concat();
+    for stream in [S7, S7_WITH_Y, &long, b"", S7] {
+        let module = assembler.assemble(stream).map(<[u8]>::to_vec);
+        assert_eq!(module, assemble(stream));
+        let module = assembler.assemble_names(stream).map(<[u8]>::to_vec);
+        assert_eq!(module, assemble_names(stream));
     }
 }
 
@@ -251,16 +248,10 @@ fn a_refusal_in_words() {
     let refusal = assemble(S7_WITH_Y).unwrap_err();
     assert_eq!(refusal.to_string(), "refused 14 at 1: no such identifier");
     let error: Box<dyn std::error::Error> = refusal.into();
-    assert_eq!(
-        error.downcast_ref(),
-        Some(&Refusal {
-            number: 14,
-            record: 1
-        })
-    );
+    assert_eq!(error.downcast_ref(), Some(&Refusal::new(14, 1)));
     // Every number has words of its own.
     let meanings: std::collections::HashSet<_> = (0..=19)
-        .map(|number| Refusal { number, record: 0 }.meaning())
+        .map(|number| Refusal::new(number, 0).meaning())
         .collect();
     assert_eq!(meanings.len(), 20);
 }
@@ -287,10 +278,7 @@ fn names_need_room_too() {
     let room = out.len() - 1;
     assert_eq!(
         assemble_names_into(S7, &mut work, &mut out[..room]),
-        Err(Refusal {
-            number: Refusal::NO_ROOM,
-            record: S7_RECORDS
-        })
+        Err(Refusal::new(Refusal::NO_ROOM, S7_RECORDS))
     );
     assert!(out.iter().all(|byte| *byte == 0xA5));
     assert_eq!(

@@ -1,0 +1,74 @@
+//! What several tests read from the documents.
+#![allow(dead_code)] // no test uses all of it
+use barrizuppa::Refusal;
+
+const DESCRIPTION: &str = include_str!("../../../../docs/STREAM.md");
+const REFUSALS: &str = include_str!("../../../../docs/REFUSALS.md");
+
+/// The bytes in hex at the head of a text.
+pub fn bytes_at_head(text: &str) -> Vec<u8> {
+    let is_hex = |word: &&str| word.len() == 2 && word.bytes().all(|byte| byte.is_ascii_hexdigit());
+    text.split(' ')
+        .take_while(is_hex)
+        .map(|word| u8::from_str_radix(word, 16).unwrap())
+        .collect()
+}
+
+/// The streams of docs/REFUSALS.md for which nothing special is lent.
+pub fn refused() -> Vec<(Vec<u8>, Refusal)> {
+    let mut streams = Vec::new();
+    for line in REFUSALS
+        .lines()
+        .filter_map(|line| line.strip_prefix("    "))
+    {
+        let Some((stream, rest)) = line
+            .split_once("  refused ")
+            .or(line.split_once(" refused "))
+        else {
+            continue;
+        };
+        if stream.starts_with("lent") {
+            continue;
+        }
+        let mut words = rest.split(' ');
+        let number = words.next().unwrap().parse().unwrap();
+        let record = words.nth(1).unwrap().parse().unwrap();
+        streams.push((bytes(stream.trim()), Refusal::new(number, record)));
+    }
+    streams
+}
+
+/// `2 × (01 02) 03` as bytes.
+fn bytes(text: &str) -> Vec<u8> {
+    let mut bytes = Vec::new();
+    let mut rest = text;
+    while !rest.is_empty() {
+        rest = rest.trim_start();
+        let times = rest
+            .split_once(" × (")
+            .filter(|(count, _)| !count.contains(' '));
+        if let Some((count, after)) = times {
+            let (copied, after) = after.split_once(')').unwrap();
+            let count = count.replace(',', "").parse().unwrap();
+            bytes.extend(bytes_at_head(copied).repeat(count));
+            rest = after;
+        } else {
+            let (byte, after) = rest.split_once(' ').unwrap_or((rest, ""));
+            bytes.extend(bytes_at_head(byte));
+            rest = after;
+        }
+    }
+    bytes
+}
+
+/// The example of docs/STREAM.md: its stream and its module.
+pub fn described() -> (Vec<u8>, Vec<u8>) {
+    let example = DESCRIPTION
+        .split("\n## An example, record by record\n")
+        .nth(1)
+        .unwrap();
+    let fences = example.split("```").skip(3).step_by(2);
+    let stream = fences.flat_map(str::lines).flat_map(bytes_at_head);
+    let indented = example.lines().filter_map(|line| line.strip_prefix("    "));
+    (stream.collect(), indented.flat_map(bytes_at_head).collect())
+}
