@@ -8,13 +8,14 @@ use Rattle.definition.specs.Types.{declared}
 use Rattle.definition.specs.Binary.{module′}
 use Rattle.definition.specs.Assemble.{Maker}
 use Rattle.definition.specs.Assemble.{outputAfter, workAfter, Outcome, outcome, callBy, call, callNames}
+use Rattle.syntax.specs.declared.Refusal.{Refusal}
 use Rattle.walk.specs.Walk.{fieldsIn}
 use Rattle.scope.specs.Scope.{scopeIn}
-use Rattle.parts.specs.Tally.{tallies, noTally}
-use Rattle.parts.specs.declared.tally.Tally.{Tally}
-use Rattle.parts.specs.declared.tally.Verdict.{Verdict}
-use Rattle.parts.specs.declared.tally.Verdict.the-variants as V′
-use Rattle.section_entries.specs.Write.{Writable, Held, allEntries, moduleItems}
+use Rattle.kept.specs.Tally.{tallies, noTally}
+use Rattle.kept.specs.declared.tally.Tally.{Tally}
+use Rattle.kept.specs.declared.tally.Verdict.{Verdict}
+use Rattle.kept.specs.declared.tally.Verdict.the-variants as V′
+use Rattle.sections.specs.Write.{Writable, Held, allEntries, moduleItems}
 use Rattle.name_section.specs.Section.{namesIn}
 use Rattle.passes.specs.Passes.{Ready}
 use Rattle.passes.specs.Passes.{makes, writes, ReadyBy, Prepares}
@@ -57,10 +58,10 @@ module _ (s w : List ℕ) (p : Passed) (w₁ b : List ℕ) (h : Prepares s w p w
   run-module names old z w₂ new e b y = rw b (writer-done false old z w₂ new e y)
 
   -- a pass has refused
-  pub run-not : (names : Bool) (old : List ℕ) (n r : ℕ) → v ≡ V′.Refused n r → Runs (makes names) s w old (record { number = n; rec = r; len = 0 }) w₁ old
+  pub run-not : (names : Bool) (old : List ℕ) (r : Refusal) → v ≡ V′.Refused r → Runs (makes names) s w old (record { number = r .number; rec = r .rec; len = 0 }) w₁ old
   unfolding heard outputAfter
-  run-not names old n r e =
-      let f : p .verdict ≡ V′.Refused n r = sym g ∙ e in
+  run-not names old r e =
+      let f : p .verdict ≡ V′.Refused r = sym g ∙ e in
       let x = h .says names (length old) in
       record { says = ap (heard old) (sym (rw f at x)); long = h .long }
 

@@ -1,7 +1,7 @@
 // The assembler: the passes, and after them the writers.
 pub mod export;
 
-use parts::Verdict;
+use kept::Verdict;
 pub use writers::Said;
 ghost use Rattle.definition.specs.Assemble.{callBy};
 ghost use Rattle.passes.specs.Passes.{makes};
@@ -21,9 +21,9 @@ fn run_keeping(s: &[u8], work: &mut [u32], out: &mut [u8], kept: &mut [u8], name
             }
             writers::write_module(s, work, out, kept, p.count, p.declared, t)
         }
-        Verdict::Refused(n, q) => Said {
-            number: n,
-            rec: q,
+        Verdict::Refused(q) => Said {
+            number: q.number,
+            rec: q.rec,
             len: 0,
         },
     }
@@ -68,7 +68,7 @@ fn call(s: &[u8], work: &mut [u32], out: &mut [u8], names: bool) -> Said
     ensures { λ r. ⌜ AssemblesBy (callBy (makes names)) (now (s .entry)) (now (work .entry)) (now (out .entry)) r (now (out .exit)) (now (work .exit)) ⌝ }
 {
     let r = run(s, work, out, names);
-    space::clear(work);
+    area::clear(work);
     r
 }
 

@@ -8,8 +8,8 @@ use Rattle.definition.specs.Syntax as Syntax
 use Rattle.definition.specs.Binary.{u, blockType, memarg, instruction, expr}
 use Rattle.emit.specs.Put.{Put}
 use Rattle.emit.proofs.Laws.{put-then, put-is}
-use Rattle.binary.specs.Views.{blockTypeOf}
-use Rattle.binary.specs.declared.instructions.BlockType.{BlockType}
+use Rattle.syntax.specs.Resolved.{blockTypeOf}
+use Rattle.syntax.specs.declared.BlockType.{BlockType}
 
 module _ (old : List ℕ) (at r : ℕ) (new : List ℕ) where
   pub block-is : (b c : BlockType) → b ≡ c → Put old at (blockType (blockTypeOf c)) r new → Put old at (blockType (blockTypeOf b)) r new

@@ -4,6 +4,7 @@ use mathlib.Core.Path.{_≡_}
 use mathlib.Core.List.{List}
 use Rattle.definition.specs.Basic.{Answer, ok, refused}
 use Rattle.definition.specs.Syntax.{Bytes}
+use Rattle.syntax.specs.Refusals.{refusedBy}
 use Rattle.emit.specs.Put.{Put}
 use Rattle.binary.specs.declared.Emitted.{Emitted}
 use Rattle.binary.specs.declared.Emitted.the-variants as E
@@ -17,4 +18,4 @@ pub record Wrote {A : Type 0} (bytes : A → Bytes) (a : Answer A) (old : List �
 -- `r` is the definition's answer: of a value its bytes were put, and a refusal is the same
 unfoldable pub Emits : {A : Type 0} → (A → Bytes) → Answer A → List ℕ → ℕ → Emitted → List ℕ → Type 0
 Emits bytes a old at (E.To o) new = Wrote bytes a old at o new
-Emits bytes a old at (E.Refused n r) new = a ≡ refused n r
+Emits bytes a old at (E.Refused r) new = a ≡ refusedBy r

@@ -1,16 +1,14 @@
 // Instructions whose immediates are resolved. A local's number, a type's number and a label's depth are three sorts: none can
 // stand for another.
+use syntax::BlockType;
+use syntax::Depth;
+use syntax::LocalNo;
+use syntax::TypeNo;
 ghost use lib.IntN.{pos};
 ghost use Rattle.definition.specs.Syntax.{indirectImm};
 ghost use Rattle.definition.specs.Binary as Binary;
 ghost use Rattle.emit.specs.Put.{Put};
-ghost use Rattle.binary.specs.Views.{localNoOf, typeNoOf, depthOf, blockTypeOf};
-
-pub struct LocalNo(pub u32);
-
-pub struct TypeNo(pub u32);
-
-pub struct Depth(pub u32);
+ghost use Rattle.syntax.specs.Resolved.{localNoOf, typeNoOf, depthOf, blockTypeOf};
 
 pub fn put_local(out: &mut [u8], at: usize, n: LocalNo) -> usize
     ensures { λ r. ⌜ Put (now (out .entry)) at (Binary.u (localNoOf n .local-no)) r (now (out .exit)) ⌝ }
@@ -28,12 +26,6 @@ pub fn put_depth(out: &mut [u8], at: usize, n: Depth) -> usize
     ensures { λ r. ⌜ Put (now (out .entry)) at (Binary.u (depthOf n .depth)) r (now (out .exit)) ⌝ }
 {
     leb::put_u(out, at, n.0 as u64)
-}
-
-pub enum BlockType {
-    Empty,
-    Single(u8),
-    Typed(TypeNo),
 }
 
 // A type's number, in the signed form: so it differs from the bytes of the short forms.

@@ -2,10 +2,6 @@
 pub mod instructions;
 pub mod names;
 
-pub use instructions::BlockType;
-pub use instructions::Depth;
-pub use instructions::LocalNo;
-pub use instructions::TypeNo;
 pub use instructions::put_block_type;
 pub use instructions::put_depth;
 pub use instructions::put_indirect;
@@ -18,7 +14,9 @@ pub use names::put_name;
 pub use names::put_part;
 
 // Where an emitter that also resolves came to, or a refusal's number and record.
+use syntax::Refusal;
+
 pub enum Emitted {
     To(usize),
-    Refused(u8, u32),
+    Refused(Refusal),
 }

@@ -1,14 +1,14 @@
 // Parts of the stream as they are, and as names with their length before them.
-use sources::ImportName;
-use token::Part;
-use token::Space;
+use syntax::ImportName;
+use syntax::Part;
+use syntax::Space;
 ghost use mathlib.Core.Path.{_≡_};
 ghost use mathlib.Core.List.{_∷_, _++_};
 ghost use Rattle.definition.specs.Syntax.{code};
 ghost use Rattle.definition.specs.Binary as Binary;
 ghost use Rattle.emit.specs.Put.{Put};
-ghost use Rattle.token.specs.Views.{partOf, spaceOf};
-ghost use Rattle.sources.specs.Views.{nameOf};
+ghost use Rattle.syntax.specs.Tokens.{partOf, spaceOf};
+ghost use Rattle.syntax.specs.Items.{nameOf};
 
 // The bytes of a part.
 pub fn put_part(out: &mut [u8], at: usize, s: &[u8], p: Part) -> usize
@@ -38,7 +38,7 @@ pub fn put_import_name(out: &mut [u8], at: usize, s: &[u8], n: ImportName) -> us
 fn space_byte(k: Space) -> u8
     ensures { λ r. ⌜ r ≡ code (spaceOf k) ⌝ }
 {
-    sources::space_code(k) as u8
+    syntax::space_code(k) as u8
 }
 
 // An export: its name, and the item that is exported.

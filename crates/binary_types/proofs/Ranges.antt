@@ -7,9 +7,9 @@ use mathlib.Core.Option.{none, some}
 use Rattle.definition.specs.Basic.{if_then_else_}
 use Rattle.definition.specs.Binary.{limits, limitsOf}
 use Rattle.emit.specs.Put.{Put}
-use Rattle.coretypes.specs.Views.{limitsIs}
-use Rattle.coretypes.specs.declared.Limits.{Limits}
-use Rattle.coretypes.specs.declared.Maximum.the-variants as M
+use Rattle.syntax.specs.CoreTypes.{limitsIs}
+use Rattle.syntax.specs.declared.Limits.{Limits}
+use Rattle.syntax.specs.declared.Maximum.the-variants as M
 
 module _ (x a b : ℕ) (t : Bool) where
   -- one more than a choice

@@ -1,8 +1,8 @@
 // Limits, table types, global types.
-use coretypes::GlobalType;
-use coretypes::Limits;
-use coretypes::Maximum;
-use coretypes::TableType;
+use syntax::GlobalType;
+use syntax::Limits;
+use syntax::Maximum;
+use syntax::TableType;
 ghost use Prim.Native.Nat.{_+_};
 ghost use mathlib.Core.Path.{_≡_};
 ghost use mathlib.Core.Option.{none, some};
@@ -10,7 +10,7 @@ ghost use Rattle.definition.specs.Basic.{if_then_else_};
 ghost use Rattle.definition.specs.Binary as Binary;
 ghost use Rattle.definition.specs.Deinline as Deinline;
 ghost use Rattle.emit.specs.Put.{Put};
-ghost use Rattle.coretypes.specs.Views.{limitsIs, tableTypeIs, globalTypeIs};
+ghost use Rattle.syntax.specs.CoreTypes.{limitsIs, tableTypeIs, globalTypeIs};
 
 // The flag of limits without a maximum.
 fn flag(is64: bool) -> u8

@@ -20,27 +20,28 @@ use Rattle.definition.specs.Types.{usedAt, instrUses}
 use Rattle.definition.specs.Names.{itemNo, typeNo, blockType, closes, blocksAfter, instrOp}
 use Rattle.definition.specs.Binary as Binary
 use Rattle.definition.specs.Binary.{instruction, imm}
+use Rattle.syntax.specs.declared.Refusal.{Refusal}
 use Rattle.emit.specs.Put.{Put}
 use Rattle.emit.proofs.Laws.{put-cons}
-use Rattle.token.specs.Views.{idOf, idAt, indexOf, indexAt}
+use Rattle.syntax.specs.Tokens.{idOf, idAt, indexOf, indexAt}
 use Rattle.token.specs.Known.{Gets}
-use Rattle.token.specs.declared.text.Part.{Part}
-use Rattle.token.specs.declared.text.PartAt.{PartAt}
-use Rattle.token.specs.declared.text.PartAt.the-variants as P
-use Rattle.token.specs.declared.index.Index.{Index}
-use Rattle.token.specs.declared.index.IndexAt.{IndexAt}
-use Rattle.token.specs.declared.index.IndexAt.the-variants as X
+use Rattle.syntax.specs.declared.Part.{Part}
+use Rattle.syntax.specs.declared.PartAt.{PartAt}
+use Rattle.syntax.specs.declared.PartAt.the-variants as P
+use Rattle.syntax.specs.declared.Index.{Index}
+use Rattle.syntax.specs.declared.IndexAt.{IndexAt}
+use Rattle.syntax.specs.declared.IndexAt.the-variants as X
 use Rattle.token.proofs.Gets.{gets-first, gets-rest, gets-passed, gets-after}
-use Rattle.typeuse.specs.Views.{useOf, useAt}
-use Rattle.typeuse.specs.declared.TypeUse.{TypeUse}
-use Rattle.typeuse.specs.declared.UseAt.{UseAt}
-use Rattle.typeuse.specs.declared.UseAt.the-variants as U
-use Rattle.space.specs.Area.{resolved}
-use Rattle.space.specs.declared.table.Resolved.{Resolved}
-use Rattle.space.specs.declared.table.Resolved.the-variants as R
-use Rattle.signatures.specs.Table.{typesIn, Recalled}
+use Rattle.syntax.specs.TypeUses.{useOf, useAt}
+use Rattle.syntax.specs.declared.TypeUse.{TypeUse}
+use Rattle.syntax.specs.declared.UseAt.{UseAt}
+use Rattle.syntax.specs.declared.UseAt.the-variants as U
+use Rattle.name_table.specs.Area.{resolved}
+use Rattle.name_table.specs.declared.table.Resolved.{Resolved}
+use Rattle.name_table.specs.declared.table.Resolved.the-variants as R
+use Rattle.type_table.specs.Table.{typesIn, Recalled}
 use Rattle.scope.specs.Scope.{scopeIn, labelsIn}
-use Rattle.uses.specs.Uses.{blockUses}
+use Rattle.type_table.specs.Uses.{blockUses}
 use Rattle.scope.specs.Answers.{closedAnswer, typeAnswer, blockAnswer}
 use Rattle.scope.specs.declared.label.Closed.{Closed}
 use Rattle.scope.specs.declared.label.Closed.the-variants as C
@@ -50,9 +51,9 @@ use Rattle.scope.specs.declared.types.BlockAt.{BlockAt}
 use Rattle.scope.specs.declared.types.BlockAt.the-variants as B
 use Rattle.scope.proofs.Frames.{labels-close}
 use Rattle.frames.specs.Blocks.{Opened}
-use Rattle.binary.specs.Views.{blockTypeOf, typeNoOf}
-use Rattle.binary.specs.declared.instructions.BlockType.{BlockType}
-use Rattle.binary.specs.declared.instructions.TypeNo.{TypeNo}
+use Rattle.syntax.specs.Resolved.{blockTypeOf, typeNoOf}
+use Rattle.syntax.specs.declared.BlockType.{BlockType}
+use Rattle.syntax.specs.declared.TypeNo.{TypeNo}
 use Rattle.binary.specs.Emits.{Emits}
 use Rattle.binary.specs.declared.Emitted.{Emitted}
 use Rattle.binary.specs.declared.Emitted.the-variants as E
@@ -73,9 +74,9 @@ module _ (s w : List ℕ) (rec opcode : ℕ) (t : Syntax.TypeUse Identifier) (y 
   unfolding instrOp _>>=_ instruction imm
   opens-to b a r mid d p q = wrote instruction (instrOp (scopeIn s w) [] [] rec (Syntax.opens opcode none t)) old at new (record { opcode = opcode; imm = Syntax.blockImm (blockTypeOf b) }) r (put-cons p q) (rw (told, d))
 
-  pub opens-not : (n q : ℕ) → y ≡ B.Refused n q → Opens (E.Refused n q)
+  pub opens-not : (q : Refusal) → y ≡ B.Refused q → Opens (E.Refused q)
   unfolding instrOp _>>=_
-  opens-not n q d = halts instruction (instrOp (scopeIn s w) [] [] rec (Syntax.opens opcode none t)) old at new n q (rw (told, d))
+  opens-not q d = halts instruction (instrOp (scopeIn s w) [] [] rec (Syntax.opens opcode none t)) old at new q (rw (told, d))
 
 -- ## `opened`
 
@@ -92,12 +93,12 @@ module _ (s w : List ℕ) (k rec op : ℕ) (l : Part) (t : TypeUse) (next : ℕ)
         (was-wrote instruction (instrOp (scopeIn s w) [] [] rec (Syntax.opens op none (useOf s t))) old at new y o e d) (g .labels) refl (omega arith) (g .kept);
   }
 
-  pub opened-not : (n q : ℕ) → y ≡ E.Refused n q → Opening (T.Refused n q) w
+  pub opened-not : (q : Refusal) → y ≡ E.Refused q → Opening (T.Refused q) w
   unfolding instrOp
-  opened-not n q d = record {
+  opened-not q d = record {
     each = λ ls.
-        turned-refused s w ls k rec (got (instr (Syntax.opens op (idOf s l) (useOf s t))) next) old at (Syntax.opens op (idOf s l) (useOf s t)) next refl new n q
-        (has-halted instruction (instrOp (scopeIn s w) [] [] rec (Syntax.opens op none (useOf s t))) old at new y n q e d);
+        turned-refused s w ls k rec (got (instr (Syntax.opens op (idOf s l) (useOf s t))) next) old at (Syntax.opens op (idOf s l) (useOf s t)) next refl new q
+        (has-halted instruction (instrOp (scopeIn s w) [] [] rec (Syntax.opens op none (useOf s t))) old at new y q e d);
   }
 
 -- ## The records
@@ -238,9 +239,9 @@ module _ (s w : List ℕ) (k rec opcode : ℕ) (l : Option Identifier) (y : Clos
   unfolding closingOp _>>=_ instruction imm
   closing-to r d p = wrote instruction (closingOp s w k rec opcode l) old at new (record { opcode = opcode; imm = Syntax.noImm }) r p (rw (told, d))
 
-  pub closing-not : (n q : ℕ) → y ≡ C.Refused n q → Emits instruction (closingOp s w k rec opcode l) old at (E.Refused n q) new
+  pub closing-not : (q : Refusal) → y ≡ C.Refused q → Emits instruction (closingOp s w k rec opcode l) old at (E.Refused q) new
   unfolding closingOp _>>=_
-  closing-not n q d = halts instruction (closingOp s w k rec opcode l) old at new n q (rw (told, d))
+  closing-not q d = halts instruction (closingOp s w k rec opcode l) old at new q (rw (told, d))
 
 -- ## `emit_indirect`
 
@@ -248,9 +249,9 @@ module _ (s w : List ℕ) (rec : ℕ) (x : Syntax.Index Identifier) (t : Syntax.
   abbrev Indirect : Emitted → Type 0
   Indirect r = Emits instruction (instrOp (scopeIn s w) [] [] rec (Syntax.indirect x t)) old at r new
 
-  pub indirect-stops : (n q : ℕ) → y ≡ R.Refused n q → Indirect (E.Refused n q)
+  pub indirect-stops : (q : Refusal) → y ≡ R.Refused q → Indirect (E.Refused q)
   unfolding instrOp _>>=_
-  indirect-stops n q d = halts instruction (instrOp (scopeIn s w) [] [] rec (Syntax.indirect x t)) old at new n q (rw (told, d))
+  indirect-stops q d = halts instruction (instrOp (scopeIn s w) [] [] rec (Syntax.indirect x t)) old at new q (rw (told, d))
 
   module _ (table : ℕ) (d : y ≡ R.To table) (z : TypeAt) (says : typeNo (scopeIn s w) rec t ≡ typeAnswer z) where
     pub indirect-to : (n : TypeNo) (a r : ℕ) (mid : List ℕ) → z ≡ N.To n → Put old at (0x11 ∷ []) a mid → Put mid a (imm (Syntax.indirectImm (typeNoOf n) table)) r new → Indirect (E.To r)
@@ -258,6 +259,6 @@ module _ (s w : List ℕ) (rec : ℕ) (x : Syntax.Index Identifier) (t : Syntax.
     indirect-to n a r mid e p q =
         wrote instruction (instrOp (scopeIn s w) [] [] rec (Syntax.indirect x t)) old at new (record { opcode = 0x11; imm = Syntax.indirectImm (typeNoOf n) table }) r (put-cons p q) (rw (told, d, says, e))
 
-    pub indirect-not : (n q : ℕ) → z ≡ N.Refused n q → Indirect (E.Refused n q)
+    pub indirect-not : (q : Refusal) → z ≡ N.Refused q → Indirect (E.Refused q)
     unfolding instrOp _>>=_
-    indirect-not n q e = halts instruction (instrOp (scopeIn s w) [] [] rec (Syntax.indirect x t)) old at new n q (rw (told, d, says, e))
+    indirect-not q e = halts instruction (instrOp (scopeIn s w) [] [] rec (Syntax.indirect x t)) old at new q (rw (told, d, says, e))

@@ -17,23 +17,26 @@ use Rattle.definition.specs.Read.{openAfter}
 use Rattle.definition.specs.Types.{usedAt, instrUses, bodyUses}
 use Rattle.definition.specs.Names.{Scope, Namespace, blocksAfter, instrOp, body}
 use Rattle.definition.specs.Binary as Binary
+use Rattle.syntax.specs.Refusals.{refusedBy}
+use Rattle.syntax.specs.declared.Refusal.{Refusal}
 use Rattle.emit.specs.Put.{Put}
 use Rattle.emit.proofs.Laws.{put-none, put-then, put-is, put-length}
-use Rattle.token.specs.Views.{byteAt}
+use Rattle.area.specs.Layout.{LABELS, UNUSED, WORDS}
+use Rattle.syntax.specs.Tokens.{byteAt}
 use Rattle.token.specs.Known.{Gets}
-use Rattle.token.specs.declared.byte.ByteAt.{ByteAt}
-use Rattle.token.specs.declared.byte.ByteAt.the-variants as B
+use Rattle.syntax.specs.declared.ByteAt.{ByteAt}
+use Rattle.syntax.specs.declared.ByteAt.the-variants as B
 use Rattle.token.proofs.Gets.{gets-first}
-use Rattle.expr.specs.Views.{operandsIs}
-use Rattle.expr.specs.declared.Operands.{Operands}
-use Rattle.instr.specs.Views.{formIs}
-use Rattle.instr.specs.declared.Form as Code
-use Rattle.instr.specs.declared.Form.the-variants as F
-use Rattle.space.specs.Area.{labels}
-use Rattle.space.specs.Kept.{Kept}
-use Rattle.space.proofs.Kept.{kept-same, kept-then, kept-less}
-use Rattle.signatures.specs.Table.{typesIn, Recalled}
-use Rattle.walk.specs.Walk.{onBody, bodyFrom, wholeBody}
+use Rattle.syntax.specs.Plain.{operandsIs}
+use Rattle.syntax.specs.declared.Operands.{Operands}
+use Rattle.syntax.specs.Instructions.{formIs}
+use Rattle.syntax.specs.declared.Form as Code
+use Rattle.syntax.specs.declared.Form.the-variants as F
+use Rattle.name_table.specs.Area.{labels}
+use Rattle.area.specs.Kept.{Kept}
+use Rattle.area.proofs.Kept.{kept-same, kept-then, kept-less}
+use Rattle.type_table.specs.Table.{typesIn, Recalled}
+use Rattle.instr.specs.Bodies.{onBody, bodyFrom, wholeBody}
 use Rattle.scope.specs.Scope.{scopeIn, localsIn, FewLocals, labelsIn}
 use Rattle.scope.specs.declared.Locals.{Locals}
 use Rattle.scope.proofs.Frames.{scope-kept, locals-kept, recalled-left, recalled-right, recalled-scope}
@@ -177,9 +180,9 @@ module _ (Γ : Scope Identifier) (locals blocks : Namespace Identifier) (rec : �
       go (ok ys) = ap ok (sym (append-assoc done (o ∷ []) ys))
       go (refused n r) = refl
 
-  body-not : (n q : ℕ) → instrOp Γ locals blocks rec x ≡ refused n q → (body Γ locals blocks rec (x ∷ xs) >>= after done) ≡ refused n q
+  body-not : (q : Refusal) → instrOp Γ locals blocks rec x ≡ refusedBy q → (body Γ locals blocks rec (x ∷ xs) >>= after done) ≡ refusedBy q
   unfolding body _>>=_
-  body-not n q e = rw e
+  body-not q e = rw e
 
 body-none : (Γ : Scope Identifier) (locals blocks : Namespace Identifier) (rec : ℕ) (done : List Op) → (body Γ locals blocks rec [] >>= after done) ≡ ok done
 unfolding body _>>=_ after
@@ -191,7 +194,7 @@ all-after (ok ys) = refl
 all-after (refused n r) = refl
 
 -- what resolving needs stays where types and type uses stay
-pub resolvable-kept : (s w w′ : List ℕ) (rec k here : ℕ) → Kept 11280 w w′ → Resolvable s w rec k here → Resolvable s w′ rec k here
+pub resolvable-kept : (s w w′ : List ℕ) (rec k here : ℕ) → Kept UNUSED w w′ → Resolvable s w rec k here → Resolvable s w′ rec k here
 resolvable-kept s w w′ rec k here h r = record { recalled = recalled-scope s w w′ (bodyUses rec (bodyFrom (4096 - rec) k s here)) h (r .recalled); whole = r .whole }
 
 -- so much is done, and the rest decides
@@ -202,7 +205,7 @@ pub record Going (s w₀ : List ℕ) (l : Locals) (rec place : ℕ) (old : List 
   pub resolvable : Resolvable s w r k here
   pub few : k ≤ 128
   pub low : r ≤ 4096
-  pub kept : Kept 11920 w₀ w
+  pub kept : Kept LABELS w₀ w
   pub long : length w ≡ length w₀
   pub room : length out ≡ length old
 
@@ -216,13 +219,13 @@ going-begin s w l rec place old at h g r = record {
   resolvable = r;
   few = omega arith;
   low = g;
-  kept = kept-same 11920 w;
+  kept = kept-same LABELS w;
   long = refl;
   room = refl;
 }
 
 module _ {s w₀ : List ℕ} {l : Locals} {rec place : ℕ} {old : List ℕ} {at : ℕ} {w out : List ℕ} {o here r k : ℕ} (v : Going s w₀ l rec place old at w out o here r k) where
-  pub going-area : 16384 ≤ length w₀ → 16384 ≤ length w
+  pub going-area : WORDS ≤ length w₀ → WORDS ≤ length w
   going-area h = omega (arith, v .long)
 
   pub going-work : length w ≡ length w₀
@@ -245,7 +248,7 @@ module _ {s w₀ : List ℕ} {l : Locals} {rec place : ℕ} {old : List ℕ} {at
 
   -- the instruction's answer in the first area
   first : l .count ≤ 128 → (x : Syntax.Instr Identifier) (a : Answer Op) → instrOp (scopeIn s w) (localsIn s w l) (labelsIn s w k) r x ≡ a → instrOp (scopeIn s w₀) (localsIn s w₀ l) (labelsIn s w k) r x ≡ a
-  first h x a e = rw (scope-kept s w₀ w (kept-less 11280 11920 (omega arith) (v .kept)), locals-kept s w₀ w l (v .kept) h) at e
+  first h x a e = rw (scope-kept s w₀ w (kept-less UNUSED LABELS (omega arith) (v .kept)), locals-kept s w₀ w l (v .kept) h) at e
 
   module _ (res : Turn) (w′ new : List ℕ) (t : Turned s w (localsIn s w l) k r (bodyRec k s here) out o res w′ new) (h : r < 4096) (few : FewLocals l) where
     pub going-again : (p next j : ℕ) → res ≡ T.On p next j → Going s w₀ l rec place old at w′ new p next (r + 1) j
@@ -253,7 +256,7 @@ module _ {s w₀ : List ℕ} {l : Locals} {rec place : ℕ} {old : List ℕ} {at
     going-again p next j d =
         let x : Stepped s w (localsIn s w l) k r (bodyRec k s here) out o p next j w′ new = rw d at t in
         let c : bodyFrom (4096 - r) k s here ≡ x .read ∷ bodyFrom (4096 - (r + 1)) j s next = rw (x .depth) (body-cons s k r here (x .read) next h (x .reads)) in
-        let n : Kept 11280 w w′ = kept-less 11280 11920 (omega arith) (x .kept) in
+        let n : Kept UNUSED w w′ = kept-less UNUSED LABELS (omega arith) (x .kept) in
         let m : (body (scopeIn s w₀) (localsIn s w₀ l) (labelsIn s w k) r (bodyFrom (4096 - r) k s here) >>= after (v .done))
         ≡ (body (scopeIn s w₀) (localsIn s w₀ l) (blocksAfter (labelsIn s w k) (x .read)) (r + 1) (bodyFrom (4096 - (r + 1)) j s next) >>= after (v .done ++ (x .op ∷ []))) =
         rw c (body-more (scopeIn s w₀) (localsIn s w₀ l) (labelsIn s w k) r (x .read) (bodyFrom (4096 - (r + 1)) j s next) (v .done) (x .op) (first (few .named) (x .read) (ok (x .op)) (x .is))) in
@@ -280,14 +283,14 @@ module _ {s w₀ : List ℕ} {l : Locals} {rec place : ℕ} {old : List ℕ} {at
         let m : 4096 - r ≡ suc (4096 - (r + 1)) = omega arith in
         rw (x .area, x .bytes) (empty (rw m (x .none (λ i next. i ∷ bodyFrom (4096 - (r + 1)) (openAfter i k) s next))))
 
-    pub going-refused : (n q : ℕ) → res ≡ T.Refused n q → EmitsBody s w₀ l rec place old at (E.Refused n q) w′ new
+    pub going-refused : (q : Refusal) → res ≡ T.Refused q → EmitsBody s w₀ l rec place old at (E.Refused q) w′ new
     unfolding Turned
-    going-refused n q d =
-        let x : Halted s w (localsIn s w l) k r (bodyRec k s here) n q w′ = rw d at t in
+    going-refused q d =
+        let x : Halted s w (localsIn s w l) k r (bodyRec k s here) q w′ = rw d at t in
         let c : bodyFrom (4096 - r) k s here ≡ x .read ∷ bodyFrom (4096 - (r + 1)) (openAfter (x .read) k) s (x .next) = body-cons s k r here (x .read) (x .next) h (x .reads) in
         record {
-          emits = halts (concatMap Binary.instruction) (body (scopeIn s w₀) (localsIn s w₀ l) [] rec (bodyFrom (4096 - rec) 0 s place)) old at new n q
-              (v .same ∙ rw c (body-not (scopeIn s w₀) (localsIn s w₀ l) (labelsIn s w k) r (x .read) (bodyFrom (4096 - (r + 1)) (openAfter (x .read) k) s (x .next)) (v .done) n q (first (few .named) (x .read) (refused n q) (x .says))));
+          emits = halts (concatMap Binary.instruction) (body (scopeIn s w₀) (localsIn s w₀ l) [] rec (bodyFrom (4096 - rec) 0 s place)) old at new q
+              (v .same ∙ rw c (body-not (scopeIn s w₀) (localsIn s w₀ l) (labelsIn s w k) r (x .read) (bodyFrom (4096 - (r + 1)) (openAfter (x .read) k) s (x .next)) (v .done) q (first (few .named) (x .read) (refusedBy q) (x .says))));
           kept = rw (x .area) (v .kept);
         }
 

@@ -7,9 +7,10 @@ use Rattle.definition.specs.Basic.{concatMap}
 use Rattle.definition.specs.Types.{bodyUses}
 use Rattle.definition.specs.Names.{body}
 use Rattle.definition.specs.Binary.{instruction}
-use Rattle.space.specs.Kept.{Kept}
-use Rattle.signatures.specs.Table.{typesIn, Recalled}
-use Rattle.walk.specs.Walk.{bodyFrom, wholeBody}
+use Rattle.area.specs.Layout.{LABELS}
+use Rattle.area.specs.Kept.{Kept}
+use Rattle.type_table.specs.Table.{typesIn, Recalled}
+use Rattle.instr.specs.Bodies.{bodyFrom, wholeBody}
 use Rattle.scope.specs.Scope.{scopeIn, localsIn}
 use Rattle.scope.specs.declared.Locals.{Locals}
 use Rattle.binary.specs.Emits.{Emits}
@@ -23,4 +24,4 @@ pub record Resolvable (s w : List ℕ) (rec k here : ℕ) : Type 0 where
 -- the body is what the definition makes of it, and only labels were written into the work area
 pub record EmitsBody (s w : List ℕ) (l : Locals) (rec place : ℕ) (old : List ℕ) (at : ℕ) (r : Emitted) (w′ new : List ℕ) : Type 0 where
   pub emits : Emits (concatMap instruction) (body (scopeIn s w) (localsIn s w l) [] rec (bodyFrom (4096 - rec) 0 s place)) old at r new
-  pub kept : Kept 11920 w w′
+  pub kept : Kept LABELS w w′

@@ -1,33 +1,35 @@
 // Instructions that open or close a block or have a type use.
 use binary::Emitted;
+use name_table::Resolved;
 use plain::Turn;
 use scope::BlockAt;
 use scope::Closed;
 use scope::TypeAt;
-use space::Resolved;
-use token::Index;
-use token::IndexAt;
-use token::Part;
-use token::PartAt;
-use token::Space;
-use typeuse::TypeUse;
-use typeuse::UseAt;
+use syntax::Index;
+use syntax::IndexAt;
+use syntax::Part;
+use syntax::PartAt;
+use syntax::Space;
+use syntax::TypeUse;
+use syntax::UseAt;
 ghost use mathlib.Core.List.{[]};
 ghost use mathlib.Core.Option.{none};
 ghost use Prim.Native.Nat.{_≤_, _<_};
 ghost use lib.ListN.{length};
+ghost use Rattle.area.specs.Layout.{WORDS};
+ghost use Rattle.area.specs.Lent.{Lent};
 ghost use Rattle.definition.specs.Syntax.{opens, indirect, instr};
 ghost use Rattle.definition.specs.Reader.{got};
 ghost use Rattle.definition.specs.Instructions as Instructions;
 ghost use Rattle.definition.specs.Types as Types;
 ghost use Rattle.definition.specs.Names as Names;
 ghost use Rattle.definition.specs.Binary as Binary;
-ghost use Rattle.token.specs.Views.{idOf, indexOf};
+ghost use Rattle.syntax.specs.Tokens.{idOf, indexOf};
 ghost use Rattle.token.specs.Known.{Gets};
-ghost use Rattle.typeuse.specs.Views.{useOf};
-ghost use Rattle.signatures.specs.Table.{typesIn, Recalled};
+ghost use Rattle.syntax.specs.TypeUses.{useOf};
+ghost use Rattle.type_table.specs.Table.{typesIn, Recalled};
 ghost use Rattle.scope.specs.Scope.{scopeIn};
-ghost use Rattle.uses.specs.Uses.{blockUses};
+ghost use Rattle.type_table.specs.Uses.{blockUses};
 ghost use Rattle.binary.specs.Emits.{Emits};
 ghost use Rattle.plain.specs.Turns.{recordOf, readUses, AnyLocals};
 ghost use Rattle.code.specs.Code.{closingOp};
@@ -42,7 +44,7 @@ fn emit_opens(
     t: TypeUse,
     rec: u32,
 ) -> Emitted
-    requires { ⌜ (16384 ≤ length (now work)) × Recalled (now work) (typesIn (now s) (now work)) (Types.usedAt rec (blockUses (useOf (now s) t))) ⌝ }
+    requires { ⌜ (WORDS ≤ length (now work)) × Recalled (now work) (typesIn (now s) (now work)) (Types.usedAt rec (blockUses (useOf (now s) t))) ⌝ }
     ensures { λ r. ⌜ Emits Binary.instruction (Names.instrOp (scopeIn (now (s .entry)) (now (work .entry))) [] [] rec (opens opcode none (useOf (now (s .entry)) t))) (now (out .entry)) at r (now (out .exit)) ⌝ }
 {
     match scope::block_type(s, work, t, rec) {
@@ -50,7 +52,7 @@ fn emit_opens(
             let a = emit::put(out, at, opcode);
             Emitted::To(binary::put_block_type(out, a, b))
         }
-        BlockAt::Refused(n, q) => Emitted::Refused(n, q),
+        BlockAt::Refused(q) => Emitted::Refused(q),
     }
 }
 
@@ -67,7 +69,7 @@ fn opened(
     t: TypeUse,
     rec: u32,
 ) -> Turn
-    requires { ⌜ (length (now s) ≤ 65536) × (16384 ≤ length (now work)) × (k < 128) × Recalled (now work) (typesIn (now s) (now work)) (Types.usedAt rec (blockUses (useOf (now s) t))) ⌝ }
+    requires { ⌜ Lent (now s) (now work) × (k < 128) × Recalled (now work) (typesIn (now s) (now work)) (Types.usedAt rec (blockUses (useOf (now s) t))) ⌝ }
     ensures { λ r. ⌜ AnyLocals (now (s .entry)) (now (work .entry)) k rec (got (instr (opens opcode (idOf (now (s .entry)) label) (useOf (now (s .entry)) t))) next) (now (out .entry)) at r (now (work .exit)) (now (out .exit)) ⌝ }
 {
     match emit_opens(s, work, out, at, opcode, t, rec) {
@@ -75,7 +77,7 @@ fn opened(
             frames::open_block(s, work, k, label);
             Turn::On(o, next, k + 1)
         }
-        Emitted::Refused(n, q) => Turn::Refused(n, q),
+        Emitted::Refused(q) => Turn::Refused(q),
     }
 }
 
@@ -89,7 +91,7 @@ pub fn opens_record(
     opcode: u8,
     rec: u32,
 ) -> Turn
-    requires { ⌜ (length (now s) ≤ 65536) × (16384 ≤ length (now work)) × Recalled (now work) (typesIn (now s) (now work)) (readUses rec (Instructions.instruction k opcode Instructions.opening (now s) here)) × Gets (Instructions.instruction k opcode Instructions.opening (now s) here) ⌝ }
+    requires { ⌜ Lent (now s) (now work) × Recalled (now work) (typesIn (now s) (now work)) (readUses rec (Instructions.instruction k opcode Instructions.opening (now s) here)) × Gets (Instructions.instruction k opcode Instructions.opening (now s) here) ⌝ }
     ensures { λ r. ⌜ AnyLocals (now (s .entry)) (now (work .entry)) k rec (recordOf (Instructions.instruction k opcode Instructions.opening (now (s .entry)) here)) (now (out .entry)) at r (now (work .exit)) (now (out .exit)) ⌝ }
 {
     if 128 <= k {
@@ -115,12 +117,12 @@ fn emit_closing(
     label: Part,
     rec: u32,
 ) -> Emitted
-    requires { ⌜ (16384 ≤ length (now work)) × (k ≤ 128) ⌝ }
+    requires { ⌜ (WORDS ≤ length (now work)) × (k ≤ 128) ⌝ }
     ensures { λ r. ⌜ Emits Binary.instruction (closingOp (now (s .entry)) (now (work .entry)) k rec opcode (idOf (now (s .entry)) label)) (now (out .entry)) at r (now (out .exit)) ⌝ }
 {
     match scope::closes(s, work, k, label, rec) {
         Closed::Yes => Emitted::To(emit::put(out, at, opcode)),
-        Closed::Refused(n, q) => Emitted::Refused(n, q),
+        Closed::Refused(q) => Emitted::Refused(q),
     }
 }
 
@@ -133,7 +135,7 @@ pub fn else_record(
     k: u32,
     rec: u32,
 ) -> Turn
-    requires { ⌜ (16384 ≤ length (now work)) × (k ≤ 128) × Gets (Instructions.instruction k 0x05 Instructions.elsing (now s) here) ⌝ }
+    requires { ⌜ (WORDS ≤ length (now work)) × (k ≤ 128) × Gets (Instructions.instruction k 0x05 Instructions.elsing (now s) here) ⌝ }
     ensures { λ r. ⌜ AnyLocals (now (s .entry)) (now (work .entry)) k rec (recordOf (Instructions.instruction k 0x05 Instructions.elsing (now (s .entry)) here)) (now (out .entry)) at r (now (work .entry)) (now (out .exit)) ⌝ }
 {
     if k < 1 {
@@ -157,7 +159,7 @@ pub fn end_record(
     k: u32,
     rec: u32,
 ) -> Turn
-    requires { ⌜ (16384 ≤ length (now work)) × (k ≤ 128) × Gets (Instructions.instruction k 0x0B Instructions.ending (now s) here) ⌝ }
+    requires { ⌜ (WORDS ≤ length (now work)) × (k ≤ 128) × Gets (Instructions.instruction k 0x0B Instructions.ending (now s) here) ⌝ }
     ensures { λ r. ⌜ AnyLocals (now (s .entry)) (now (work .entry)) k rec (recordOf (Instructions.instruction k 0x0B Instructions.ending (now (s .entry)) here)) (now (out .entry)) at r (now (work .entry)) (now (out .exit)) ⌝ }
 {
     if k < 1 {
@@ -182,7 +184,7 @@ fn emit_indirect(
     t: TypeUse,
     rec: u32,
 ) -> Emitted
-    requires { ⌜ (16384 ≤ length (now work)) × Recalled (now work) (typesIn (now s) (now work)) (Types.usedAt rec (Types.useOf (useOf (now s) t))) ⌝ }
+    requires { ⌜ (WORDS ≤ length (now work)) × Recalled (now work) (typesIn (now s) (now work)) (Types.usedAt rec (Types.useOf (useOf (now s) t))) ⌝ }
     ensures { λ r. ⌜ Emits Binary.instruction (Names.instrOp (scopeIn (now (s .entry)) (now (work .entry))) [] [] rec (indirect (indexOf (now (s .entry)) x) (useOf (now (s .entry)) t))) (now (out .entry)) at r (now (out .exit)) ⌝ }
 {
     match scope::item_no(s, work, Space::Tables, x, rec) {
@@ -191,9 +193,9 @@ fn emit_indirect(
                 let a = emit::put(out, at, 0x11);
                 Emitted::To(binary::put_indirect(out, a, n, table))
             }
-            TypeAt::Refused(n, q) => Emitted::Refused(n, q),
+            TypeAt::Refused(q) => Emitted::Refused(q),
         },
-        Resolved::Refused(n, q) => Emitted::Refused(n, q),
+        Resolved::Refused(q) => Emitted::Refused(q),
     }
 }
 
@@ -206,7 +208,7 @@ pub fn indirect_record(
     k: u32,
     rec: u32,
 ) -> Turn
-    requires { ⌜ (16384 ≤ length (now work)) × (k ≤ 128) × Recalled (now work) (typesIn (now s) (now work)) (readUses rec (Instructions.instruction k 0x11 Instructions.calling (now s) here)) ⌝ }
+    requires { ⌜ (WORDS ≤ length (now work)) × (k ≤ 128) × Recalled (now work) (typesIn (now s) (now work)) (readUses rec (Instructions.instruction k 0x11 Instructions.calling (now s) here)) ⌝ }
     ensures { λ r. ⌜ AnyLocals (now (s .entry)) (now (work .entry)) k rec (recordOf (Instructions.instruction k 0x11 Instructions.calling (now (s .entry)) here)) (now (out .entry)) at r (now (work .entry)) (now (out .exit)) ⌝ }
 {
     match token::read_optional(s, here) {

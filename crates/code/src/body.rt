@@ -1,11 +1,11 @@
 // A body: its instructions up to its end.
 use binary::Emitted;
-use instr::Form;
 use plain::Turn;
 use scope::Locals;
-use token::ByteAt;
+use syntax::ByteAt;
+use syntax::Form;
 ghost use Prim.Native.Nat.{_≤_, _<_};
-ghost use lib.ListN.{length};
+ghost use Rattle.area.specs.Lent.{Lent};
 ghost use Rattle.definition.specs.Instructions as Instructions;
 ghost use Rattle.scope.specs.Scope.{localsIn, FewLocals};
 ghost use Rattle.plain.specs.Turns.{Turned};
@@ -22,7 +22,7 @@ fn one_record(
     l: Locals,
     rec: u32,
 ) -> Turn
-    requires { ⌜ (length (now s) ≤ 65536) × (16384 ≤ length (now work)) × FewLocals l × (k ≤ 128) × (rec < 4096) × Resolvable (now s) (now work) rec k here ⌝ }
+    requires { ⌜ Lent (now s) (now work) × FewLocals l × (k ≤ 128) × (rec < 4096) × Resolvable (now s) (now work) rec k here ⌝ }
     ensures { λ r. ⌜ Turned (now (s .entry)) (now (work .entry)) (localsIn (now (s .entry)) (now (work .entry)) l) k rec (Instructions.bodyRec k (now (s .entry)) here) (now (out .entry)) at r (now (work .exit)) (now (out .exit)) ⌝ }
 {
     match token::read_byte(s, here) {
@@ -48,7 +48,7 @@ pub fn emit_body(
     rec: u32,
     l: Locals,
 ) -> Emitted
-    requires { ⌜ (length (now s) ≤ 65536) × (16384 ≤ length (now work)) × FewLocals l × (rec ≤ 4096) × Resolvable (now s) (now work) rec 0 place ⌝ }
+    requires { ⌜ Lent (now s) (now work) × FewLocals l × (rec ≤ 4096) × Resolvable (now s) (now work) rec 0 place ⌝ }
     ensures { λ r. ⌜ EmitsBody (now (s .entry)) (now (work .entry)) l rec place (now (out .entry)) at r (now (work .exit)) (now (out .exit)) ⌝ }
 {
     let mut o = at;
@@ -66,8 +66,8 @@ pub fn emit_body(
             Turn::Done => {
                 return Emitted::To(o);
             }
-            Turn::Refused(n, q) => {
-                return Emitted::Refused(n, q);
+            Turn::Refused(q) => {
+                return Emitted::Refused(q);
             }
         }
     }

@@ -1,7 +1,7 @@
 // What the programs share: what they lend, text and numbers to standard output, and a list of streams from standard input.
-use leb::U32;
 use libc::STDIN_FILENO;
 use libc::STDOUT_FILENO;
+use syntax::U32;
 ghost use mathlib.Core.Path.{_≡_};
 ghost use lib.ListN.{length};
 

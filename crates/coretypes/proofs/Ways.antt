@@ -5,21 +5,21 @@ use mathlib.Core.Option.{Option}
 use Prim.Native.Nat.{ℕ}
 use Rattle.definition.specs.Syntax as Syntax
 use Rattle.definition.specs.Reader.{Step, fault, onward}
-use Rattle.coretypes.specs.Views.{boolAt, maximumOf, maximumAt, limitsIs, limitsAt, tableTypeIs, tableTypeAt, globalTypeIs, globalTypeAt}
-use Rattle.coretypes.specs.declared.BoolAt.{BoolAt}
-use Rattle.coretypes.specs.declared.BoolAt.the-variants as B
-use Rattle.coretypes.specs.declared.Maximum.{Maximum}
-use Rattle.coretypes.specs.declared.MaximumAt.{MaximumAt}
-use Rattle.coretypes.specs.declared.MaximumAt.the-variants as MA
-use Rattle.coretypes.specs.declared.Limits.{Limits}
-use Rattle.coretypes.specs.declared.LimitsAt.{LimitsAt}
-use Rattle.coretypes.specs.declared.LimitsAt.the-variants as LA
-use Rattle.coretypes.specs.declared.TableType.{TableType}
-use Rattle.coretypes.specs.declared.TableTypeAt.{TableTypeAt}
-use Rattle.coretypes.specs.declared.TableTypeAt.the-variants as TA
-use Rattle.coretypes.specs.declared.GlobalType.{GlobalType}
-use Rattle.coretypes.specs.declared.GlobalTypeAt.{GlobalTypeAt}
-use Rattle.coretypes.specs.declared.GlobalTypeAt.the-variants as GA
+use Rattle.syntax.specs.CoreTypes.{boolAt, maximumOf, maximumAt, limitsIs, limitsAt, tableTypeIs, tableTypeAt, globalTypeIs, globalTypeAt}
+use Rattle.syntax.specs.declared.BoolAt.{BoolAt}
+use Rattle.syntax.specs.declared.BoolAt.the-variants as B
+use Rattle.syntax.specs.declared.Maximum.{Maximum}
+use Rattle.syntax.specs.declared.MaximumAt.{MaximumAt}
+use Rattle.syntax.specs.declared.MaximumAt.the-variants as MA
+use Rattle.syntax.specs.declared.Limits.{Limits}
+use Rattle.syntax.specs.declared.LimitsAt.{LimitsAt}
+use Rattle.syntax.specs.declared.LimitsAt.the-variants as LA
+use Rattle.syntax.specs.declared.TableType.{TableType}
+use Rattle.syntax.specs.declared.TableTypeAt.{TableTypeAt}
+use Rattle.syntax.specs.declared.TableTypeAt.the-variants as TA
+use Rattle.syntax.specs.declared.GlobalType.{GlobalType}
+use Rattle.syntax.specs.declared.GlobalTypeAt.{GlobalTypeAt}
+use Rattle.syntax.specs.declared.GlobalTypeAt.the-variants as GA
 
 module _ {C : Type 0} (x : Step C) where
   pub bool-got : (k : Bool → ℕ → Step C) (m : Step Bool) (r : BoolAt) (a : Bool) (n : ℕ) → m ≡ boolAt r → r ≡ B.Got a n → k a n ≡ x → onward k m ≡ x

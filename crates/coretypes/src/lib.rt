@@ -1,12 +1,21 @@
 // Value types, limits, table and global types, as the stream has them.
-use leb::U32;
-use leb::U64;
-use token::ByteAt;
+use syntax::BoolAt;
+use syntax::ByteAt;
+use syntax::GlobalType;
+use syntax::GlobalTypeAt;
+use syntax::Limits;
+use syntax::LimitsAt;
+use syntax::Maximum;
+use syntax::MaximumAt;
+use syntax::TableType;
+use syntax::TableTypeAt;
+use syntax::U32;
+use syntax::U64;
 ghost use mathlib.Core.Path.{_≡_};
 ghost use Rattle.definition.specs.Token as Token;
-ghost use Rattle.leb.specs.Views.{u64At};
-ghost use Rattle.token.specs.Views.{byteAt};
-ghost use Rattle.coretypes.specs.Views.{boolAt, maximumAt, limitsAt, tableTypeAt, globalTypeAt};
+ghost use Rattle.syntax.specs.Numbers.{u64At};
+ghost use Rattle.syntax.specs.Tokens.{byteAt};
+ghost use Rattle.syntax.specs.CoreTypes.{boolAt, maximumAt, limitsAt, tableTypeAt, globalTypeAt};
 
 // 70 funcref or 6F externref.
 fn is_ref(b: u8) -> bool
@@ -77,11 +86,6 @@ fn flag(s: &[u8], at: usize) -> ByteAt
     }
 }
 
-pub enum BoolAt {
-    Got(bool, usize),
-    Fault(u8),
-}
-
 // The byte 0, or 4 for 64-bit.
 pub fn flag64(s: &[u8], at: usize) -> BoolAt
     ensures { λ r. ⌜ Token.flag64 (now (s .entry)) at ≡ boolAt r ⌝ }
@@ -119,16 +123,6 @@ fn bound(s: &[u8], at: usize, is64: bool) -> U64
     }
 }
 
-pub enum Maximum {
-    Unbounded,
-    Is(u64),
-}
-
-pub enum MaximumAt {
-    Got(Maximum, usize),
-    Fault(u8),
-}
-
 fn maximum_at(s: &[u8], at: usize, has: bool, is64: bool) -> MaximumAt
     ensures { λ r. ⌜ Token.maximum has is64 (now (s .entry)) at ≡ maximumAt r ⌝ }
 {
@@ -139,17 +133,6 @@ fn maximum_at(s: &[u8], at: usize, has: bool, is64: bool) -> MaximumAt
         };
     }
     MaximumAt::Got(Maximum::Unbounded, at)
-}
-
-pub struct Limits {
-    pub is64: bool,
-    pub minimum: u64,
-    pub maximum: Maximum,
-}
-
-pub enum LimitsAt {
-    Got(Limits, usize),
-    Fault(u8),
 }
 
 // Limits, once their first byte is known.
@@ -195,16 +178,6 @@ pub fn read_limits(s: &[u8], at: usize) -> LimitsAt
     }
 }
 
-pub struct TableType {
-    pub element: u8,
-    pub limits: Limits,
-}
-
-pub enum TableTypeAt {
-    Got(TableType, usize),
-    Fault(u8),
-}
-
 pub fn read_table_type(s: &[u8], at: usize) -> TableTypeAt
     ensures { λ r. ⌜ Token.tableType (now (s .entry)) at ≡ tableTypeAt r ⌝ }
 {
@@ -215,16 +188,6 @@ pub fn read_table_type(s: &[u8], at: usize) -> TableTypeAt
         },
         ByteAt::Fault(e) => TableTypeAt::Fault(e),
     }
-}
-
-pub struct GlobalType {
-    pub value: u8,
-    pub mutable: u8,
-}
-
-pub enum GlobalTypeAt {
-    Got(GlobalType, usize),
-    Fault(u8),
 }
 
 pub fn read_global_type(s: &[u8], at: usize) -> GlobalTypeAt

@@ -15,17 +15,17 @@ use Rattle.definition.specs.Syntax.{Bytes, Identifier, Space, funcs, tables, me
 use Rattle.definition.specs.Spaces.{externSpace, ownSpace, sourceSpace, segments, brings, count}
 use Rattle.definition.specs.Read as Read
 use Rattle.definition.specs.Read.{room, seenAfter, itemsAfter, startedAfter, isStart}
-use Rattle.sources.specs.Views.{roomOf, externIs, ownOf, sourceOf, noneSeen}
-use Rattle.sources.specs.declared.seen.Seen.{Seen}
-use Rattle.sources.specs.declared.import.Extern.{Extern}
-use Rattle.sources.specs.declared.import.Extern.the-variants as E
-use Rattle.sources.specs.declared.source.Own.{Own}
-use Rattle.sources.specs.declared.source.Own.the-variants as O
-use Rattle.sources.specs.declared.source.Source.{Source}
-use Rattle.sources.specs.declared.source.Source.the-variants as S
-use Rattle.fields.specs.Views.{fieldOf}
-use Rattle.fields.specs.declared.field.Field.{Field}
-use Rattle.fields.specs.declared.field.Field.the-variants as F
+use Rattle.syntax.specs.Items.{roomOf, externIs, ownOf, sourceOf, noneSeen}
+use Rattle.syntax.specs.declared.Seen.{Seen}
+use Rattle.syntax.specs.declared.Extern.{Extern}
+use Rattle.syntax.specs.declared.Extern.the-variants as E
+use Rattle.syntax.specs.declared.Own.{Own}
+use Rattle.syntax.specs.declared.Own.the-variants as O
+use Rattle.syntax.specs.declared.Source.{Source}
+use Rattle.syntax.specs.declared.Source.the-variants as S
+use Rattle.syntax.specs.Fields.{fieldOf}
+use Rattle.syntax.specs.declared.Field.{Field}
+use Rattle.syntax.specs.declared.Field.the-variants as F
 use Rattle.counting.specs.Counting.{countWords}
 use Rattle.counting.specs.Counting.{up, oneMore, externBrings, ownBrings, sourceBrings, fieldSeen}
 

@@ -4,11 +4,11 @@ use Prim.Native.Nat.{ℕ}
 use lib.ListN.{getD, set}
 use Rattle.definition.specs.Syntax as Syntax
 use Rattle.definition.specs.Syntax.{code}
-use Rattle.token.specs.Views.{spaceOf}
-use Rattle.token.specs.declared.index.Space.{Space}
-use Rattle.sources.specs.declared.seen.Seen.{Seen}
-use Rattle.sources.specs.declared.source.Source.{Source}
-use Rattle.fields.specs.declared.field.Field.{Field}
+use Rattle.syntax.specs.Tokens.{spaceOf}
+use Rattle.syntax.specs.declared.Space.{Space}
+use Rattle.syntax.specs.declared.Seen.{Seen}
+use Rattle.syntax.specs.declared.Source.{Source}
+use Rattle.syntax.specs.declared.Field.{Field}
 use Rattle.counting.specs.Counting.{up, oneMore, sourceSpaceOf, sourceBrings, fieldSeen}
 
 pub more-is : (seen : Seen) (k : Space) (i v : ℕ) → i ≡ code (spaceOf k) → v ≡ up (getD (seen .counts) i 0)

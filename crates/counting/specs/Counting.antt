@@ -8,19 +8,19 @@ use Rattle.definition.specs.Basic.{if_then_else_}
 use Rattle.definition.specs.Syntax.{Space, funcs, tables, mems, globals, types, elems, datas, code}
 use Rattle.definition.specs.Spaces.{count}
 use Rattle.definition.specs.Read as Read
-use Rattle.token.specs.Views.{spaceOf}
-use Rattle.token.specs.declared.index.Space as Kind
-use Rattle.token.specs.declared.index.Space.the-variants as K
-use Rattle.sources.specs.Views.{countOf}
-use Rattle.sources.specs.declared.seen.Seen.{Seen}
-use Rattle.sources.specs.declared.import.Extern.{Extern}
-use Rattle.sources.specs.declared.import.Extern.the-variants as E
-use Rattle.sources.specs.declared.source.Own.{Own}
-use Rattle.sources.specs.declared.source.Own.the-variants as O
-use Rattle.sources.specs.declared.source.Source.{Source}
-use Rattle.sources.specs.declared.source.Source.the-variants as S
-use Rattle.fields.specs.declared.field.Field.{Field}
-use Rattle.fields.specs.declared.field.Field.the-variants as F
+use Rattle.syntax.specs.Tokens.{spaceOf}
+use Rattle.syntax.specs.declared.Space as Kind
+use Rattle.syntax.specs.declared.Space.the-variants as K
+use Rattle.syntax.specs.Items.{countOf}
+use Rattle.syntax.specs.declared.Seen.{Seen}
+use Rattle.syntax.specs.declared.Extern.{Extern}
+use Rattle.syntax.specs.declared.Extern.the-variants as E
+use Rattle.syntax.specs.declared.Own.{Own}
+use Rattle.syntax.specs.declared.Own.the-variants as O
+use Rattle.syntax.specs.declared.Source.{Source}
+use Rattle.syntax.specs.declared.Source.the-variants as S
+use Rattle.syntax.specs.declared.Field.{Field}
+use Rattle.syntax.specs.declared.Field.the-variants as F
 
 -- one more, 256 at most
 unfoldable pub up : ℕ → ℕ

@@ -1,12 +1,12 @@
 // How many items the records have brought.
-use fields::Field;
-use sources::Extern;
-use sources::Own;
-use sources::Seen;
-use sources::Source;
-use token::Space;
+use syntax::Extern;
+use syntax::Field;
+use syntax::Own;
+use syntax::Seen;
+use syntax::Source;
+use syntax::Space;
 ghost use mathlib.Core.Path.{_≡_};
-ghost use Rattle.token.specs.Views.{spaceOf};
+ghost use Rattle.syntax.specs.Tokens.{spaceOf};
 ghost use Rattle.counting.specs.Counting.{up, oneMore, externSpaceOf, ownSpaceOf, sourceSpaceOf, sourceBrings, startSeen, fieldSeen};
 
 // One more, 256 at most: whatever passes that is refused before it is counted.
@@ -22,7 +22,7 @@ fn one_up(n: u32) -> u32
 pub fn one_more(seen: Seen, k: Space) -> Seen
     ensures { λ r. ⌜ r ≡ oneMore seen (spaceOf k) ⌝ }
 {
-    let i = sources::space_code(k);
+    let i = syntax::space_code(k);
     let mut counts = seen.counts;
     counts[i] = one_up(counts[i]);
     Seen {

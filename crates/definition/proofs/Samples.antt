@@ -8,6 +8,7 @@ use mathlib.Core.Option.{Option, none, some}
 use lib.Dec.{eqb}
 use lib.IntN.{ℤ, pos, negsuc}
 use lib.ListN.{length}
+use Rattle.definition.specs.Assemble.{leastWork}
 use Rattle.definition.specs.Basic
 use Rattle.definition.specs.Basic.{Answer, ok, refused, sameBytes, concatMap}
 use Rattle.definition.specs.Syntax.{Bytes, Identifier, Index, number, named, FuncType}
@@ -54,10 +55,10 @@ says a n r bs = eqb (a .number) n && eqb (a .rec) r && sameBytes (a .bytes) bs
 
 -- with a work area just long enough and the program's 65,536 bytes of output
 abbrev assembled : Bytes → Assemble.Said
-assembled stream = Assemble.assemble stream 16384 65536
+assembled stream = Assemble.assemble stream leastWork 65536
 
 abbrev assembledNames : Bytes → Assemble.Said
-assembledNames stream = Assemble.assembleNames stream 16384 65536
+assembledNames stream = Assemble.assembleNames stream leastWork 65536
 
 abbrev emptyScope : Names.Scope Identifier
 emptyScope = record { eq = sameBytes; names = λ k. []; allTypes = [] }

@@ -74,11 +74,18 @@ unfoldable pub sayRead : Maker → ℕ → Answer (List (Rec Identifier)) → Sa
 sayRead make room (ok rs) = say (length rs) (make room rs)
 sayRead make room (refused n r) = refusal n r
 
+-- how many bytes a stream has at most, and how many words a work area has at least
+abbrev pub longestStream : ℕ
+longestStream = 65536
+
+abbrev pub leastWork : ℕ
+leastWork = 16384
+
 -- `work` words and `room` bytes are lent
 unfoldable pub assembleBy : Maker → Bytes → ℕ → ℕ → Said
 assembleBy make stream work room =
-    if ltb 65536 (length stream) then refusal 1 0 else
-    if ltb work 16384 then refusal 10 0 else
+    if ltb longestStream (length stream) then refusal 1 0 else
+    if ltb work leastWork then refusal 10 0 else
     sayRead make room (read stream)
 
 unfoldable pub assemble : Bytes → ℕ → ℕ → Said

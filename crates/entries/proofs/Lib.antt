@@ -1,3 +1,2 @@
-pub mod Exports
-pub mod Imports
-pub mod ValTypes
+pub mod Pieces
+pub mod Arms

@@ -1,15 +1,157 @@
-// The entries of the sections: each emitter resolves what it has to, and then puts its bytes. On an empty part it only
-// checks, and measures.
-pub mod export;
-pub mod global;
-pub mod import;
-pub mod types;
+// The bytes of an entry: each is resolved, put, and counted.
+use binary::Emitted;
+use import_export::Ends;
+use scope::TypeAt;
+use syntax::Entry;
+use syntax::List;
+use syntax::Part;
+use syntax::Refusal;
+use syntax::TypeUse;
+ghost use mathlib.Core.Path.{_≡_};
+ghost use Prim.Native.Nat.{_≤_};
+ghost use lib.ListN.{length};
+ghost use Rattle.area.specs.Layout.{WORDS};
+ghost use Rattle.definition.specs.Token as Token;
+ghost use Rattle.definition.specs.Types as Types;
+ghost use Rattle.definition.specs.Deinline as Deinline;
+ghost use Rattle.definition.specs.Names as Names;
+ghost use Rattle.definition.specs.Binary as Binary;
+ghost use Rattle.emit.specs.Put.{Put};
+ghost use Rattle.syntax.specs.Tokens.{partOf};
+ghost use Rattle.syntax.specs.TypeUses.{listOf, useOf};
+ghost use Rattle.type_table.specs.Table.{typesIn, Recalled};
+ghost use Rattle.scope.specs.Scope.{scopeIn};
+ghost use Rattle.binary.specs.Emits.{Emits};
+ghost use Rattle.deinline.specs.Entry.{typeBytes, usesOf};
+ghost use Rattle.entries.specs.Listed.{oneEnd, allEnds, Answers, otherAnswer};
 
-pub use export::Ends;
-pub use export::emit_export;
-pub use export::emit_start;
-pub use export::put_exports;
-pub use global::emit_global;
-pub use import::emit_import;
-pub use types::put_func_type;
-pub use types::put_signature;
+// The place after some entries and how many there are, or a refusal's number and record.
+pub enum EndsAt {
+    Ends(usize, u64),
+    Refused(Refusal),
+}
+
+// One entry, where there is one.
+pub fn one_end(r: Emitted) -> EndsAt
+    ensures { λ q. ⌜ q ≡ oneEnd r ⌝ }
+{
+    match r {
+        Emitted::To(o) => EndsAt::Ends(o, 1),
+        Emitted::Refused(q) => EndsAt::Refused(q),
+    }
+}
+
+fn all_ends(r: Ends) -> EndsAt
+    ensures { λ q. ⌜ q ≡ allEnds r ⌝ }
+{
+    EndsAt::Ends(r.to, r.count)
+}
+
+// A function's type.
+fn emit_type_no(out: &mut [u8], at: usize, s: &[u8], work: &[u32], t: TypeUse, rec: u32) -> Emitted
+    requires { ⌜ (WORDS ≤ length (now work)) × Recalled (now work) (typesIn (now s) (now work)) (Types.usedAt rec (Types.useOf (useOf (now s) t))) ⌝ }
+    ensures { λ r. ⌜ Emits typeBytes (Names.typeNo (scopeIn (now (s .entry)) (now (work .entry))) rec (useOf (now (s .entry)) t)) (now (out .entry)) at r (now (out .exit)) ⌝ }
+{
+    match scope::type_no(s, work, t, rec) {
+        TypeAt::To(n) => Emitted::To(binary::put_type_no(out, at, n)),
+        TypeAt::Refused(q) => Emitted::Refused(q),
+    }
+}
+
+// The table that holds just the functions of its segment.
+fn put_inline_table(out: &mut [u8], at: usize, s: &[u8], is64: bool, funcs: List) -> usize
+    ensures { λ r. ⌜ Put (now (out .entry)) at (Binary.tableType (record { element = 0x70; limits = Deinline.exactly is64 (length (listOf Token.present (now (s .entry)) funcs)) })) r (now (out .exit)) ⌝ }
+{
+    binary_types::put_inline_table(out, at, is64, operands::count_indices(s, funcs))
+}
+
+// How many bytes an inline memory has.
+fn count_bytes(s: &[u8], bytes: Part) -> u32
+    ensures { λ r. ⌜ r ≡ length (partOf (now (s .entry)) bytes) ⌝ }
+{
+    token::bytes_of(s, bytes).len() as u32
+}
+
+// The memory that holds just the bytes of its segment.
+fn put_inline_mem(out: &mut [u8], at: usize, s: &[u8], is64: bool, bytes: Part) -> usize
+    ensures { λ r. ⌜ Put (now (out .entry)) at (Binary.limits (Deinline.exactly is64 (Deinline.pages (length (partOf (now (s .entry)) bytes))))) r (now (out .exit)) ⌝ }
+{
+    binary_types::put_exactly(out, at, is64, binary_types::pages(count_bytes(s, bytes)))
+}
+
+// An entry that needs no place of its own in the work area: any but a function's code.
+pub fn emit_other(out: &mut [u8], at: usize, s: &[u8], work: &[u32], e: Entry, rec: u32) -> EndsAt
+    requires { ⌜ (WORDS ≤ length (now work)) × Recalled (now work) (typesIn (now s) (now work)) (usesOf (now s) rec e) ⌝ }
+    ensures { λ r. ⌜ Answers (otherAnswer (scopeIn (now (s .entry)) (now (work .entry))) (now (s .entry)) rec e) (now (out .entry)) at r (now (out .exit)) ⌝ }
+{
+    match e {
+        Entry::Nothing => EndsAt::Ends(at, 0),
+        Entry::Type(params, results) => EndsAt::Ends(
+            import_export::put_func_type(out, at, s, params, results),
+            1,
+        ),
+        Entry::Import(name, what) => one_end(import_export::emit_import(
+            out,
+            at,
+            s,
+            work,
+            name,
+            what,
+            rec,
+        )),
+        Entry::Func(t) => one_end(emit_type_no(out, at, s, work, t, rec)),
+        Entry::Table(t) => EndsAt::Ends(binary_types::put_table_type(out, at, t), 1),
+        Entry::InlineTable(is64, funcs) => EndsAt::Ends(
+            put_inline_table(out, at, s, is64, funcs),
+            1,
+        ),
+        Entry::Mem(l) => EndsAt::Ends(binary_types::put_limits(out, at, l), 1),
+        Entry::InlineMem(is64, bytes) => EndsAt::Ends(put_inline_mem(out, at, s, is64, bytes), 1),
+        Entry::Global(t, c) => one_end(import_export::emit_global(out, at, s, work, t, c, rec)),
+        Entry::Export(name, k, x) => one_end(import_export::emit_export(
+            out,
+            at,
+            s,
+            work,
+            name,
+            k,
+            x,
+            rec,
+        )),
+        Entry::Exports(es, k, n) => all_ends(import_export::put_exports(out, at, s, es, k, n)),
+        Entry::Start(x) => one_end(import_export::emit_start(out, at, s, work, x, rec)),
+        Entry::Elem(mode, funcs) => one_end(segments::emit_elem(
+            out,
+            at,
+            s,
+            work,
+            mode,
+            funcs,
+            rec,
+        )),
+        Entry::InlineElem(is64, n, funcs) => one_end(segments::emit_inline_elem(
+            out,
+            at,
+            s,
+            work,
+            is64,
+            n,
+            funcs,
+            rec,
+        )),
+        Entry::Code(_, _, _) => EndsAt::Ends(at, 0),
+        Entry::Data(mode, bytes) => one_end(segments::emit_data(
+            out,
+            at,
+            s,
+            work,
+            mode,
+            bytes,
+            rec,
+        )),
+        Entry::InlineData(is64, n, bytes) => EndsAt::Ends(
+            segments::put_inline_data(out, at, s, is64, n, bytes),
+            1,
+        ),
+    }
+}

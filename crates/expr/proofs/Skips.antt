@@ -7,21 +7,21 @@ use Rattle.definition.specs.Token.{u32, u64, counted, refType, present, optiona
 use Rattle.definition.specs.Instructions as Instructions
 use Rattle.definition.specs.Instructions.{plainOf, alignment, bare, labelidx, labelidxs, localidx, funcidx, globalidx, memidx, memarg, i32, i64, f32, f64, heaptype}
 use Rattle.laws.specs.Steps.{stops}
-use Rattle.leb.specs.Views.{u64At}
-use Rattle.leb.specs.declared.read.U64.{U64}
-use Rattle.leb.specs.declared.read.U64.the-variants as U64
-use Rattle.token.specs.Views.{byteAt, skip}
-use Rattle.token.specs.declared.byte.ByteAt.{ByteAt}
-use Rattle.token.specs.declared.byte.ByteAt.the-variants as B
-use Rattle.token.specs.declared.byte.Skip.{Skip}
-use Rattle.token.specs.declared.byte.Skip.the-variants as S
+use Rattle.syntax.specs.Numbers.{u64At}
+use Rattle.syntax.specs.declared.U64.{U64}
+use Rattle.syntax.specs.declared.U64.the-variants as U64
+use Rattle.syntax.specs.Tokens.{byteAt, skip}
+use Rattle.syntax.specs.declared.ByteAt.{ByteAt}
+use Rattle.syntax.specs.declared.ByteAt.the-variants as B
+use Rattle.syntax.specs.declared.Skip.{Skip}
+use Rattle.syntax.specs.declared.Skip.the-variants as S
 use Rattle.token.proofs.Skips.{stops-made, stops-then, stops-not}
-use Rattle.typeuse.specs.Views.{listAt}
-use Rattle.typeuse.specs.declared.List as Code
-use Rattle.typeuse.specs.declared.ListAt.{ListAt}
-use Rattle.typeuse.specs.declared.ListAt.the-variants as LA
-use Rattle.expr.specs.Views.{operandsIs}
-use Rattle.expr.specs.declared.Operands.{Operands}
+use Rattle.syntax.specs.TypeUses.{listAt}
+use Rattle.syntax.specs.declared.List as Code
+use Rattle.syntax.specs.declared.ListAt.{ListAt}
+use Rattle.syntax.specs.declared.ListAt.the-variants as LA
+use Rattle.syntax.specs.Plain.{operandsIs}
+use Rattle.syntax.specs.declared.Operands.{Operands}
 
 -- what stands after an opcode was matched
 pub passed-is : (w v : Operands) (op : ℕ) (s : Bytes) (at : ℕ) (x : Step (Unit {0})) → w ≡ v → stops (plainOf op (operandsIs v) s at) ≡ x → stops (plainOf op (operandsIs w) s at) ≡ x

@@ -7,16 +7,17 @@ use Rattle.definition.specs.Syntax.{Bytes, Identifier}
 use Rattle.definition.specs.Reader.{Step, got, fault, onward}
 use Rattle.definition.specs.Instructions.{plainOf, labelidx, localidx, funcidx, globalidx, naturals, exponent, f32, f64}
 use Rattle.laws.proofs.Readers.{getD-out}
-use Rattle.token.specs.Views.{indexOf}
-use Rattle.token.specs.declared.index.Index.{Index}
-use Rattle.expr.specs.Views.{operandOf, operandTo, refer, indexed, plainIs, plainAt, operandsIs, rawOf}
-use Rattle.expr.specs.declared.Operand.{Operand}
+use Rattle.syntax.specs.Tokens.{indexOf}
+use Rattle.syntax.specs.declared.Index.{Index}
+use Rattle.syntax.specs.Plain.{operandOf, plainIs, plainAt, operandsIs}
+use Rattle.expr.specs.Readers.{operandTo, refer, indexed, rawOf}
+use Rattle.syntax.specs.declared.Operand.{Operand}
 use Rattle.expr.specs.declared.Refers.{Refers}
 use Rattle.expr.specs.declared.Refers.the-variants as R
-use Rattle.expr.specs.declared.Plain.{Plain}
-use Rattle.expr.specs.declared.PlainAt.{PlainAt}
-use Rattle.expr.specs.declared.PlainAt.the-variants as PA
-use Rattle.expr.specs.declared.Operands.{Operands}
+use Rattle.syntax.specs.declared.Plain.{Plain}
+use Rattle.syntax.specs.declared.PlainAt.{PlainAt}
+use Rattle.syntax.specs.declared.PlainAt.the-variants as PA
+use Rattle.syntax.specs.declared.Operands.{Operands}
 
 module _ {C : Type 0} (x : Step C) (s : Bytes) where
   pub plain-got : (k : Syntax.Plain Identifier → ℕ → Step C) (m : Step (Syntax.Plain Identifier)) (r : PlainAt) (a : Plain) (n : ℕ) → m ≡ plainAt s r → r ≡ PA.Got a n → k (plainIs s a) n ≡ x → onward k m ≡ x

@@ -1,46 +1,27 @@
 // Instructions that open and close no block and have no type use, and constants.
 pub mod pass;
 
-use leb::U32;
-use leb::U64;
 pub use pass::pass_plain;
-use token::ByteAt;
-use token::Index;
-use token::IndexAt;
-use token::Part;
-use token::PartAt;
-use token::Space;
-use typeuse::Elem;
-use typeuse::List;
-use typeuse::ListAt;
+use syntax::ByteAt;
+use syntax::Elem;
+use syntax::Index;
+use syntax::IndexAt;
+use syntax::List;
+use syntax::ListAt;
+use syntax::Operand;
+use syntax::Operands;
+use syntax::Part;
+use syntax::PartAt;
+use syntax::Plain;
+use syntax::PlainAt;
+use syntax::Space;
+use syntax::U32;
+use syntax::U64;
 ghost use mathlib.Core.Path.{_≡_};
 ghost use Rattle.definition.specs.Instructions as Instructions;
-ghost use Rattle.token.specs.Views.{byteAt};
-ghost use Rattle.expr.specs.Views.{operandTo, operandsIs, plainAt, indexed, rawOf};
-
-pub enum Operand {
-    Nothing,
-    Label(Index),
-    Labels(List, Index),
-    Local(Index),
-    Item(Space, Index),
-    // the alignment's exponent, the offset, the memory
-    Access(u8, u32, Index),
-    Int32(u32),
-    Int64(u64),
-    Raw(Part),
-    Heap(u8),
-}
-
-pub struct Plain {
-    pub opcode: u8,
-    pub operand: Operand,
-}
-
-pub enum PlainAt {
-    Got(Plain, usize),
-    Fault(u8),
-}
+ghost use Rattle.syntax.specs.Tokens.{byteAt};
+ghost use Rattle.syntax.specs.Plain.{operandsIs, plainAt};
+ghost use Rattle.expr.specs.Readers.{operandTo, indexed, rawOf};
 
 // What an index refers to.
 pub enum Refers {
@@ -274,23 +255,6 @@ fn heap_plain(s: &[u8], at: usize, opcode: u8) -> PlainAt
             return PlainAt::Fault(e);
         }
     }
-}
-
-// What stands after an opcode, by the standard's names.
-pub enum Operands {
-    Bare,
-    LabelIdx,
-    LabelIdxs,
-    LocalIdx,
-    FuncIdx,
-    GlobalIdx,
-    MemIdx,
-    MemArg,
-    I32,
-    I64,
-    F32,
-    F64,
-    HeapType,
 }
 
 pub fn read_plain(s: &[u8], at: usize, opcode: u8, what: Operands) -> PlainAt

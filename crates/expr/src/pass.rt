@@ -1,16 +1,16 @@
 // Instructions that are passed over: where their operands end. That is the same for every opcode, so the contracts name the opcode 0.
-use crate::Operands;
-use leb::U64;
-use token::ByteAt;
-use token::Skip;
-use typeuse::Elem;
-use typeuse::ListAt;
+use syntax::ByteAt;
+use syntax::Elem;
+use syntax::ListAt;
+use syntax::Operands;
+use syntax::Skip;
+use syntax::U64;
 ghost use mathlib.Core.Path.{_≡_};
 ghost use Rattle.definition.specs.Instructions as Instructions;
 ghost use Rattle.definition.specs.Token as Token;
 ghost use Rattle.laws.specs.Steps.{stops};
-ghost use Rattle.token.specs.Views.{skip};
-ghost use Rattle.expr.specs.Views.{operandsIs};
+ghost use Rattle.syntax.specs.Tokens.{skip};
+ghost use Rattle.syntax.specs.Plain.{operandsIs};
 
 fn pass_labels(s: &[u8], at: usize) -> Skip
     ensures { λ r. ⌜ stops (Instructions.plainOf 0 Instructions.labelidxs (now (s .entry)) at) ≡ skip r ⌝ }

@@ -11,15 +11,18 @@ use Rattle.definition.specs.Syntax.{Identifier}
 use Rattle.definition.specs.Token.{param}
 use Rattle.definition.specs.Types.{isInline}
 use Rattle.definition.specs.Names.{Namespace, carries, find, taken, distinct, paramCount, paramNames, localsOf, distinctLocals}
-use Rattle.typeuse.specs.Views.{elements, listOf, useOf}
-use Rattle.typeuse.specs.declared.List as Code
-use Rattle.typeuse.specs.declared.TypeUse.{TypeUse}
-use Rattle.space.specs.Area.{names}
-use Rattle.space.proofs.Kept.{kept-then}
-use Rattle.signatures.specs.Table.{typesIn}
-use Rattle.signatures.proofs.Bounds.{params-few}
-use Rattle.binary.specs.Views.{typeNoOf}
-use Rattle.binary.specs.declared.instructions.TypeNo.{TypeNo}
+use Rattle.syntax.specs.Refusals.{refusedBy}
+use Rattle.syntax.specs.declared.Refusal.{Refusal}
+use Rattle.area.specs.Layout.{BYTES, LOCALS, WORDS}
+use Rattle.syntax.specs.TypeUses.{elements, listOf, useOf}
+use Rattle.syntax.specs.declared.List as Code
+use Rattle.syntax.specs.declared.TypeUse.{TypeUse}
+use Rattle.name_table.specs.Area.{names}
+use Rattle.area.proofs.Kept.{kept-then}
+use Rattle.type_table.specs.Table.{typesIn}
+use Rattle.type_table.proofs.Bounds.{params-few}
+use Rattle.syntax.specs.Resolved.{typeNoOf}
+use Rattle.syntax.specs.declared.TypeNo.{TypeNo}
 use Rattle.scope.specs.Scope.{scopeIn, localsIn}
 use Rattle.frames.specs.Locals.{idsAt, idsOf, nameless, Mores, Clashes, PutsAll, SetsLocals}
 use Rattle.frames.specs.declared.locals.EntriesAt.{EntriesAt}
@@ -76,43 +79,43 @@ module _ (s w : List ℕ) (rec : ℕ) (all : Namespace Identifier) where
   unfolding distinctLocals scopeIn
   are-distinct e = rw e
 
-  are-not : (n q : ℕ) → distinct sameBytes [] all ≡ false → n ≡ 13 → q ≡ rec → distinctLocals (scopeIn s w) rec all ≡ refused n q
+  are-not : (q : Refusal) → distinct sameBytes [] all ≡ false → q .number ≡ 13 → q .rec ≡ rec → distinctLocals (scopeIn s w) rec all ≡ refusedBy q
   unfolding distinctLocals scopeIn
-  are-not n q e d f = rw (e, d, f)
+  are-not q e d f = rw (e, d, f)
 
 -- ## With an inline type
 
 module _ (s w : List ℕ) (here k : ℕ) (rec : ℕ) (r : EntriesAt) (w′ : List ℕ) (first : PutsAll s w 0 here k rec r w′) (there m : ℕ) where
-  pub inline-stops : (n q : ℕ) → r ≡ E.Refused n q → SetsLocals s w rec (idsAt s here k ++ idsAt s there m) (L.Refused n q) w′
+  pub inline-stops : (q : Refusal) → r ≡ E.Refused q → SetsLocals s w rec (idsAt s here k ++ idsAt s there m) (L.Refused q) w′
   unfolding PutsAll SetsLocals names
-  inline-stops n q d =
-      let o : Clashes s w 0 (idsAt s here k) rec n q w′ = rw d at first in
+  inline-stops q d =
+      let o : Clashes s w 0 (idsAt s here k) rec q w′ = rw d at first in
       let e : distinct sameBytes [] (idsAt s here k ++ idsAt s there m) ≡ false = distinct-append sameBytes [] (idsAt s here k) (idsAt s there m) ∙ rw (o .twice) refl in
-      record { says = are-not s w rec (idsAt s here k ++ idsAt s there m) n q e (o .number) (o .place); long = o .long }
+      record { says = are-not s w rec (idsAt s here k ++ idsAt s there m) q e (o .number) (o .place); long = o .long }
 
   module _ (c : ℕ) (d : r ≡ E.Now c) where
     mores : Mores s w 0 (idsAt s here k) c w′
     unfolding PutsAll
     mores = rw d at first
 
-    stand : names c s w′ 11536 ≡ idsAt s here k
+    stand : names c s w′ LOCALS ≡ idsAt s here k
     unfolding names
     stand = mores .entries
 
-    pub inline-area : 16384 ≤ length w → 16384 ≤ length w′
+    pub inline-area : WORDS ≤ length w → WORDS ≤ length w′
     inline-area h = omega (arith, mores .kept .long)
 
     pub inline-room : length (elements param s here k) ≤ 64 → length (elements param s there m) ≤ 64 → c + length (elements param s there m) ≤ 128
     inline-room a b = omega (arith, mores .all, ids-length s here k)
 
     module _ (x : EntriesAt) (w″ : List ℕ) (second : PutsAll s w′ c there m rec x w″) where
-      pub inline-refused : (n q : ℕ) → x ≡ E.Refused n q → SetsLocals s w rec (idsAt s here k ++ idsAt s there m) (L.Refused n q) w″
+      pub inline-refused : (q : Refusal) → x ≡ E.Refused q → SetsLocals s w rec (idsAt s here k ++ idsAt s there m) (L.Refused q) w″
       unfolding PutsAll SetsLocals names
-      inline-refused n q f =
-          let o : Clashes s w′ c (idsAt s there m) rec n q w″ = rw f at second in
+      inline-refused q f =
+          let o : Clashes s w′ c (idsAt s there m) rec q w″ = rw f at second in
           let e : distinct sameBytes [] (idsAt s here k ++ idsAt s there m) ≡ false =
           distinct-append sameBytes [] (idsAt s here k) (idsAt s there m) ∙ rw (mores .free) (rw stand at (o .twice)) in
-          record { says = are-not s w rec (idsAt s here k ++ idsAt s there m) n q e (o .number) (o .place); long = o .long ∙ mores .kept .long }
+          record { says = are-not s w rec (idsAt s here k ++ idsAt s there m) q e (o .number) (o .place); long = o .long ∙ mores .kept .long }
 
       pub inline-set : (count : ℕ) → length (elements param s here k) ≤ 64 → length (elements param s there m) ≤ 64 → x ≡ E.Now count
           → SetsLocals s w rec (idsAt s here k ++ idsAt s there m) (L.Set (record { nameless = 0; count = count })) w″
@@ -133,14 +136,14 @@ pub ruleset inlines = (inline-stops, inline-refused, inline-set)
 -- ## Without one
 
 module _ (s w : List ℕ) (t : TypeNo) (here k : ℕ) (rec : ℕ) (r : EntriesAt) (w′ : List ℕ) (put : PutsAll s w 0 here k rec r w′) where
-  pub nameless-stops : (n q : ℕ) → r ≡ E.Refused n q → SetsLocals s w rec (nameless s w t ++ idsAt s here k) (L.Refused n q) w′
+  pub nameless-stops : (q : Refusal) → r ≡ E.Refused q → SetsLocals s w rec (nameless s w t ++ idsAt s here k) (L.Refused q) w′
   unfolding PutsAll SetsLocals names nameless
-  nameless-stops n q d =
-      let o : Clashes s w 0 (idsAt s here k) rec n q w′ = rw d at put in
+  nameless-stops q d =
+      let o : Clashes s w 0 (idsAt s here k) rec q w′ = rw d at put in
       let e : distinct sameBytes [] (nameless s w t ++ idsAt s here k) ≡ false = distinct-nameless sameBytes (paramCount (at (typesIn s w) (t .0))) (idsAt s here k) ∙ o .twice in
-      record { says = are-not s w rec (nameless s w t ++ idsAt s here k) n q e (o .number) (o .place); long = o .long }
+      record { says = are-not s w rec (nameless s w t ++ idsAt s here k) q e (o .number) (o .place); long = o .long }
 
-  pub nameless-set : (p count : ℕ) → p ≡ paramCount (at (typesIn s w) (t .0)) → length s ≤ 65536 → length (elements param s here k) ≤ 64 → r ≡ E.Now count
+  pub nameless-set : (p count : ℕ) → p ≡ paramCount (at (typesIn s w) (t .0)) → length s ≤ BYTES → length (elements param s here k) ≤ 64 → r ≡ E.Now count
       → SetsLocals s w rec (nameless s w t ++ idsAt s here k) (L.Set (record { nameless = p; count = count })) w′
   unfolding PutsAll SetsLocals names nameless localsIn
   nameless-set p count g l h d =

@@ -11,18 +11,21 @@ use Rattle.definition.specs.Syntax.{Bytes}
 use Rattle.definition.specs.Reader.{many}
 use Rattle.definition.specs.Token.{param}
 use Rattle.definition.specs.Names.{taken, distinct}
+use Rattle.syntax.specs.Refusals.{refusal}
+use Rattle.syntax.specs.declared.Refusal.{Refusal}
 use Rattle.token.specs.Known.{Gets}
-use Rattle.token.specs.Views.{idOf}
-use Rattle.token.specs.declared.text.Part.{Part}
-use Rattle.typeuse.specs.Views.{localAt, elements}
-use Rattle.typeuse.specs.declared.Local.{Local}
-use Rattle.typeuse.specs.declared.LocalAt.{LocalAt}
-use Rattle.typeuse.specs.declared.LocalAt.the-variants as O
-use Rattle.space.specs.Area.{entryWords, names}
-use Rattle.space.specs.Kept.{Kept}
-use Rattle.space.proofs.Kept.{kept-same, kept-then}
-use Rattle.space.proofs.Walk.{entry-written}
-use Rattle.names.proofs.Tables.{words-kept, names-low, names-snoc}
+use Rattle.area.specs.Layout.{LOCALS, WORDS}
+use Rattle.syntax.specs.Tokens.{idOf}
+use Rattle.syntax.specs.declared.Part.{Part}
+use Rattle.syntax.specs.TypeUses.{localAt, elements}
+use Rattle.syntax.specs.declared.Local.{Local}
+use Rattle.syntax.specs.declared.LocalAt.{LocalAt}
+use Rattle.syntax.specs.declared.LocalAt.the-variants as O
+use Rattle.name_table.specs.Area.{entryWords, names}
+use Rattle.area.specs.Kept.{Kept}
+use Rattle.area.proofs.Kept.{kept-same, kept-then}
+use Rattle.name_table.proofs.Walk.{entry-written}
+use Rattle.name_table.proofs.Tables.{words-kept, names-low, names-snoc}
 use Rattle.runs.proofs.Running.{first-readable, rest-readable}
 use Rattle.frames.specs.Locals.{idsAt, Clash, More, PutsOne, PutsAll}
 use Rattle.frames.specs.declared.locals.EntriesAt.{EntriesAt}
@@ -30,32 +33,32 @@ use Rattle.frames.specs.declared.locals.EntriesAt.the-variants as E
 
 -- ## One entry
 
-module _ (s w : List ℕ) (count n : ℕ) (p : Part) (rec : ℕ) (e : n ≡ count) (low : count < 128) (long : 16384 ≤ length w) where
+module _ (s w : List ℕ) (count n : ℕ) (p : Part) (rec : ℕ) (e : n ≡ count) (low : count < 128) (long : WORDS ≤ length w) where
   -- the entries lie in the area
-  pub one-table : 11536 + 3 * n ≤ length w
+  pub one-table : LOCALS + 3 * n ≤ length w
   one-table = omega arith
 
-  pub one-entry : 11536 + 3 * n + 2 < length w
+  pub one-entry : LOCALS + 3 * n + 2 < length w
   one-entry = omega arith
 
-  module _ (t : Bool) (h : t ≡ taken sameBytes (idOf s p) (names n s w 11536)) where
-    pub one-taken : t ≡ true → PutsOne s w count p rec (E.Refused 13 rec) w
+  module _ (t : Bool) (h : t ≡ taken sameBytes (idOf s p) (names n s w LOCALS)) where
+    pub one-taken : t ≡ true → PutsOne s w count p rec (E.Refused (refusal 13 rec)) w
     unfolding PutsOne
     one-taken y = record { twice = rw (← e, ← h) y; number = refl; place = refl; long = refl }
 
-    pub one-put : (w′ : List ℕ) → t ≡ false → w′ ≡ entryWords s w (11536 + 3 * n) p → PutsOne s w count p rec (E.Now (count + 1)) w′
+    pub one-put : (w′ : List ℕ) → t ≡ false → w′ ≡ entryWords s w (LOCALS + 3 * n) p → PutsOne s w count p rec (E.Now (count + 1)) w′
     unfolding PutsOne
     one-put w′ y z = record {
       free = rw (← e, ← h) y;
       entries = rw (z, ← e) (go n one-entry);
       one = refl;
-      kept = rw z (words-kept s w (11536 + 3 * n) p 11536 (omega arith));
+      kept = rw z (words-kept s w (LOCALS + 3 * n) p LOCALS (omega arith));
     }
       where
-        go : (n : ℕ) → 11536 + 3 * n + 2 < length w → names (n + 1) s (entryWords s w (11536 + 3 * n) p) 11536 ≡ names n s w 11536 ++ (idOf s p ∷ [])
+        go : (n : ℕ) → LOCALS + 3 * n + 2 < length w → names (n + 1) s (entryWords s w (LOCALS + 3 * n) p) LOCALS ≡ names n s w LOCALS ++ (idOf s p ∷ [])
         go n g =
             let d : n + 1 ≡ suc n = omega arith in
-            rw (d, names-snoc n s (entryWords s w (11536 + 3 * n) p) 11536, names-low s w (11536 + 3 * n) p n 11536 (omega arith), entry-written s w (11536 + 3 * n) p g) refl
+            rw (d, names-snoc n s (entryWords s w (LOCALS + 3 * n) p) LOCALS, names-low s w (LOCALS + 3 * n) p n LOCALS (omega arith), entry-written s w (LOCALS + 3 * n) p g) refl
 
 -- ## The identifiers of a list, one at a time
 
@@ -85,21 +88,21 @@ ids-length s here n = length-map (elements param s here n) (λ p. p .id)
 
 -- so many entries stand, and the rest, which can be read, decides
 pub record Putting (s w₀ : List ℕ) (from place n : ℕ) (w : List ℕ) (here left count : ℕ) : Type 0 where
-  pub same : distinct sameBytes (names count s w 11536) (idsAt s here left) ≡ distinct sameBytes (names from s w₀ 11536) (idsAt s place n)
-  pub all : names count s w 11536 ++ idsAt s here left ≡ names from s w₀ 11536 ++ idsAt s place n
+  pub same : distinct sameBytes (names count s w LOCALS) (idsAt s here left) ≡ distinct sameBytes (names from s w₀ LOCALS) (idsAt s place n)
+  pub all : names count s w LOCALS ++ idsAt s here left ≡ names from s w₀ LOCALS ++ idsAt s place n
   pub sum : count + length (idsAt s here left) ≡ from + length (idsAt s place n)
   pub low : from + length (idsAt s place n) ≤ 128
-  pub kept : Kept 11536 w₀ w
+  pub kept : Kept LOCALS w₀ w
   pub readable : Gets (many left param s here)
 
 pub putting-begin : (s w : List ℕ) (from place n : ℕ) → from + length (elements param s place n) ≤ 128 → Gets (many n param s place) → Putting s w from place n w place n from
-putting-begin s w from place n h g = record { same = refl; all = refl; sum = refl; low = (let e = ids-length s place n in omega arith); kept = kept-same 11536 w; readable = g }
+putting-begin s w from place n h g = record { same = refl; all = refl; sum = refl; low = (let e = ids-length s place n in omega arith); kept = kept-same LOCALS w; readable = g }
 
 module _ {s w₀ : List ℕ} {from place n : ℕ} {w : List ℕ} {here left count : ℕ} (v : Putting s w₀ from place n w here left count) where
   pub putting-long : length w ≡ length w₀
   putting-long = v .kept .long
 
-  pub putting-area : 16384 ≤ length w₀ → 16384 ≤ length w
+  pub putting-area : WORDS ≤ length w₀ → WORDS ≤ length w
   putting-area h = omega (arith, v .kept .long)
 
   -- the next one can be read
@@ -111,7 +114,7 @@ module _ {s w₀ : List ℕ} {from place n : ℕ} {w : List ℕ} {here left coun
   unfolding PutsAll distinct
   putting-end rec e = record {
     free = sym (rw e at (v .same));
-    entries = sym (append-nil (names count s w 11536)) ∙ rw e at (v .all);
+    entries = sym (append-nil (names count s w LOCALS)) ∙ rw e at (v .all);
     all = rw add-zero at (rw e at (v .sum));
     kept = v .kept;
   }
@@ -139,17 +142,17 @@ module _ {s w₀ : List ℕ} {from place n : ℕ} {w : List ℕ} {here left coun
             let o : More s w count (idOf s (x .id)) m w′ = rw g at put in
             record {
               same = rw (o .entries) (sym (rw (ids, o .free) refl) ∙ v .same);
-              all = rw (o .entries) (append-assoc (names count s w 11536) (idOf s (x .id) ∷ []) (idsAt s next (left - 1)) ∙ sym (rw ids refl) ∙ v .all);
+              all = rw (o .entries) (append-assoc (names count s w LOCALS) (idOf s (x .id) ∷ []) (idsAt s next (left - 1)) ∙ sym (rw ids refl) ∙ v .all);
               sum = (let e = ap length ids in let a = v .sum in let b = o .one in omega arith);
               low = v .low;
               kept = kept-then (v .kept) (o .kept);
               readable = rest-readable s here left (v .readable) r told x next h d;
             }
 
-        pub putting-stops : (k j : ℕ) → q ≡ E.Refused k j → PutsAll s w₀ from place n rec (E.Refused k j) w′
+        pub putting-stops : (j : Refusal) → q ≡ E.Refused j → PutsAll s w₀ from place n rec (E.Refused j) w′
         unfolding PutsOne PutsAll distinct
-        putting-stops k j g =
-            let o : Clash (taken sameBytes (idOf s (x .id)) (names count s w 11536)) rec k j w w′ = rw g at put in
+        putting-stops j g =
+            let o : Clash (taken sameBytes (idOf s (x .id)) (names count s w LOCALS)) rec j w w′ = rw g at put in
             record { twice = sym (v .same) ∙ rw (ids, o .twice) refl; number = o .number; place = o .place; long = o .long ∙ v .kept .long }
 
 pub ruleset puttings = (putting-done, putting-fault, putting-again, putting-stops)

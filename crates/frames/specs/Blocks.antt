@@ -2,12 +2,13 @@
 use Prim.Native.Nat.{ℕ, _+_}
 use mathlib.Core.Path.{_≡_}
 use mathlib.Core.List.{List, _∷_}
-use Rattle.token.specs.Views.{idOf}
-use Rattle.token.specs.declared.text.Part.{Part}
-use Rattle.space.specs.Kept.{Kept}
+use Rattle.area.specs.Layout.{LABELS}
+use Rattle.syntax.specs.Tokens.{idOf}
+use Rattle.syntax.specs.declared.Part.{Part}
+use Rattle.area.specs.Kept.{Kept}
 use Rattle.scope.specs.Scope.{labelsIn}
 
 -- one block more is open
 pub record Opened (s w : List ℕ) (k : ℕ) (label : Part) (w′ : List ℕ) : Type 0 where
   pub labels : labelsIn s w′ (k + 1) ≡ idOf s label ∷ labelsIn s w k
-  pub kept : Kept 11920 w w′
+  pub kept : Kept LABELS w w′

@@ -9,16 +9,19 @@ use Rattle.definition.specs.Basic.{ok, refused, sameBytes, at}
 use Rattle.definition.specs.Syntax.{Bytes, Identifier}
 use Rattle.definition.specs.Token.{param}
 use Rattle.definition.specs.Names.{Namespace, taken, distinct, paramCount, distinctLocals}
-use Rattle.token.specs.Views.{idOf}
-use Rattle.token.specs.declared.text.Part.{Part}
+use Rattle.syntax.specs.Refusals.{refusedBy}
+use Rattle.syntax.specs.declared.Refusal.{Refusal}
+use Rattle.area.specs.Layout.{LOCALS}
+use Rattle.syntax.specs.Tokens.{idOf}
+use Rattle.syntax.specs.declared.Part.{Part}
 use Rattle.typeuse.specs.Known.{Readable}
-use Rattle.typeuse.specs.Views.{elements, listOf, useOf}
-use Rattle.typeuse.specs.declared.List as Code
-use Rattle.typeuse.specs.declared.TypeUse.{TypeUse}
-use Rattle.space.specs.Area.{names}
-use Rattle.space.specs.Kept.{Kept}
-use Rattle.signatures.specs.Table.{typesIn}
-use Rattle.binary.specs.declared.instructions.TypeNo.{TypeNo}
+use Rattle.syntax.specs.TypeUses.{elements, listOf, useOf}
+use Rattle.syntax.specs.declared.List as Code
+use Rattle.syntax.specs.declared.TypeUse.{TypeUse}
+use Rattle.name_table.specs.Area.{names}
+use Rattle.area.specs.Kept.{Kept}
+use Rattle.type_table.specs.Table.{typesIn}
+use Rattle.syntax.specs.declared.TypeNo.{TypeNo}
 use Rattle.scope.specs.Scope.{scopeIn, localsIn, FewLocals}
 use Rattle.scope.specs.declared.Locals.{Locals}
 use Rattle.frames.specs.declared.locals.EntriesAt.{EntriesAt}
@@ -49,41 +52,41 @@ nameless s w n = replicate (paramCount (at (typesIn s w) (n .0))) none
 -- ## Entries
 
 -- an identifier comes twice: refused by 13 at its record
-pub record Clash (t : Bool) (rec n q : ℕ) (w w′ : List ℕ) : Type 0 where
+pub record Clash (t : Bool) (rec : ℕ) (q : Refusal) (w w′ : List ℕ) : Type 0 where
   pub twice : t ≡ true
-  pub number : n ≡ 13
-  pub place : q ≡ rec
+  pub number : q .number ≡ 13
+  pub place : q .rec ≡ rec
   pub long : length w′ ≡ length w
 
 -- one entry more
 pub record More (s w : List ℕ) (count : ℕ) (id : Option Identifier) (m : ℕ) (w′ : List ℕ) : Type 0 where
-  pub free : taken sameBytes id (names count s w 11536) ≡ false
-  pub entries : names m s w′ 11536 ≡ names count s w 11536 ++ (id ∷ [])
+  pub free : taken sameBytes id (names count s w LOCALS) ≡ false
+  pub entries : names m s w′ LOCALS ≡ names count s w LOCALS ++ (id ∷ [])
   pub one : m ≡ count + 1
-  pub kept : Kept 11536 w w′
+  pub kept : Kept LOCALS w w′
 
 unfoldable pub PutsOne : Bytes → List ℕ → ℕ → Part → ℕ → EntriesAt → List ℕ → Type 0
 PutsOne s w count p rec (E.Now m) w′ = More s w count (idOf s p) m w′
-PutsOne s w count p rec (E.Refused n q) w′ = Clash (taken sameBytes (idOf s p) (names count s w 11536)) rec n q w w′
+PutsOne s w count p rec (E.Refused q) w′ = Clash (taken sameBytes (idOf s p) (names count s w LOCALS)) rec q w w′
 
 -- the entries of a list more
 pub record Mores (s w : List ℕ) (from : ℕ) (ids : Namespace Identifier) (m : ℕ) (w′ : List ℕ) : Type 0 where
-  pub free : distinct sameBytes (names from s w 11536) ids ≡ true
-  pub entries : names m s w′ 11536 ≡ names from s w 11536 ++ ids
+  pub free : distinct sameBytes (names from s w LOCALS) ids ≡ true
+  pub entries : names m s w′ LOCALS ≡ names from s w LOCALS ++ ids
   pub all : m ≡ from + length ids
-  pub kept : Kept 11536 w w′
+  pub kept : Kept LOCALS w w′
 
 -- an identifier of a list is there already, or comes twice in it
-pub record Clashes (s w : List ℕ) (from : ℕ) (ids : Namespace Identifier) (rec n q : ℕ) (w′ : List ℕ) : Type 0 where
-  pub twice : distinct sameBytes (names from s w 11536) ids ≡ false
-  pub number : n ≡ 13
-  pub place : q ≡ rec
+pub record Clashes (s w : List ℕ) (from : ℕ) (ids : Namespace Identifier) (rec : ℕ) (q : Refusal) (w′ : List ℕ) : Type 0 where
+  pub twice : distinct sameBytes (names from s w LOCALS) ids ≡ false
+  pub number : q .number ≡ 13
+  pub place : q .rec ≡ rec
   pub long : length w′ ≡ length w
 
 -- of so many locals from a place on
 unfoldable pub PutsAll : Bytes → List ℕ → ℕ → ℕ → ℕ → ℕ → EntriesAt → List ℕ → Type 0
 PutsAll s w from here n rec (E.Now m) w′ = Mores s w from (idsAt s here n) m w′
-PutsAll s w from here n rec (E.Refused k q) w′ = Clashes s w from (idsAt s here n) rec k q w′
+PutsAll s w from here n rec (E.Refused q) w′ = Clashes s w from (idsAt s here n) rec q w′
 
 -- ## Locals
 
@@ -92,13 +95,13 @@ pub record Sets (s w : List ℕ) (rec : ℕ) (all : Namespace Identifier) (l : L
   pub distinct : distinctLocals (scopeIn s w) rec all ≡ ok tt
   pub locals : localsIn s w′ l ≡ all
   pub few : FewLocals l
-  pub kept : Kept 11536 w w′
+  pub kept : Kept LOCALS w w′
 
 -- they are refused
-pub record Unset (s w : List ℕ) (rec : ℕ) (all : Namespace Identifier) (n q : ℕ) (w′ : List ℕ) : Type 0 where
-  pub says : distinctLocals (scopeIn s w) rec all ≡ refused n q
+pub record Unset (s w : List ℕ) (rec : ℕ) (all : Namespace Identifier) (q : Refusal) (w′ : List ℕ) : Type 0 where
+  pub says : distinctLocals (scopeIn s w) rec all ≡ refusedBy q
   pub long : length w′ ≡ length w
 
 unfoldable pub SetsLocals : Bytes → List ℕ → ℕ → Namespace Identifier → LocalsAt → List ℕ → Type 0
 SetsLocals s w rec all (L.Set l) w′ = Sets s w rec all l w′
-SetsLocals s w rec all (L.Refused n q) w′ = Unset s w rec all n q w′
+SetsLocals s w rec all (L.Refused q) w′ = Unset s w rec all q w′

@@ -9,18 +9,20 @@ use Rattle.definition.specs.Syntax as Syntax
 use Rattle.definition.specs.Syntax.{Bytes, Identifier, Op, Item}
 use Rattle.definition.specs.Token as Token
 use Rattle.definition.specs.Names.{localsOf, distinctLocals, body, resolve}
-use Rattle.signatures.specs.Table.{typesIn}
+use Rattle.syntax.specs.Refusals.{refusedBy}
+use Rattle.type_table.specs.Table.{typesIn}
 use Rattle.definition.specs.Binary.{u, vec, run, runs, expr, sized, func-code}
-use Rattle.typeuse.specs.Views.{listOf, useOf}
-use Rattle.typeuse.specs.declared.List as Code
-use Rattle.typeuse.specs.declared.TypeUse.{TypeUse}
+use Rattle.area.specs.Layout.{LABELS, LOCALS}
+use Rattle.syntax.specs.TypeUses.{listOf, useOf}
+use Rattle.syntax.specs.declared.List as Code
+use Rattle.syntax.specs.declared.TypeUse.{TypeUse}
 use Rattle.emit.specs.Put.{past}
-use Rattle.space.specs.Kept.{Kept}
+use Rattle.area.specs.Kept.{Kept}
 use Rattle.runs.specs.Locals.{localTypes}
 use Rattle.binary.specs.Emits.{Emits}
 use Rattle.binary.specs.declared.Emitted.{Emitted}
 use Rattle.binary.specs.declared.Emitted.the-variants as E
-use Rattle.walk.specs.Walk.{bodyFrom}
+use Rattle.instr.specs.Bodies.{bodyFrom}
 use Rattle.scope.specs.Scope.{scopeIn, localsIn}
 use Rattle.scope.specs.declared.Locals.{Locals}
 
@@ -56,7 +58,7 @@ sizedBytes s ls os = sized (codeBytes s ls os)
 -- it is emitted, and only labels are written into the work area
 pub record EmitsCode (bytes : List Op → Bytes) (a : Answer (List Op)) (w old : List ℕ) (at : ℕ) (r : Emitted) (w′ new : List ℕ) : Type 0 where
   pub emits : Emits bytes a old at r new
-  pub kept : Kept 11920 w w′
+  pub kept : Kept LABELS w w′
 
 -- the value of an answer, and how long its bytes are
 pub record Measured (bytes : List Op → Bytes) (a : Answer (List Op)) (n : ℕ) : Type 0 where
@@ -67,11 +69,11 @@ pub record Measured (bytes : List Op → Bytes) (a : Answer (List Op)) (n : ℕ)
 -- it is measured
 abbrev pub MeasuredBy : (List Op → Bytes) → Answer (List Op) → Emitted → Type 0
 MeasuredBy bytes a (E.To n) = Measured bytes a n
-MeasuredBy bytes a (E.Refused n q) = a ≡ refused n q
+MeasuredBy bytes a (E.Refused q) = a ≡ refusedBy q
 
 pub record MeasuresCode (bytes : List Op → Bytes) (a : Answer (List Op)) (w : List ℕ) (r : Emitted) (w′ : List ℕ) : Type 0 where
   pub says : MeasuredBy bytes a r
-  pub kept : Kept 11920 w w′
+  pub kept : Kept LABELS w w′
 
 -- the place after them and their length, where they begin at `at`
 pub record MeasuredAt (bytes : List Op → Bytes) (a : Answer (List Op)) (at r : ℕ) : Type 0 where
@@ -81,21 +83,21 @@ pub record MeasuredAt (bytes : List Op → Bytes) (a : Answer (List Op)) (at r :
 
 abbrev pub MeasuredAtBy : (List Op → Bytes) → Answer (List Op) → ℕ → Emitted → Type 0
 MeasuredAtBy bytes a at (E.To r) = MeasuredAt bytes a at r
-MeasuredAtBy bytes a at (E.Refused n q) = a ≡ refused n q
+MeasuredAtBy bytes a at (E.Refused q) = a ≡ refusedBy q
 
 pub record MeasuresSized (bytes : List Op → Bytes) (a : Answer (List Op)) (w : List ℕ) (at : ℕ) (r : Emitted) (w′ : List ℕ) : Type 0 where
   pub says : MeasuredAtBy bytes a at r
-  pub kept : Kept 11920 w w′
+  pub kept : Kept LABELS w w′
 
 -- a number and then the code
 pub record EmitsAgain (bytes : List Op → Bytes) (a : Answer (List Op)) (w old : List ℕ) (at n : ℕ) (r : Emitted) (w′ new : List ℕ) : Type 0 where
   pub emits : Emits (λ os. u n ++ bytes os) a old at r new
-  pub kept : Kept 11920 w w′
+  pub kept : Kept LABELS w w′
 
 -- the whole entry: the locals are written too
 abbrev pub AreaBy : Emitted → List ℕ → List ℕ → Type 0
-AreaBy (E.To o) w w′ = Kept 11536 w w′
-AreaBy (E.Refused n r) w w′ = length w′ ≡ length w
+AreaBy (E.To o) w w′ = Kept LOCALS w w′
+AreaBy (E.Refused r) w w′ = length w′ ≡ length w
 
 -- what is left once the type's number is known
 unfoldable pub typedAnswer : Bytes → List ℕ → ℕ → Syntax.TypeNo → TypeUse → Code.List → ℕ → Answer Item

@@ -1,22 +1,23 @@
 // A function's entry in the code section: its locals in runs and its body, after their length.
 use binary::Emitted;
-use binary::TypeNo;
 use frames::LocalsAt;
 use scope::Locals;
 use scope::TypeAt;
-use typeuse::List;
-use typeuse::TypeUse;
+use syntax::List;
+use syntax::TypeNo;
+use syntax::TypeUse;
 ghost use Prim.Native.Nat.{_+_, _-_, _≤_, _<_};
 ghost use mathlib.Core.Path.{_≡_};
 ghost use mathlib.Core.List.{_++_};
 ghost use lib.ListN.{length, take, drop};
+ghost use Rattle.area.specs.Lent.{At, Lent};
 ghost use Rattle.definition.specs.Types as Types;
 ghost use Rattle.definition.specs.Binary.{u};
 ghost use Rattle.emit.specs.Put.{Put, past};
 ghost use Rattle.typeuse.specs.Known.{Readable};
-ghost use Rattle.typeuse.specs.Views.{useOf};
-ghost use Rattle.binary.specs.Views.{typeNoOf};
-ghost use Rattle.signatures.specs.Table.{typesIn, Recalled};
+ghost use Rattle.syntax.specs.TypeUses.{useOf};
+ghost use Rattle.syntax.specs.Resolved.{typeNoOf};
+ghost use Rattle.type_table.specs.Table.{typesIn, Recalled};
 ghost use Rattle.scope.specs.Scope.{FewLocals};
 ghost use Rattle.frames.specs.Locals.{Head};
 ghost use Rattle.code.specs.Body.{Resolvable};
@@ -33,19 +34,19 @@ fn emit_code(
     rec: u32,
     l: Locals,
 ) -> Emitted
-    requires { ⌜ (length (now s) ≤ 65536) × (16384 ≤ length (now work)) × FewLocals l × (rec < 4096) × Resolvable (now s) (now work) (rec + 1) 0 here × Readable (now s) ls ⌝ }
+    requires { ⌜ Lent (now s) (now work) × FewLocals l × (rec < 4096) × Resolvable (now s) (now work) (rec + 1) 0 here × Readable (now s) ls ⌝ }
     ensures { λ r. ⌜ EmitsCode (codeBytes (now (s .entry)) ls) (bodyAnswer (now (s .entry)) (now (work .entry)) rec here l) (now (work .entry)) (now (out .entry)) at r (now (work .exit)) (now (out .exit)) ⌝ }
 {
     let a = runs::put_runs(out, at, s, ls);
     match code::emit_body(s, work, out, a, here, rec + 1, l) {
         Emitted::To(b) => Emitted::To(emit::put(out, b, 0x0B)),
-        Emitted::Refused(n, q) => Emitted::Refused(n, q),
+        Emitted::Refused(q) => Emitted::Refused(q),
     }
 }
 
 // How long they are.
 fn measure_code(s: &[u8], work: &mut [u32], ls: List, here: usize, rec: u32, l: Locals) -> Emitted
-    requires { ⌜ (length (now s) ≤ 65536) × (16384 ≤ length (now work)) × FewLocals l × (rec < 4096) × Resolvable (now s) (now work) (rec + 1) 0 here × Readable (now s) ls ⌝ }
+    requires { ⌜ Lent (now s) (now work) × FewLocals l × (rec < 4096) × Resolvable (now s) (now work) (rec + 1) 0 here × Readable (now s) ls ⌝ }
     ensures { λ r. ⌜ MeasuresCode (codeBytes (now (s .entry)) ls) (bodyAnswer (now (s .entry)) (now (work .entry)) rec here l) (now (work .entry)) r (now (work .exit)) ⌝ }
 {
     let mut none = [0u8; 1];
@@ -62,7 +63,7 @@ fn measure_sized(
     rec: u32,
     l: Locals,
 ) -> Emitted
-    requires { ⌜ (length (now s) ≤ 65536) × (16384 ≤ length (now work)) × FewLocals l × (rec < 4096) × Resolvable (now s) (now work) (rec + 1) 0 here × Readable (now s) ls ⌝ }
+    requires { ⌜ Lent (now s) (now work) × FewLocals l × (rec < 4096) × Resolvable (now s) (now work) (rec + 1) 0 here × Readable (now s) ls ⌝ }
     ensures { λ r. ⌜ MeasuresSized (codeBytes (now (s .entry)) ls) (bodyAnswer (now (s .entry)) (now (work .entry)) rec here l) (now (work .entry)) at r (now (work .exit)) ⌝ }
 {
     match measure_code(s, work, ls, here, rec, l) {
@@ -70,7 +71,7 @@ fn measure_sized(
             let a = emit::tally(at, leb::group_count(n as u64));
             Emitted::To(emit::tally(a, n))
         }
-        Emitted::Refused(n, q) => Emitted::Refused(n, q),
+        Emitted::Refused(q) => Emitted::Refused(q),
     }
 }
 
@@ -103,7 +104,7 @@ fn emit_again(
     rec: u32,
     l: Locals,
 ) -> Emitted
-    requires { ⌜ (length (now s) ≤ 65536) × (16384 ≤ length (now work)) × FewLocals l × (rec < 4096) × Resolvable (now s) (now work) (rec + 1) 0 here × Readable (now s) ls ⌝ }
+    requires { ⌜ Lent (now s) (now work) × FewLocals l × (rec < 4096) × Resolvable (now s) (now work) (rec + 1) 0 here × Readable (now s) ls ⌝ }
     ensures { λ r. ⌜ EmitsAgain (codeBytes (now (s .entry)) ls) (bodyAnswer (now (s .entry)) (now (work .entry)) rec here l) (now (work .entry)) (now (out .entry)) at n r (now (work .exit)) (now (out .exit)) ⌝ }
 {
     let a = leb::put_u(out, at, n as u64);
@@ -122,7 +123,7 @@ fn emit_sized(
     rec: u32,
     l: Locals,
 ) -> Emitted
-    requires { ⌜ (length (now s) ≤ 65536) × (16384 ≤ length (now work)) × FewLocals l × (rec < 4096) × Resolvable (now s) (now work) (rec + 1) 0 here × Readable (now s) ls ⌝ }
+    requires { ⌜ Lent (now s) (now work) × FewLocals l × (rec < 4096) × Resolvable (now s) (now work) (rec + 1) 0 here × Readable (now s) ls ⌝ }
     ensures { λ r. ⌜ EmitsCode (sizedBytes (now (s .entry)) ls) (bodyAnswer (now (s .entry)) (now (work .entry)) rec here l) (now (work .entry)) (now (out .entry)) at r (now (work .exit)) (now (out .exit)) ⌝ }
 {
     if out.len() <= at {
@@ -141,7 +142,7 @@ fn emit_sized(
             }
             emit_again(s, work, out, at, n, ls, here, rec, l)
         }
-        Emitted::Refused(n, q) => Emitted::Refused(n, q),
+        Emitted::Refused(q) => Emitted::Refused(q),
     }
 }
 
@@ -157,12 +158,12 @@ pub fn emit_typed(
     here: usize,
     rec: u32,
 ) -> Emitted
-    requires { ⌜ (length (now s) ≤ 65536) × (16384 ≤ length (now work)) × (rec < 4096) × Resolvable (now s) (now work) (rec + 1) 0 here × Head (now s) t ls ⌝ }
+    requires { ⌜ At (now s) (now work) rec × Resolvable (now s) (now work) (rec + 1) 0 here × Head (now s) t ls ⌝ }
     ensures { λ r. ⌜ EmitsTyped (now (s .entry)) (now (work .entry)) rec (typeNoOf n) t ls here (now (out .entry)) at r (now (work .exit)) (now (out .exit)) ⌝ }
 {
     match frames::set_locals(s, work, n, t, ls, rec) {
         LocalsAt::Set(l) => emit_sized(s, work, out, at, ls, here, rec, l),
-        LocalsAt::Refused(e, q) => Emitted::Refused(e, q),
+        LocalsAt::Refused(q) => Emitted::Refused(q),
     }
 }
 
@@ -177,11 +178,11 @@ pub fn emit_func(
     here: usize,
     rec: u32,
 ) -> Emitted
-    requires { ⌜ (length (now s) ≤ 65536) × (16384 ≤ length (now work)) × (rec < 4096) × Recalled (now work) (typesIn (now s) (now work)) (Types.usedAt rec (Types.useOf (useOf (now s) t))) × Resolvable (now s) (now work) (rec + 1) 0 here × Head (now s) t ls ⌝ }
+    requires { ⌜ At (now s) (now work) rec × Recalled (now work) (typesIn (now s) (now work)) (Types.usedAt rec (Types.useOf (useOf (now s) t))) × Resolvable (now s) (now work) (rec + 1) 0 here × Head (now s) t ls ⌝ }
     ensures { λ r. ⌜ EmitsFunc (now (s .entry)) (now (work .entry)) rec t ls here (now (out .entry)) at r (now (work .exit)) (now (out .exit)) ⌝ }
 {
     match scope::type_no(s, work, t, rec) {
         TypeAt::To(n) => emit_typed(s, work, out, at, n, t, ls, here, rec),
-        TypeAt::Refused(e, q) => Emitted::Refused(e, q),
+        TypeAt::Refused(q) => Emitted::Refused(q),
     }
 }

@@ -8,8 +8,9 @@ use Rattle.definition.specs.Basic.{if_then_else_, between}
 use Rattle.definition.specs.Instructions as Instructions
 use Rattle.definition.specs.Instructions.{opening, elsing, ending, calling, operands, formOf, formIn, opcodes}
 use Rattle.laws.proofs.Table.{everywhere}
-use Rattle.instr.specs.Views.{formIs, lowForm, middleForm, highForm}
-use Rattle.instr.specs.declared.Form.{Form}
+use Rattle.syntax.specs.Instructions.{formIs}
+use Rattle.instr.specs.Readers.{lowForm, middleForm, highForm}
+use Rattle.syntax.specs.declared.Form.{Form}
 
 -- ## Forms are told apart by numbers
 

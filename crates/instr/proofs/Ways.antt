@@ -6,11 +6,11 @@ use Rattle.definition.specs.Syntax as Syntax
 use Rattle.definition.specs.Syntax.{Bytes, Identifier}
 use Rattle.definition.specs.Reader.{Step, fault, onward}
 use Rattle.definition.specs.Instructions as Instructions
-use Rattle.instr.specs.Views.{formIs, instrIs, instrAt}
-use Rattle.instr.specs.declared.Form.{Form}
-use Rattle.instr.specs.declared.Instr.{Instr}
-use Rattle.instr.specs.declared.InstrAt.{InstrAt}
-use Rattle.instr.specs.declared.InstrAt.the-variants as IA
+use Rattle.syntax.specs.Instructions.{formIs, instrIs, instrAt}
+use Rattle.syntax.specs.declared.Form.{Form}
+use Rattle.syntax.specs.declared.Instr.{Instr}
+use Rattle.syntax.specs.declared.InstrAt.{InstrAt}
+use Rattle.syntax.specs.declared.InstrAt.the-variants as IA
 
 module _ {C : Type 0} (x : Step C) (s : Bytes) where
   pub instr-got : (k : Syntax.Instr Identifier → ℕ → Step C) (m : Step (Syntax.Instr Identifier)) (r : InstrAt) (a : Instr) (n : ℕ) → m ≡ instrAt s r → r ≡ IA.Got a n → k (instrIs s a) n ≡ x → onward k m ≡ x

@@ -1,27 +1,22 @@
 // The records of a body: instructions, and its end.
-use expr::Operands;
-use expr::Plain;
-use expr::PlainAt;
-use token::ByteAt;
-use token::Index;
-use token::IndexAt;
-use token::Part;
-use token::PartAt;
-use typeuse::TypeUse;
-use typeuse::UseAt;
+use syntax::BodyAt;
+use syntax::ByteAt;
+use syntax::Form;
+use syntax::Index;
+use syntax::IndexAt;
+use syntax::Instr;
+use syntax::InstrAt;
+use syntax::Operands;
+use syntax::Part;
+use syntax::PartAt;
+use syntax::Plain;
+use syntax::PlainAt;
+use syntax::TypeUse;
+use syntax::UseAt;
 ghost use mathlib.Core.Path.{_≡_};
 ghost use Rattle.definition.specs.Instructions as Instructions;
-ghost use Rattle.instr.specs.Views.{formIs, lowForm, middleForm, highForm, instrAt, bodyAt};
-
-// What stands after an opcode.
-pub enum Form {
-    NoOpcode,
-    Opening,
-    Elsing,
-    Ending,
-    Calling,
-    Operands(Operands),
-}
+ghost use Rattle.syntax.specs.Instructions.{formIs, instrAt, bodyAt};
+ghost use Rattle.instr.specs.Readers.{lowForm, middleForm, highForm};
 
 // Opcodes below 20: control, and drop and select.
 fn low_form(b: u8) -> Form
@@ -128,21 +123,6 @@ pub fn opcode_form(opcode: u8) -> Form
     high_form(opcode)
 }
 
-pub enum Instr {
-    // block, loop or if, by its opcode; its label and its type
-    Opens(u8, Part, TypeUse),
-    Elses(Part),
-    Ends(Part),
-    // call_indirect: its table and its type
-    Indirect(Index, TypeUse),
-    Plain(Plain),
-}
-
-pub enum InstrAt {
-    Got(Instr, usize),
-    Fault(u8),
-}
-
 fn opens(s: &[u8], at: usize, opcode: u8, k: u32) -> InstrAt
     ensures { λ r. ⌜ Instructions.instruction k opcode Instructions.opening (now (s .entry)) at ≡ instrAt (now (s .entry)) r ⌝ }
 {
@@ -243,13 +223,6 @@ fn formed(s: &[u8], at: usize, opcode: u8, k: u32) -> InstrAt
             }
         },
     }
-}
-
-pub enum BodyAt {
-    Got(Instr, usize),
-    // the byte FF
-    End(usize),
-    Fault(u8),
 }
 
 // A record of a body where k blocks are open.

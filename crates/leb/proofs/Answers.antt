@@ -2,9 +2,9 @@
 use Prim.Native.Nat.{ℕ}
 use mathlib.Core.Path.{_≡_, _∙_, ap}
 use Rattle.definition.specs.Reader.{Step, got, fault}
-use Rattle.leb.specs.Views.{u64At}
-use Rattle.leb.specs.declared.read.U64.{U64}
-use Rattle.leb.specs.declared.read.U64.the-variants as U64
+use Rattle.syntax.specs.Numbers.{u64At}
+use Rattle.syntax.specs.declared.U64.{U64}
+use Rattle.syntax.specs.declared.U64.the-variants as U64
 
 module _ {x : Step ℕ} {r : U64} (e : x ≡ u64At r) where
   pub u64-got : {v next : ℕ} → r ≡ U64.Got v next → x ≡ got v next

@@ -17,9 +17,9 @@ use Rattle.definition.specs.Token.{needed, groups}
 use Rattle.laws.proofs.Readers.{byte-in, byte-out}
 use Rattle.laws.proofs.Groups.{groups-fault, groups-wide, groups-last, groups-end, groups-more, groups-none, groups-within}
 use Rattle.leb.specs.Width.{Width, limit}
-use Rattle.leb.specs.Views.{u64At, endAt}
-use Rattle.leb.specs.declared.read.U64.{U64}
-use Rattle.leb.specs.declared.read.U64.the-variants as U64
+use Rattle.syntax.specs.Numbers.{u64At, endAt}
+use Rattle.syntax.specs.declared.U64.{U64}
+use Rattle.syntax.specs.declared.U64.the-variants as U64
 use Rattle.leb.proofs.Answers.{u64-got}
 
 -- ## `end_of`

@@ -3,8 +3,6 @@ pub mod read;
 pub mod signed;
 pub mod unsigned;
 
-pub use read::U32;
-pub use read::U64;
 pub use read::read_u32;
 pub use read::read_u64;
 pub use signed::put_i32;

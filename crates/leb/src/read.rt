@@ -1,19 +1,10 @@
 // Numbers of the record stream, in their shortest form: one longer than needed is refused.
+use syntax::U32;
+use syntax::U64;
 ghost use mathlib.Core.Path.{_≡_};
 ghost use Rattle.definition.specs.Token as Token;
-ghost use Rattle.leb.specs.Views.{u32At, u64At, endAt};
+ghost use Rattle.syntax.specs.Numbers.{u32At, u64At, endAt};
 ghost use Rattle.leb.specs.Width.{Width, limit};
-
-// A number and the place after it, or a refusal's number.
-pub enum U32 {
-    Got(u32, usize),
-    Fault(u8),
-}
-
-pub enum U64 {
-    Got(u64, usize),
-    Fault(u8),
-}
 
 // The end of a number: its last group is the first, or not 0.
 fn end_of(value: u64, next: usize, scale: u64, b: u8) -> U64

@@ -1,7 +1,7 @@
 // Prints numbers in groups as the functions of leb write and read them, a line for each.
-use leb::U32;
-use leb::U64;
 use libc::STDOUT_FILENO;
+use syntax::U32;
+use syntax::U64;
 
 const DIGITS: [u8; 16] = *b"0123456789ABCDEF";
 

@@ -6,7 +6,7 @@ use native.Mathlib.Omega.{arith}
 use borrow.Author.Tests.{eq-eqb, ne-eqb}
 use Rattle.definition.specs.Binary.{u}
 use Rattle.emit.specs.Put.{past}
-use Rattle.parts.specs.declared.tally.Tally.{Tally}
+use Rattle.kept.specs.declared.tally.Tally.{Tally}
 use Rattle.module.specs.Length.{contentLen, sizedLen, sectionLen, lensFrom, moduleLen}
 
 -- ## One section

@@ -10,7 +10,7 @@ use Rattle.definition.specs.Basic.{if_then_else_, concatMap}
 use Rattle.definition.specs.Syntax.{Bytes, ValType, Limits, Op, passive, active}
 use Rattle.definition.specs.Syntax.{Item, typeI, importI, funcI, tableI, memI, globalI, exportI, startI, elemI, dataI}
 use Rattle.definition.specs.Binary.{unsigned, u, sized, funcType, limits, limitsOf, tableType, globalType, externType, expr, func-code, elem, data′, entries, inSection, joined}
-use Rattle.content.specs.Entry.{Entries}
+use Rattle.deinline.specs.Entry.{Entries}
 use Rattle.module.specs.Length.{Good}
 
 -- ## Bytes that are not empty

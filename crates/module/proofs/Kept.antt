@@ -10,11 +10,12 @@ use Rattle.definition.specs.Syntax.{Bytes}
 use Rattle.definition.specs.Binary.{inSection, joined}
 use Rattle.emit.specs.Put.{Put, past}
 use Rattle.emit.proofs.Laws.{put-is, put-room}
-use Rattle.space.proofs.Kept.{kept-same}
-use Rattle.content.specs.Entry.{Entries}
-use Rattle.parts.specs.Parts.{startOf, partIn}
-use Rattle.parts.proofs.Keeping.{part-within}
-use Rattle.section_entries.specs.Write.{Writes, Held, allEntries}
+use Rattle.area.specs.Layout.{LOCALS}
+use Rattle.area.proofs.Kept.{kept-same}
+use Rattle.deinline.specs.Entry.{Entries}
+use Rattle.kept.specs.Parts.{startOf, partIn}
+use Rattle.kept.proofs.Keeping.{part-within}
+use Rattle.sections.specs.Write.{Writes, Held, allEntries}
 
 -- a length that did not saturate
 exact : (n size room : ℕ) → size ≡ past 0 n → size ≤ room → room < 2 ^ 63 → n ≡ size
@@ -56,4 +57,4 @@ module _ (kept : Bytes) (k a b : ℕ) (h : k < 12) (from : a ≡ startOf (length
 
     pub part-put : (declared : ℕ) (s w : List ℕ) (old new : Bytes) (at r : ℕ) → Held kept (allEntries declared s w) → size ≡ past 0 (length (joined (inSection k (allEntries declared s w))))
         → Put old at (take ((a + size) - a) (drop a kept)) r new → Writes (joined (inSection k (allEntries declared s w))) old at r new w w
-    part-put declared s w old new at r v e p = record { put = put-is p (part-held (allEntries declared s w) v e); area = kept-same 11536 w }
+    part-put declared s w old new at r v e p = record { put = put-is p (part-held (allEntries declared s w) v e); area = kept-same LOCALS w }

@@ -12,10 +12,10 @@ use Rattle.definition.specs.Basic.{if_then_else_, concatMap}
 use Rattle.definition.specs.Syntax.{Bytes, Item}
 use Rattle.definition.specs.Binary.{u, sized, entries, inSection, joined, content, sectionOf, section, preamble, sectionNumbers, sections, module′}
 use Rattle.emit.specs.Put.{past}
-use Rattle.content.specs.Entry.{Entries}
-use Rattle.parts.specs.Tally.{tallies, noTally, Twelve}
-use Rattle.parts.specs.declared.tally.Tally.{Tally}
-use Rattle.parts.proofs.Tallies.{size-is, count-is}
+use Rattle.deinline.specs.Entry.{Entries}
+use Rattle.kept.specs.Tally.{tallies, noTally, Twelve}
+use Rattle.kept.specs.declared.tally.Tally.{Tally}
+use Rattle.kept.proofs.Tallies.{size-is, count-is}
 use Rattle.module.specs.Length.{Counted, contentLen, sizedLen, sectionLen, lensFrom, moduleLen, sectionsFrom}
 use Rattle.module.proofs.Full.{u-few, good-items}
 

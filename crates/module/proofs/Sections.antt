@@ -14,23 +14,24 @@ use Rattle.definition.specs.Names.{resolveAll}
 use Rattle.definition.specs.Binary.{u, sized, funcType, entries, inSection, joined, content, sectionOf, section, preamble, module′}
 use Rattle.emit.specs.Put.{Put, past}
 use Rattle.emit.proofs.Laws.{put-none, put-then, put-is, put-skip}
-use Rattle.space.specs.Kept.{Kept}
-use Rattle.space.proofs.Kept.{kept-same, kept-then, kept-less}
-use Rattle.signatures.specs.Table.{typesIn}
+use Rattle.area.specs.Layout.{LOCALS, TYPES, WORDS}
+use Rattle.area.specs.Kept.{Kept}
+use Rattle.area.proofs.Kept.{kept-same, kept-then, kept-less}
+use Rattle.type_table.specs.Table.{typesIn}
 use Rattle.walk.specs.Walk.{begin, fieldsIn}
 use Rattle.walk.proofs.Steps.{ahead-kept}
 use Rattle.scope.specs.Scope.{scopeIn}
-use Rattle.content.specs.Entry.{Entries, entriesOf}
-use Rattle.parts.specs.Tally.{tallies, noTally}
-use Rattle.parts.specs.Content.{kept, bytesIn, typeEntries}
-use Rattle.parts.specs.declared.tally.Tally.{Tally}
-use Rattle.parts.proofs.Keeping.{section-append, joined-append}
+use Rattle.deinline.specs.Entry.{Entries, entriesOf}
+use Rattle.kept.specs.Tally.{tallies, noTally}
+use Rattle.kept.specs.Content.{kept, bytesIn, typeEntries}
+use Rattle.kept.specs.declared.tally.Tally.{Tally}
+use Rattle.kept.proofs.Keeping.{section-append, joined-append}
 use Rattle.module.specs.Length.{Counted, contentLen, moduleLen, sectionsFrom}
-use Rattle.section_entries.specs.Added.{typeBytes}
-use Rattle.section_entries.specs.Write.{Writes, Writable, Held, Counts, allEntries, addedIn, keptItems, moduleItems}
+use Rattle.sections.specs.Added.{typeBytes}
+use Rattle.sections.specs.Write.{Writes, Writable, Held, Counts, allEntries, addedIn, keptItems, moduleItems}
 use Rattle.module.proofs.Full.{good-items}
 use Rattle.module.proofs.Lengths.{size-of, count-of, content-long, module-is, module-long}
-use Rattle.section_entries.proofs.Emitting.{scope-same, types-same, recalled-same}
+use Rattle.sections.proofs.Emitting.{scope-same, types-same, recalled-same}
 
 -- ## The added types
 
@@ -56,17 +57,17 @@ module _ (k declared : ℕ) (s w old : List ℕ) (at : ℕ) where
 -- ## The work area
 
 -- all entries are as they were
-pub all-same : (declared : ℕ) (s w w′ : List ℕ) → Kept 11536 w w′ → allEntries declared s w′ ≡ allEntries declared s w
+pub all-same : (declared : ℕ) (s w w′ : List ℕ) → Kept LOCALS w w′ → allEntries declared s w′ ≡ allEntries declared s w
 unfolding allEntries
 all-same declared s w w′ k = rw (scope-same s w w′ k, types-same s w w′ k) refl
 
-pub writable-same : (s w w′ : List ℕ) → Kept 11536 w w′ → Writable s w → Writable s w′
+pub writable-same : (s w w′ : List ℕ) → Kept LOCALS w w′ → Writable s w → Writable s w′
 writable-same s w w′ k v =
     let d = scope-same s w w′ k in
     record {
       stream = v .stream;
       room = rw (k .long) (v .room);
-      ahead = ahead-kept s w w′ begin (kept-less 520 11536 (omega arith) k) (v .ahead);
+      ahead = ahead-kept s w w′ begin (kept-less TYPES LOCALS (omega arith) k) (v .ahead);
       recalled = recalled-same s w w′ _ k (v .recalled);
       fine = rw d (v .fine);
     }
@@ -79,7 +80,7 @@ past-more at m n = omega arith
 -- ## The content
 
 module _ (k declared : ℕ) (s w w′ old : List ℕ) (at : ℕ) where
-  pub area-room : (bs new : Bytes) (a : ℕ) → Writable s w → Writes bs old at a new w w′ → 16384 ≤ length w′
+  pub area-room : (bs new : Bytes) (a : ℕ) → Writable s w → Writes bs old at a new w w′ → WORDS ≤ length w′
   area-room bs new a v p = rw (p .area .long) (v .room)
 
   -- those of the fields, and those of the added types
@@ -179,7 +180,7 @@ module _ (t : Tally) (es : Entries) (c : Counted t es) (k : ℕ) (h : k < 12) wh
   section-none old at w z g = go (inSection k es) (count-of c k h)
     where
       go : (bs : List Bytes) → getD (t .counts) k 0 ≡ past 0 (length bs) → Writes (sectionOf k bs) old at at old w w
-      go [] e = record { put = put-none at (omega arith); area = kept-same 11536 w }
+      go [] e = record { put = put-none at (omega arith); area = kept-same LOCALS w }
       go (b ∷ bs) e = absurd (past-some (length bs) (sym e ∙ z))
 
   pub section-some : (n a q : ℕ) (old mid new : Bytes) (at : ℕ) (w w′ : List ℕ) → (getD (t .counts) k 0 ≡ 0 → ⊥) → n ≡ contentLen k (getD (t .sizes) k 0) (getD (t .counts) k 0)
@@ -200,7 +201,7 @@ pub record Sectioning (t : Tally) (declared : ℕ) (kept s w₀ old : List ℕ) 
   pub writable : Writable s w
   pub held : Held kept (allEntries declared s w)
   pub counted : Counted t (allEntries declared s w)
-  pub area : Kept 11536 w₀ w
+  pub area : Kept LOCALS w₀ w
   pub done : Bytes
   pub so-far : Put old at done o out
   pub same : done ++ sectionsFrom left k (allEntries declared s w) ≡ sectionsFrom 11 1 (allEntries declared s w₀)
@@ -212,7 +213,7 @@ sections-begin t declared kept s w old at v k c h = record {
   writable = v;
   held = k;
   counted = c;
-  area = kept-same 11536 w;
+  area = kept-same LOCALS w;
   done = [];
   so-far = put-none at (omega arith);
   same = refl;

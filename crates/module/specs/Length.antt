@@ -8,9 +8,9 @@ use Rattle.definition.specs.Basic.{if_then_else_}
 use Rattle.definition.specs.Syntax.{Bytes}
 use Rattle.definition.specs.Binary.{u, inSection, joined, section}
 use Rattle.emit.specs.Put.{past}
-use Rattle.content.specs.Entry.{Entries}
-use Rattle.parts.specs.Tally.{tallies, noTally}
-use Rattle.parts.specs.declared.tally.Tally.{Tally}
+use Rattle.deinline.specs.Entry.{Entries}
+use Rattle.kept.specs.Tally.{tallies, noTally}
+use Rattle.kept.specs.declared.tally.Tally.{Tally}
 
 -- no section has more entries than bytes
 pub record Good (es : Entries) : Type 0 where

@@ -1,5 +1,5 @@
 // How long the module is, by the tally of its sections' entries. Lengths saturate, as places do.
-use parts::Tally;
+use kept::Tally;
 ghost use mathlib.Core.Path.{_≡_};
 ghost use Prim.Native.Nat.{_<_};
 ghost use Rattle.module.specs.Length.{contentLen, sizedLen, sectionLen, moduleLen};

@@ -1,17 +1,18 @@
 // The bytes of the module. `declared` is the number of types that fields declare, and `t` the tally of all entries.
 use crate::length::content_len;
-use parts::Tally;
-use section_entries::emit_fields;
-use section_entries::put_types;
+use kept::Tally;
+use sections::emit_fields;
+use sections::put_types;
 ghost use mathlib.Core.Path.{_≡_};
 ghost use mathlib.Core.List.{_∷_};
 ghost use Prim.Native.Nat.{_≤_, _<_};
 ghost use lib.ListN.{length};
+ghost use Rattle.area.specs.Layout.{WORDS};
 ghost use Rattle.definition.specs.Binary as Binary;
 ghost use Rattle.emit.specs.Put.{Put, past};
-ghost use Rattle.parts.specs.Tally.{tallies, noTally};
+ghost use Rattle.kept.specs.Tally.{tallies, noTally};
 ghost use Rattle.module.specs.Length.{Counted, sectionsFrom};
-ghost use Rattle.section_entries.specs.Write.{Writes, Writable, Held, Counts, allEntries, addedIn, moduleItems};
+ghost use Rattle.sections.specs.Write.{Writes, Writable, Held, Counts, allEntries, addedIn, moduleItems};
 
 // The magic and the version.
 fn put_preamble(out: &mut [u8], at: usize) -> usize
@@ -22,7 +23,7 @@ fn put_preamble(out: &mut [u8], at: usize) -> usize
 
 // The added types are entries of section 1.
 fn put_added(k: u8, declared: u32, s: &[u8], work: &[u32], out: &mut [u8], at: usize) -> usize
-    requires { ⌜ 16384 ≤ length (now work) ⌝ }
+    requires { ⌜ WORDS ≤ length (now work) ⌝ }
     ensures { λ r. ⌜ Put (now (out .entry)) at (addedIn k declared (now (s .entry)) (now (work .entry))) r (now (out .exit)) ⌝ }
 {
     if k == 1 {
@@ -62,8 +63,8 @@ fn put_entries(
     requires { ⌜ (k < 12) × Writable (now s) (now work) × Held (now kept) (allEntries declared (now s) (now work)) × (size ≡ past 0 (length (Binary.joined (Binary.inSection k (allEntries declared (now s) (now work)))))) ⌝ }
     ensures { λ r. ⌜ Writes (Binary.joined (Binary.inSection k (allEntries declared (now (s .entry)) (now (work .entry))))) (now (out .entry)) at r (now (out .exit)) (now (work .entry)) (now (work .exit)) ⌝ }
 {
-    let a = parts::start_of(kept.len(), k);
-    let b = parts::start_of(kept.len(), k + 1);
+    let a = kept::start_of(kept.len(), k);
+    let b = kept::start_of(kept.len(), k + 1);
     if size <= b - a {
         return emit::copy(out, at, &kept[a..a + size]);
     }

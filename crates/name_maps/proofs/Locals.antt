@@ -13,15 +13,17 @@ use Rattle.definition.specs.Token as Token
 use Rattle.definition.specs.Types.{isInline}
 use Rattle.definition.specs.Names.{Namespace, typeNo, paramCount, paramNames, localsOf}
 use Rattle.definition.specs.Binary.{u, vec}
+use Rattle.syntax.specs.Refusals.{refusedBy}
+use Rattle.syntax.specs.declared.Refusal.{Refusal}
 use Rattle.emit.specs.Put.{Put}
 use Rattle.emit.proofs.Laws.{put-none, put-then, put-is}
-use Rattle.typeuse.specs.Views.{listOf, useOf, onStep, elements}
-use Rattle.typeuse.specs.declared.List as Code
-use Rattle.typeuse.specs.declared.TypeUse.{TypeUse}
+use Rattle.syntax.specs.TypeUses.{listOf, useOf, onStep, elements}
+use Rattle.syntax.specs.declared.List as Code
+use Rattle.syntax.specs.declared.TypeUse.{TypeUse}
 use Rattle.definition.specs.Reader.{Step, got, fault}
-use Rattle.signatures.specs.Table.{typesIn}
-use Rattle.binary.specs.Views.{typeNoOf}
-use Rattle.binary.specs.declared.instructions.TypeNo.{TypeNo}
+use Rattle.type_table.specs.Table.{typesIn}
+use Rattle.syntax.specs.Resolved.{typeNoOf}
+use Rattle.syntax.specs.declared.TypeNo.{TypeNo}
 use Rattle.scope.specs.Scope.{scopeIn}
 use Rattle.scope.specs.Answers.{typeAnswer}
 use Rattle.scope.specs.declared.types.TypeAt.{TypeAt}
@@ -104,10 +106,10 @@ module _ (s w : List ℕ) (rec : ℕ) (t : TypeUse) (ls : Code.List) (here : ℕ
       let d : localsBy (typesIn s w) (useOf s t) (listOf Token.param s ls) (ok (typeNoOf n)) ≡ ownLocals (scopeIn s w) s rec t ls = ap (localsBy (typesIn s w) (useOf s t) (listOf Token.param s ls)) (sym (told ∙ ap typeAnswer e)) in
       subst (λ is. Names is (first here 0) old r new) d v
 
-  pub own-refused : (k j : ℕ) (r : Reached) → q ≡ T.Refused k j → r ≡ first here 0 → length old * 1 < 2 ^ 63 → Names (ownLocals (scopeIn s w) s rec t ls) (first here 0) old r old
+  pub own-refused : (j : Refusal) (r : Reached) → q ≡ T.Refused j → r ≡ first here 0 → length old * 1 < 2 ^ 63 → Names (ownLocals (scopeIn s w) s rec t ls) (first here 0) old r old
   unfolding ownLocals scopeIn namedFrom
-  own-refused k j r e d g =
-      let c : localsBy (typesIn s w) (useOf s t) (listOf Token.param s ls) (refused k j) ≡ ownLocals (scopeIn s w) s rec t ls = ap (localsBy (typesIn s w) (useOf s t) (listOf Token.param s ls)) (sym (told ∙ ap typeAnswer e)) in
+  own-refused j r e d g =
+      let c : localsBy (typesIn s w) (useOf s t) (listOf Token.param s ls) (refusedBy j) ≡ ownLocals (scopeIn s w) s rec t ls = ap (localsBy (typesIn s w) (useOf s t) (listOf Token.param s ls)) (sym (told ∙ ap typeAnswer e)) in
       subst (λ is. Names is (first here 0) old r old) c (rw d (adds-none nameAssoc (first here 0) old g))
 
 -- ## The entry of one function

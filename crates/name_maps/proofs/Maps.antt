@@ -15,15 +15,16 @@ use Rattle.definition.specs.Names.{Namespace}
 use Rattle.definition.specs.Binary.{u, sized}
 use Rattle.emit.specs.Put.{Put}
 use Rattle.emit.proofs.Laws.{put-none, put-then, put-is}
-use Rattle.token.specs.Views.{partOf, idOf}
-use Rattle.token.specs.declared.text.Part.{Part}
-use Rattle.typeuse.specs.Views.{localAt}
-use Rattle.typeuse.specs.declared.Local.{Local}
-use Rattle.typeuse.specs.declared.LocalAt.{LocalAt}
-use Rattle.typeuse.specs.declared.LocalAt.the-variants as O
+use Rattle.area.specs.Layout.{NAMED, NAMES, WORDS}
+use Rattle.syntax.specs.Tokens.{partOf, idOf}
+use Rattle.syntax.specs.declared.Part.{Part}
+use Rattle.syntax.specs.TypeUses.{localAt}
+use Rattle.syntax.specs.declared.Local.{Local}
+use Rattle.syntax.specs.declared.LocalAt.{LocalAt}
+use Rattle.syntax.specs.declared.LocalAt.the-variants as O
 use Rattle.operands.proofs.Elements.{elements-none, elements-more, elements-fault}
-use Rattle.space.specs.Area.{tagOf, entry, names}
-use Rattle.names.specs.Register.{base, tableOf}
+use Rattle.name_table.specs.Area.{tagOf, entry, names}
+use Rattle.name_table.specs.Tables.{base, tableOf}
 use Rattle.frames.specs.Locals.{idsAt}
 use Rattle.definition.specs.NameSection.{namedFrom, nameAssoc}
 use Rattle.name_maps.specs.Maps.{first, Adds, Names, Few}
@@ -110,7 +111,7 @@ pub record Naming (s w old : List ℕ) (at left place : ℕ) (x : Reached) (out 
   pub so-far : Names done (first at 0) old x out
   pub same : done ++ names left s w place ≡ tableOf funcs s w
 
-pub naming-begin : (s w old : List ℕ) (at n : ℕ) (x : Reached) → n ≡ min (getD w 5897 0) 256 → x ≡ first at 0 → length old * 1 < 2 ^ 63 → Naming s w old at n 5904 x old
+pub naming-begin : (s w old : List ℕ) (at n : ℕ) (x : Reached) → n ≡ min (getD w NAMED 0) 256 → x ≡ first at 0 → length old * 1 < 2 ^ 63 → Naming s w old at n NAMES x old
 unfolding tableOf base namedFrom
 naming-begin s w old at n x e d h = rw d (record {
   low = omega arith;
@@ -124,7 +125,7 @@ module _ (s w old : List ℕ) (at left place : ℕ) (x : Reached) (out : List �
   pub naming-few : Few 8589934592 x
   naming-few = record { low = omega (arith, v .sum); fewer = omega (arith, v .so-far .number, v .so-far .count, named-few 0 (v .done)) }
 
-  pub naming-room : 0 < left → 16384 ≤ length w → place + 2 < length w
+  pub naming-room : 0 < left → WORDS ≤ length w → place + 2 < length w
   naming-room h g = omega (arith, v .low)
 
   pub naming-next : 0 < left → Fits w64 (place + 3)

@@ -13,29 +13,30 @@ use Rattle.definition.specs.Types as Types
 use Rattle.definition.specs.Types.{uses, usedAt}
 use Rattle.definition.specs.Names.{Namespace, Scope}
 use Rattle.emit.proofs.Laws.{put-none}
-use Rattle.typeuse.specs.Views.{listOf, useOf}
-use Rattle.typeuse.specs.declared.List as Code
-use Rattle.typeuse.specs.declared.TypeUse.{TypeUse}
-use Rattle.sources.specs.declared.import.Extern.the-variants as X
-use Rattle.sources.specs.declared.source.Own.{Own}
-use Rattle.sources.specs.declared.source.Own.the-variants as O
-use Rattle.sources.specs.declared.source.Source.{Source}
-use Rattle.sources.specs.declared.source.Source.the-variants as S
-use Rattle.fields.specs.Views.{fieldOf}
-use Rattle.fields.specs.declared.field.Field.{Field}
-use Rattle.fields.specs.declared.field.Field.the-variants as F
-use Rattle.signatures.specs.Table.{typesIn, Recalled}
+use Rattle.area.specs.Layout.{WORDS}
+use Rattle.syntax.specs.TypeUses.{listOf, useOf}
+use Rattle.syntax.specs.declared.List as Code
+use Rattle.syntax.specs.declared.TypeUse.{TypeUse}
+use Rattle.syntax.specs.declared.Extern.the-variants as X
+use Rattle.syntax.specs.declared.Own.{Own}
+use Rattle.syntax.specs.declared.Own.the-variants as O
+use Rattle.syntax.specs.declared.Source.{Source}
+use Rattle.syntax.specs.declared.Source.the-variants as S
+use Rattle.syntax.specs.Fields.{fieldOf}
+use Rattle.syntax.specs.declared.Field.{Field}
+use Rattle.syntax.specs.declared.Field.the-variants as F
+use Rattle.type_table.specs.Table.{typesIn, Recalled}
 use Rattle.walk.specs.Walk.{Ahead, begin, fieldsIn, fieldsAhead, fieldsHere, visitIn, visitOf}
 use Rattle.walk.specs.declared.Cursor.{Cursor}
 use Rattle.walk.specs.declared.Met.{Met}
 use Rattle.walk.specs.declared.What.the-variants as W
 use Rattle.walk.proofs.Steps.{visit-done, visit-less, visit-fields, visit-ahead}
-use Rattle.types.proofs.Fields.{uses-append}
+use Rattle.laws.proofs.Uses.{uses-append}
 use Rattle.scope.specs.Scope.{scopeIn}
 use Rattle.scope.proofs.Frames.{recalled-left, recalled-right}
-use Rattle.content.specs.Entry.{usesOf, itemIn, secondOf, three}
-use Rattle.content.proofs.Uses.{RecalledThree, recalled-here}
-use Rattle.section_entries.specs.Write.{Writable}
+use Rattle.deinline.specs.Entry.{usesOf, itemIn, secondOf, three}
+use Rattle.deinline.proofs.Uses.{RecalledThree, recalled-here}
+use Rattle.sections.specs.Write.{Writable}
 use Rattle.definition.specs.NameSection as Definition
 use Rattle.definition.specs.NameSection.{NameMap, namedFrom, importedFunction, functionIn, functions, unlessEmpty, localNamesFrom, indirectNameAssoc}
 use Rattle.name_maps.specs.Maps.{first, Adds, LocalNames, Few, functionOfOwn, functionOfSource, functionOf, ownLocals, broughtLocals, RecalledOf}
@@ -161,7 +162,7 @@ functions-append Γ fs gs = concat-append (λ x. functionIn Γ (x .0) (x .1)) fs
 
 -- the functions before the cursor are done
 pub record Walking (s w old : List ℕ) (here : ℕ) (c : Cursor) (x : Reached) (out : List ℕ) : Type 0 where
-  pub room : 16384 ≤ length w
+  pub room : WORDS ≤ length w
   pub ahead : Ahead s w c
   pub recalled : Recalled w (typesIn s w) (uses (fieldsAhead c s))
   pub sum : x .number + c .left ≤ 4096

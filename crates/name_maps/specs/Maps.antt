@@ -10,18 +10,18 @@ use Rattle.definition.specs.Types as Types
 use Rattle.definition.specs.Types.{usedAt}
 use Rattle.definition.specs.Names.{Namespace, Scope, typeNo}
 use Rattle.emit.specs.Put.{Put}
-use Rattle.typeuse.specs.Views.{listOf, useOf}
-use Rattle.typeuse.specs.declared.List as Code
-use Rattle.typeuse.specs.declared.TypeUse.{TypeUse}
-use Rattle.sources.specs.declared.import.Extern.{Extern}
-use Rattle.sources.specs.declared.import.Extern.the-variants as X
-use Rattle.sources.specs.declared.source.Own.{Own}
-use Rattle.sources.specs.declared.source.Own.the-variants as O
-use Rattle.sources.specs.declared.source.Source.{Source}
-use Rattle.sources.specs.declared.source.Source.the-variants as S
-use Rattle.fields.specs.declared.field.Field.{Field}
-use Rattle.fields.specs.declared.field.Field.the-variants as F
-use Rattle.signatures.specs.Table.{Recalled}
+use Rattle.syntax.specs.TypeUses.{listOf, useOf}
+use Rattle.syntax.specs.declared.List as Code
+use Rattle.syntax.specs.declared.TypeUse.{TypeUse}
+use Rattle.syntax.specs.declared.Extern.{Extern}
+use Rattle.syntax.specs.declared.Extern.the-variants as X
+use Rattle.syntax.specs.declared.Own.{Own}
+use Rattle.syntax.specs.declared.Own.the-variants as O
+use Rattle.syntax.specs.declared.Source.{Source}
+use Rattle.syntax.specs.declared.Source.the-variants as S
+use Rattle.syntax.specs.declared.Field.{Field}
+use Rattle.syntax.specs.declared.Field.the-variants as F
+use Rattle.type_table.specs.Table.{Recalled}
 use Rattle.definition.specs.NameSection.{namedFrom, localsBy, localNamesFrom, nameAssoc, indirectNameAssoc}
 use Rattle.name_maps.specs.declared.map.Reached.{Reached}
 use Rattle.name_maps.specs.declared.functions.Function.{Function}

@@ -2,30 +2,31 @@
 use crate::map::Reached;
 use crate::map::begin;
 use crate::map::put_list;
-use binary::TypeNo;
-use fields::Field;
 use scope::TypeAt;
-use sources::Extern;
-use sources::Own;
-use sources::Source;
-use typeuse::List;
-use typeuse::TypeUse;
+use syntax::Extern;
+use syntax::Field;
+use syntax::List;
+use syntax::Own;
+use syntax::Source;
+use syntax::TypeNo;
+use syntax::TypeUse;
 use walk::What;
 ghost use mathlib.Core.Path.{_≡_};
 ghost use mathlib.Core.List.{[], _∷_, _++_};
 ghost use mathlib.Core.Option.{none};
 ghost use Prim.Native.Nat.{_≤_};
 ghost use lib.ListN.{length, replicate};
+ghost use Rattle.area.specs.Layout.{WORDS};
 ghost use Rattle.definition.specs.Token as Token;
 ghost use Rattle.definition.specs.Types as Types;
 ghost use Rattle.definition.specs.Names as Definition;
-ghost use Rattle.typeuse.specs.Views.{listOf, useOf};
-ghost use Rattle.signatures.specs.Table.{typesIn, Recalled};
-ghost use Rattle.binary.specs.Views.{typeNoOf};
+ghost use Rattle.syntax.specs.TypeUses.{listOf, useOf};
+ghost use Rattle.type_table.specs.Table.{typesIn, Recalled};
+ghost use Rattle.syntax.specs.Resolved.{typeNoOf};
 ghost use Rattle.walk.specs.Walk.{fieldsIn};
 ghost use Rattle.scope.specs.Scope.{scopeIn};
 ghost use Rattle.frames.specs.Locals.{idsOf};
-ghost use Rattle.section_entries.specs.Write.{Writable};
+ghost use Rattle.sections.specs.Write.{Writable};
 ghost use Rattle.definition.specs.NameSection.{namedFrom, functions};
 ghost use Rattle.name_maps.specs.Maps.{first, Names, LocalNames, Few, functionOfExtern, functionOfOwn, functionOfSource, functionOf, ownLocals, broughtLocals, RecalledOf};
 
@@ -132,13 +133,13 @@ fn put_typed(
     t: TypeUse,
     ls: List,
 ) -> Reached
-    requires { ⌜ 16384 ≤ length (now work) ⌝ }
+    requires { ⌜ WORDS ≤ length (now work) ⌝ }
     ensures { λ r. ⌜ Names (Definition.localsOf (typesIn (now (s .entry)) (now (work .entry))) (typeNoOf n) (useOf (now (s .entry)) t) (listOf Token.param (now (s .entry)) ls)) (first at 0) (now (out .entry)) r (now (out .exit)) ⌝ }
 {
-    if signatures::is_inline(s, t) {
+    if type_table::is_inline(s, t) {
         return put_inline(s, out, at, t.params, ls);
     }
-    let nameless = signatures::param_count(s, work, n.0);
+    let nameless = type_table::param_count(s, work, n.0);
     put_nameless(s, out, at, nameless, ls)
 }
 
@@ -152,18 +153,18 @@ fn put_own(
     ls: List,
     rec: u32,
 ) -> Reached
-    requires { ⌜ (16384 ≤ length (now work)) × Recalled (now work) (typesIn (now s) (now work)) (Types.usedAt rec (Types.useOf (useOf (now s) t))) ⌝ }
+    requires { ⌜ (WORDS ≤ length (now work)) × Recalled (now work) (typesIn (now s) (now work)) (Types.usedAt rec (Types.useOf (useOf (now s) t))) ⌝ }
     ensures { λ r. ⌜ Names (ownLocals (scopeIn (now (s .entry)) (now (work .entry))) (now (s .entry)) rec t ls) (first at 0) (now (out .entry)) r (now (out .exit)) ⌝ }
 {
     match scope::type_no(s, work, t, rec) {
         TypeAt::To(n) => put_typed(s, work, out, at, n, t, ls),
-        TypeAt::Refused(_, _) => begin(at, 0),
+        TypeAt::Refused(_) => begin(at, 0),
     }
 }
 
 // How many they are, on an empty part.
 fn named_count(s: &[u8], work: &[u32], t: TypeUse, ls: List, rec: u32) -> u64
-    requires { ⌜ (16384 ≤ length (now work)) × Recalled (now work) (typesIn (now s) (now work)) (Types.usedAt rec (Types.useOf (useOf (now s) t))) ⌝ }
+    requires { ⌜ (WORDS ≤ length (now work)) × Recalled (now work) (typesIn (now s) (now work)) (Types.usedAt rec (Types.useOf (useOf (now s) t))) ⌝ }
     ensures { λ r. ⌜ r ≡ length (namedFrom 0 (ownLocals (scopeIn (now (s .entry)) (now (work .entry))) (now (s .entry)) rec t ls)) ⌝ }
 {
     let mut none = [0u8; 1];
@@ -181,7 +182,7 @@ fn put_entry(
     ls: List,
     rec: u32,
 ) -> Reached
-    requires { ⌜ (16384 ≤ length (now work)) × Recalled (now work) (typesIn (now s) (now work)) (Types.usedAt rec (Types.useOf (useOf (now s) t))) × Few 4096 x ⌝ }
+    requires { ⌜ (WORDS ≤ length (now work)) × Recalled (now work) (typesIn (now s) (now work)) (Types.usedAt rec (Types.useOf (useOf (now s) t))) × Few 4096 x ⌝ }
     ensures { λ r. ⌜ LocalNames (ownLocals (scopeIn (now (s .entry)) (now (work .entry))) (now (s .entry)) rec t ls ∷ []) x (now (out .entry)) r (now (out .exit)) ⌝ }
 {
     let number = x.number + 1;
@@ -212,7 +213,7 @@ fn put_function(
     f: Function,
     rec: u32,
 ) -> Reached
-    requires { ⌜ (16384 ≤ length (now work)) × RecalledOf (now s) (now work) (typesIn (now s) (now work)) rec f × Few 4096 x ⌝ }
+    requires { ⌜ (WORDS ≤ length (now work)) × RecalledOf (now s) (now work) (typesIn (now s) (now work)) rec f × Few 4096 x ⌝ }
     ensures { λ r. ⌜ LocalNames (broughtLocals (scopeIn (now (s .entry)) (now (work .entry))) (now (s .entry)) rec f) x (now (out .entry)) r (now (out .exit)) ⌝ }
 {
     match f {

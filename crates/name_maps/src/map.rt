@@ -1,15 +1,16 @@
 // Name maps: numbers with their names, in the order of the numbers.
-use token::Part;
-use typeuse::List;
-use typeuse::LocalAt;
+use syntax::List;
+use syntax::LocalAt;
+use syntax::Part;
 ghost use mathlib.Core.Path.{_≡_};
 ghost use mathlib.Core.List.{[], _∷_};
 ghost use Prim.Native.Nat.{_+_, _≤_, _<_, min};
 ghost use lib.ListN.{length, getD};
+ghost use Rattle.area.specs.Layout.{NAMED, WORDS};
 ghost use Rattle.definition.specs.Syntax.{funcs};
-ghost use Rattle.token.specs.Views.{idOf};
-ghost use Rattle.space.specs.Area.{entry};
-ghost use Rattle.names.specs.Register.{tableOf};
+ghost use Rattle.syntax.specs.Tokens.{idOf};
+ghost use Rattle.name_table.specs.Area.{entry};
+ghost use Rattle.name_table.specs.Tables.{tableOf};
 ghost use Rattle.frames.specs.Locals.{idsOf};
 ghost use Rattle.name_maps.specs.Maps.{Few, Names, first};
 
@@ -55,10 +56,10 @@ fn put_next(out: &mut [u8], x: Reached, s: &[u8], id: Part) -> Reached
 
 // How many names the table of functions has: 256 at most, whatever its word says.
 fn function_count(work: &[u32]) -> u32
-    requires { ⌜ 16384 ≤ length (now work) ⌝ }
-    ensures { λ r. ⌜ r ≡ min (getD (now (work .entry)) 5897 0) 256 ⌝ }
+    requires { ⌜ WORDS ≤ length (now work) ⌝ }
+    ensures { λ r. ⌜ r ≡ min (getD (now (work .entry)) NAMED 0) 256 ⌝ }
 {
-    let n = work[5897];
+    let n = work[area::NAMED];
     if n < 256 {
         return n;
     }
@@ -70,14 +71,14 @@ fn entry_at(s: &[u8], work: &[u32], place: usize) -> Part
     requires { ⌜ place + 2 < length (now work) ⌝ }
     ensures { λ r. ⌜ idOf (now (s .entry)) r ≡ entry (now (s .entry)) (now (work .entry)) place ⌝ }
 {
-    let at = space::word(work, place);
-    let len = space::word(work, place + 1);
-    let tag = space::word(work, place + 2);
+    let at = area::word(work, place);
+    let len = area::word(work, place + 1);
+    let tag = area::word(work, place + 2);
     let id = Part {
         at: at as usize,
         len,
     };
-    if space::tag_of(token::bytes_of(s, id)) == tag {
+    if name_table::tag_of(token::bytes_of(s, id)) == tag {
         return id;
     }
     Part { at: 0, len: 0 }
@@ -94,11 +95,11 @@ fn put_place(s: &[u8], work: &[u32], out: &mut [u8], x: Reached, place: usize) -
 
 // The names of all functions.
 pub fn put_functions(s: &[u8], work: &[u32], out: &mut [u8], at: usize) -> Reached
-    requires { ⌜ 16384 ≤ length (now work) ⌝ }
+    requires { ⌜ WORDS ≤ length (now work) ⌝ }
     ensures { λ r. ⌜ Names (tableOf funcs (now (s .entry)) (now (work .entry))) (first at 0) (now (out .entry)) r (now (out .exit)) ⌝ }
 {
     let mut left = function_count(work);
-    let mut place = 5904;
+    let mut place = area::NAMES;
     let mut x = begin(at, 0);
     while 0 < left {
         x = put_place(s, work, out, x, place);

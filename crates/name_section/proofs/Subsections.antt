@@ -12,16 +12,17 @@ use Rattle.definition.specs.Syntax.{Bytes, Identifier, funcs}
 use Rattle.definition.specs.Binary.{unsigned, u, sized, joined, content, sectionOf}
 use Rattle.emit.specs.Put.{Put, past}
 use Rattle.emit.proofs.Laws.{put-none, put-then, put-is}
-use Rattle.space.specs.Kept.{Kept}
-use Rattle.names.specs.Register.{tableOf}
+use Rattle.area.specs.Layout.{LOCALS}
+use Rattle.area.specs.Kept.{Kept}
+use Rattle.name_table.specs.Tables.{tableOf}
 use Rattle.walk.specs.Walk.{fieldsIn}
 use Rattle.scope.specs.Scope.{scopeIn}
-use Rattle.parts.specs.Tally.{reached, noTally}
-use Rattle.parts.specs.declared.tally.Tally.{Tally}
+use Rattle.kept.specs.Tally.{reached, noTally}
+use Rattle.kept.specs.declared.tally.Tally.{Tally}
 use Rattle.module.specs.Length.{contentLen, sizedLen, sectionLen}
 use Rattle.module.proofs.Full.{u-only, first-some}
 use Rattle.module.proofs.Lengths.{past-past, past-measured, past-none, past-from, content-long, sized-long, entries-long}
-use Rattle.section_entries.proofs.Emitting.{scope-same}
+use Rattle.sections.proofs.Emitting.{scope-same}
 use Rattle.module.proofs.Sections.{counted-put, headed-put, past-some}
 use Rattle.definition.specs.NameSection.{NameMap, namedFrom, functions, localNamesFrom, nameAssoc, indirectNameAssoc, subsections, sectionName, customOf, nameSection}
 use Rattle.name_maps.specs.Maps.{first, Adds, Names, LocalNames}
@@ -200,7 +201,7 @@ module _ (s w : List ℕ) (t : Tally) (v : NameTally s w t) (old : Bytes) (here 
 
 -- ## The work area
 
-module _ (s w w′ : List ℕ) (k : Kept 11536 w w′) where
+module _ (s w w′ : List ℕ) (k : Kept LOCALS w w′) where
   functions-kept : functionEntries s w′ ≡ functionEntries s w
   unfolding functionEntries
   functions-kept = rw (scope-same s w w′ k) refl

@@ -10,7 +10,7 @@ use Rattle.definition.specs.Binary.{u, joined}
 use Rattle.emit.specs.Put.{past}
 use Rattle.walk.specs.Walk.{fieldsIn}
 use Rattle.scope.specs.Scope.{scopeIn}
-use Rattle.parts.specs.declared.tally.Tally.{Tally}
+use Rattle.kept.specs.declared.tally.Tally.{Tally}
 use Rattle.module.specs.Length.{contentLen, sizedLen, sectionLen}
 use Rattle.definition.specs.NameSection.{namedFrom, functions, localNamesFrom, nameAssoc, indirectNameAssoc, nameSection}
 use Rattle.name_maps.specs.declared.map.Reached.{Reached}

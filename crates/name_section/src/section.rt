@@ -1,23 +1,24 @@
 // The section: its name, and its subsections 1 (functions) and 2 (locals). A subsection has the form of a section.
+use kept::Tally;
 use module::length::content_len;
 use module::length::sized_len;
 use module::write::put_head;
 use name_maps::Reached;
 use name_maps::put_functions;
 use name_maps::put_locals;
-use parts::Tally;
 ghost use mathlib.Core.Path.{_≡_};
 ghost use Prim.Native.Nat.{_≤_, _<_};
 ghost use lib.ListN.{length};
+ghost use Rattle.area.specs.Layout.{WORDS};
 ghost use Rattle.definition.specs.Binary as Binary;
 ghost use Rattle.emit.specs.Put.{Put};
-ghost use Rattle.section_entries.specs.Write.{Writable};
+ghost use Rattle.sections.specs.Write.{Writable};
 ghost use Rattle.definition.specs.NameSection.{sectionName};
 ghost use Rattle.name_section.specs.Section.{functionEntries, localEntries, NameTally, lengthOf, subsectionsLen, nameLen, namesIn, SizeOf};
 
 // The entries of each subsection on an empty part: where they end is how long they are.
 fn measure_functions(s: &[u8], work: &[u32]) -> Reached
-    requires { ⌜ 16384 ≤ length (now work) ⌝ }
+    requires { ⌜ WORDS ≤ length (now work) ⌝ }
     ensures { λ r. ⌜ SizeOf (functionEntries (now (s .entry)) (now (work .entry))) r ⌝ }
 {
     let mut none = [0u8; 1];
@@ -43,8 +44,8 @@ pub fn measure(s: &[u8], work: &[u32]) -> Tally
         sizes: [0; 12],
         counts: [0; 12],
     };
-    let t = parts::reach(none, 1, f.at, f.count);
-    parts::reach(t, 2, l.at, l.count)
+    let t = kept::reach(none, 1, f.at, f.count);
+    kept::reach(t, 2, l.at, l.count)
 }
 
 // How long both subsections are.

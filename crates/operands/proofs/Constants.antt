@@ -7,11 +7,12 @@ use Rattle.definition.specs.Syntax as Syntax
 use Rattle.definition.specs.Names.{plainOp, constOp}
 use Rattle.definition.specs.Binary as Binary
 use Rattle.definition.specs.Binary.{imm, instruction}
+use Rattle.syntax.specs.declared.Refusal.{Refusal}
 use Rattle.emit.specs.Put.{Put}
 use Rattle.emit.proofs.Laws.{put-cons}
-use Rattle.expr.specs.Views.{plainIs}
-use Rattle.expr.specs.declared.Plain.{Plain}
-use Rattle.space.specs.Area as Area
+use Rattle.syntax.specs.Plain.{plainIs}
+use Rattle.syntax.specs.declared.Plain.{Plain}
+use Rattle.name_table.specs.Area as Area
 use Rattle.scope.specs.Scope.{scopeIn, localsIn, labelsIn}
 use Rattle.scope.specs.declared.Locals.{Locals}
 use Rattle.binary.specs.Emits.{Emits}
@@ -39,10 +40,10 @@ module _ (s w : List ℕ) (rec : ℕ) (c : Plain) (old : List ℕ) (at : ℕ) (q
       let v = was-wrote instruction (plainOp (scopeIn s w) (localsIn s w noLocals) (labelsIn s w 0) rec (plainIs s c)) old at mid q o told d in
       wrote constBytes (constOp (scopeIn s w) rec (plainIs s c)) old at new (v .value) r (put-expr (v .value) (v .put) p) (sym same ∙ v .is)
 
-  pub const-not : (n r : ℕ) → q ≡ E.Refused n r → Emits constBytes (constOp (scopeIn s w) rec (plainIs s c)) old at (E.Refused n r) mid
-  const-not n r d =
-      halts constBytes (constOp (scopeIn s w) rec (plainIs s c)) old at mid n r
-      (sym same ∙ has-halted instruction (plainOp (scopeIn s w) (localsIn s w noLocals) (labelsIn s w 0) rec (plainIs s c)) old at mid q n r told d)
+  pub const-not : (r : Refusal) → q ≡ E.Refused r → Emits constBytes (constOp (scopeIn s w) rec (plainIs s c)) old at (E.Refused r) mid
+  const-not r d =
+      halts constBytes (constOp (scopeIn s w) rec (plainIs s c)) old at mid r
+      (sym same ∙ has-halted instruction (plainOp (scopeIn s w) (localsIn s w noLocals) (labelsIn s w 0) rec (plainIs s c)) old at mid q r told d)
 
 -- ## Offset 0
 

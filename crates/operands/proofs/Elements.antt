@@ -4,10 +4,12 @@ use mathlib.Core.Path.{_≡_, refl, sym, ap}
 use mathlib.Core.List.{List, [], _∷_, _++_, append-assoc, append-nil}
 use lib.ListN.{length}
 use native.Mathlib.Omega.{arith}
+use Rattle.syntax.specs.Refusals.{refusedBy}
+use Rattle.syntax.specs.declared.Refusal.{Refusal}
 use Rattle.definition.specs.Basic.{Answer, ok, refused, _>>=_, each, concatMap}
 use Rattle.definition.specs.Syntax.{Bytes}
 use Rattle.definition.specs.Reader.{got, fault, Reader}
-use Rattle.typeuse.specs.Views.{elements}
+use Rattle.syntax.specs.TypeUses.{elements}
 
 -- ## Elements
 
@@ -63,9 +65,9 @@ module _ {A B : Type 0} (f : A → Answer B) where
       go (refused n r) = refl
 
   -- the next one is refused
-  pub each-not : (x : A) (xs : List A) (done : List B) (n r : ℕ) → f x ≡ refused n r → (each f (x ∷ xs) >>= after done) ≡ refused n r
+  pub each-not : (x : A) (xs : List A) (done : List B) (r : Refusal) → f x ≡ refusedBy r → (each f (x ∷ xs) >>= after done) ≡ refusedBy r
   unfolding each _>>=_
-  each-not x xs done n r e = rw e
+  each-not x xs done r e = rw e
 
   -- none follows
   pub each-none : (done : List B) → (each f [] >>= after done) ≡ ok done

@@ -9,25 +9,26 @@ use Rattle.definition.specs.Syntax.{Identifier}
 use Rattle.definition.specs.Names.{Namespace, itemNo, localNo, depthOf, immediate, plainOp}
 use Rattle.definition.specs.Binary as Binary
 use Rattle.definition.specs.Binary.{imm, instruction}
+use Rattle.syntax.specs.declared.Refusal.{Refusal}
 use Rattle.emit.specs.Put.{Put}
 use Rattle.emit.proofs.Laws.{put-skip}
-use Rattle.token.specs.Views.{partOf, spaceOf, indexOf}
-use Rattle.token.specs.declared.text.Part.{Part}
-use Rattle.token.specs.declared.index.Index.{Index}
-use Rattle.token.specs.declared.index.Space.{Space}
-use Rattle.expr.specs.Views.{operandOf}
-use Rattle.expr.specs.declared.Operand.{Operand}
-use Rattle.expr.specs.declared.Operand.the-variants as O
-use Rattle.space.specs.Area.{resolved}
-use Rattle.space.specs.declared.table.Resolved.{Resolved}
-use Rattle.space.specs.declared.table.Resolved.the-variants as R
+use Rattle.syntax.specs.Tokens.{partOf, spaceOf, indexOf}
+use Rattle.syntax.specs.declared.Part.{Part}
+use Rattle.syntax.specs.declared.Index.{Index}
+use Rattle.syntax.specs.declared.Space.{Space}
+use Rattle.syntax.specs.Plain.{operandOf}
+use Rattle.syntax.specs.declared.Operand.{Operand}
+use Rattle.syntax.specs.declared.Operand.the-variants as O
+use Rattle.name_table.specs.Area.{resolved}
+use Rattle.name_table.specs.declared.table.Resolved.{Resolved}
+use Rattle.name_table.specs.declared.table.Resolved.the-variants as R
 use Rattle.scope.specs.Scope.{scopeIn, localsIn, labelsIn}
 use Rattle.scope.specs.Answers.{localAnswer}
 use Rattle.scope.specs.declared.Locals.{Locals}
 use Rattle.scope.specs.declared.local.LocalAt.{LocalAt}
 use Rattle.scope.specs.declared.local.LocalAt.the-variants as L
-use Rattle.binary.specs.Views as View
-use Rattle.binary.specs.declared.instructions.LocalNo.{LocalNo}
+use Rattle.syntax.specs.Resolved as View
+use Rattle.syntax.specs.declared.LocalNo.{LocalNo}
 use Rattle.binary.specs.Emits.{Emits}
 use Rattle.binary.specs.declared.Emitted.{Emitted}
 use Rattle.binary.specs.declared.Emitted.the-variants as E
@@ -49,27 +50,27 @@ module _ (s w : List ℕ) (ls bs : Namespace Identifier) (rec : ℕ) (x : Syntax
     unfolding immediate _>>=_ imm
     local-to n r e p = wrote imm (immediate (scopeIn s w) ls bs rec (Syntax.local x)) old at new (Syntax.localImm (View.localNoOf n)) r p (rw (told, e))
 
-    pub local-not : (n q : ℕ) → y ≡ L.Refused n q → Says (Syntax.local x) (E.Refused n q)
+    pub local-not : (q : Refusal) → y ≡ L.Refused q → Says (Syntax.local x) (E.Refused q)
     unfolding immediate _>>=_
-    local-not n q e = halts imm (immediate (scopeIn s w) ls bs rec (Syntax.local x)) old at new n q (rw (told, e))
+    local-not q e = halts imm (immediate (scopeIn s w) ls bs rec (Syntax.local x)) old at new q (rw (told, e))
 
   module _ (y : Resolved) (j : Syntax.Space) (told : itemNo (scopeIn s w) j rec x ≡ resolved y) where
     pub item-to : (n r : ℕ) → y ≡ R.To n → Put old at (Binary.u n) r new → Says (Syntax.item j x) (E.To r)
     unfolding immediate _>>=_ imm
     item-to n r e p = wrote imm (immediate (scopeIn s w) ls bs rec (Syntax.item j x)) old at new (Syntax.itemImm n) r p (rw (told, e))
 
-    pub item-not : (n q : ℕ) → y ≡ R.Refused n q → Says (Syntax.item j x) (E.Refused n q)
+    pub item-not : (q : Refusal) → y ≡ R.Refused q → Says (Syntax.item j x) (E.Refused q)
     unfolding immediate _>>=_
-    item-not n q e = halts imm (immediate (scopeIn s w) ls bs rec (Syntax.item j x)) old at new n q (rw (told, e))
+    item-not q e = halts imm (immediate (scopeIn s w) ls bs rec (Syntax.item j x)) old at new q (rw (told, e))
 
   module _ (y : Resolved) (a o : ℕ) (told : itemNo (scopeIn s w) Syntax.mems rec x ≡ resolved y) where
     pub access-to : (m r : ℕ) → y ≡ R.To m → Put old at (Binary.memarg a o m) r new → Says (Syntax.access a o x) (E.To r)
     unfolding immediate _>>=_ imm
     access-to m r e p = wrote imm (immediate (scopeIn s w) ls bs rec (Syntax.access a o x)) old at new (Syntax.accessImm a o m) r p (rw (told, e))
 
-    pub access-not : (n q : ℕ) → y ≡ R.Refused n q → Says (Syntax.access a o x) (E.Refused n q)
+    pub access-not : (q : Refusal) → y ≡ R.Refused q → Says (Syntax.access a o x) (E.Refused q)
     unfolding immediate _>>=_
-    access-not n q e = halts imm (immediate (scopeIn s w) ls bs rec (Syntax.access a o x)) old at new n q (rw (told, e))
+    access-not q e = halts imm (immediate (scopeIn s w) ls bs rec (Syntax.access a o x)) old at new q (rw (told, e))
 
 -- ## `emit_operand`
 

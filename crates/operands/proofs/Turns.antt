@@ -10,18 +10,20 @@ use Rattle.definition.specs.Syntax.{Bytes, Identifier, Depth}
 use Rattle.definition.specs.Token.{present}
 use Rattle.definition.specs.Names.{Scope, Namespace, depthOf, immediate}
 use Rattle.definition.specs.Binary.{u, vec, imm}
+use Rattle.syntax.specs.Refusals.{refusedBy}
+use Rattle.syntax.specs.declared.Refusal.{Refusal}
 use Rattle.emit.specs.Put.{Put}
 use Rattle.emit.proofs.Laws.{put-none, put-then, put-is}
-use Rattle.token.specs.Views.{indexOf, indexAt}
-use Rattle.token.specs.declared.index.Index.{Index}
-use Rattle.token.specs.declared.index.IndexAt.{IndexAt}
-use Rattle.token.specs.declared.index.IndexAt.the-variants as X
-use Rattle.typeuse.specs.Views.{elements}
-use Rattle.space.specs.Area.{resolved}
-use Rattle.space.specs.declared.table.Resolved.{Resolved}
-use Rattle.space.specs.declared.table.Resolved.the-variants as R
-use Rattle.binary.specs.Views as View
-use Rattle.binary.specs.declared.instructions.Depth as Code
+use Rattle.syntax.specs.Tokens.{indexOf, indexAt}
+use Rattle.syntax.specs.declared.Index.{Index}
+use Rattle.syntax.specs.declared.IndexAt.{IndexAt}
+use Rattle.syntax.specs.declared.IndexAt.the-variants as X
+use Rattle.syntax.specs.TypeUses.{elements}
+use Rattle.name_table.specs.Area.{resolved}
+use Rattle.name_table.specs.declared.table.Resolved.{Resolved}
+use Rattle.name_table.specs.declared.table.Resolved.the-variants as R
+use Rattle.syntax.specs.Resolved as View
+use Rattle.syntax.specs.declared.Depth as Code
 use Rattle.scope.specs.Answers.{depthAnswer}
 use Rattle.scope.specs.declared.label.DepthAt.{DepthAt}
 use Rattle.scope.specs.declared.label.DepthAt.the-variants as D
@@ -98,14 +100,14 @@ module _ {A : Type 0} {f : Syntax.Index Identifier → Answer A} {g : A → Byte
         same = v .same ∙ rw more (each-more f (indexOf s x) (elements present s next (left - 1)) a (v .done) e);
       }
 
-      stop : (new : Bytes) (n r : ℕ) → f (indexOf s x) ≡ refused n r → Emits (concatMap g) (each f (elements present s at count)) old place (E.Refused n r) new
-      stop new n r e = halts (concatMap g) (each f (elements present s at count)) old place new n r (v .same ∙ rw more (each-not f (indexOf s x) (elements present s next (left - 1)) (v .done) n r e))
+      stop : (new : Bytes) (r : Refusal) → f (indexOf s x) ≡ refusedBy r → Emits (concatMap g) (each f (elements present s at count)) old place (E.Refused r) new
+      stop new r e = halts (concatMap g) (each f (elements present s at count)) old place new r (v .same ∙ rw more (each-not f (indexOf s x) (elements present s next (left - 1)) (v .done) r e))
 
       pub each-again : (y : Emitted) (r : ℕ) (new : Bytes) → Emits g (f (indexOf s x)) out o y new → y ≡ E.To r → Resolving f g s at count old place next (left - 1) r new
       each-again y r new w e = let z : Wrote g (f (indexOf s x)) out o r new = was-wrote g (f (indexOf s x)) out o new y r w e in turn (z .value) r new (z .is) (z .put)
 
-      pub each-halts : (y : Emitted) (n r : ℕ) (new : Bytes) → Emits g (f (indexOf s x)) out o y new → y ≡ E.Refused n r → Emits (concatMap g) (each f (elements present s at count)) old place (E.Refused n r) new
-      each-halts y n r new w e = stop new n r (has-halted g (f (indexOf s x)) out o new y n r w e)
+      pub each-halts : (y : Emitted) (r : Refusal) (new : Bytes) → Emits g (f (indexOf s x)) out o y new → y ≡ E.Refused r → Emits (concatMap g) (each f (elements present s at count)) old place (E.Refused r) new
+      each-halts y r new w e = stop new r (has-halted g (f (indexOf s x)) out o new y r w e)
 
 -- ## After their count
 
@@ -117,7 +119,7 @@ module _ {A : Type 0} (f : Syntax.Index Identifier → Answer A) (g : A → Byte
     is = w .is;
     put = put-then (put-is p (ap u (e ∙ sym (each-length f xs (w .value) (w .is))))) (w .put);
   }
-  emits-vec old at n r mid (E.Refused k q) new e p w = w
+  emits-vec old at n r mid (E.Refused q) new e p w = w
 
 -- ## One index
 
@@ -125,16 +127,16 @@ module _ (a : Answer ℕ) (y : Resolved) (told : a ≡ resolved y) where
   pub number-to : (old : List ℕ) (at n r : ℕ) (new : List ℕ) → y ≡ R.To n → Put old at (u n) r new → Emits u a old at (E.To r) new
   number-to old at n r new d p = wrote u a old at new n r p (told ∙ ap resolved d)
 
-  pub number-not : (old : List ℕ) (at n r : ℕ) (new : List ℕ) → y ≡ R.Refused n r → Emits u a old at (E.Refused n r) new
-  number-not old at n r new d = halts u a old at new n r (told ∙ ap resolved d)
+  pub number-not : (old : List ℕ) (at : ℕ) (r : Refusal) (new : List ℕ) → y ≡ R.Refused r → Emits u a old at (E.Refused r) new
+  number-not old at r new d = halts u a old at new r (told ∙ ap resolved d)
 
 module _ (a : Answer Depth) (y : DepthAt) (told : a ≡ depthAnswer y) where
   pub depth-to : (old : List ℕ) (at : ℕ) (d : Code.Depth) (r : ℕ) (new : List ℕ) → y ≡ D.To d → Put old at (u (View.depthOf d .depth)) r new → Emits depthBytes a old at (E.To r) new
   unfolding depthBytes
   depth-to old at d r new e p = wrote depthBytes a old at new (View.depthOf d) r p (told ∙ ap depthAnswer e)
 
-  pub depth-not : (old : List ℕ) (at n r : ℕ) (new : List ℕ) → y ≡ D.Refused n r → Emits depthBytes a old at (E.Refused n r) new
-  depth-not old at n r new e = halts depthBytes a old at new n r (told ∙ ap depthAnswer e)
+  pub depth-not : (old : List ℕ) (at : ℕ) (r : Refusal) (new : List ℕ) → y ≡ D.Refused r → Emits depthBytes a old at (E.Refused r) new
+  depth-not old at r new e = halts depthBytes a old at new r (told ∙ ap depthAnswer e)
 
 -- ## `emit_labels`
 
@@ -146,6 +148,6 @@ module _ (Γ : Scope Identifier) (locals blocks : Namespace Identifier) (rec : �
   unfolding immediate imm depthBytes
   labels-to o r new w d z = emits-then (vec depthBytes) depthBytes imm (λ ds e. Syntax.labelsImm ds e) (each (depthOf Γ blocks rec) xs) (depthOf Γ blocks rec x) old at q o mid r new (λ ds e. refl) w d z
 
-  pub labels-not : (n r : ℕ) → Listed → q ≡ E.Refused n r → Emits imm (immediate Γ locals blocks rec (Syntax.labels xs x)) old at (E.Refused n r) mid
+  pub labels-not : (r : Refusal) → Listed → q ≡ E.Refused r → Emits imm (immediate Γ locals blocks rec (Syntax.labels xs x)) old at (E.Refused r) mid
   unfolding immediate
-  labels-not n r w d = emits-not (vec depthBytes) imm (λ ds. depthOf Γ blocks rec x >>= λ e. ok (Syntax.labelsImm ds e)) (each (depthOf Γ blocks rec) xs) old at q n r mid w d
+  labels-not r w d = emits-not (vec depthBytes) imm (λ ds. depthOf Γ blocks rec x >>= λ e. ok (Syntax.labelsImm ds e)) (each (depthOf Γ blocks rec) xs) old at q r mid w d

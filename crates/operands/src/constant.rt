@@ -1,22 +1,23 @@
 // Constants: one instruction and the end.
 use binary::Emitted;
-use expr::Operand;
-use expr::Plain;
 use scope::Locals;
+use syntax::Operand;
+use syntax::Plain;
 ghost use mathlib.Core.Path.{_≡_};
 ghost use Prim.Native.Nat.{_≤_};
 ghost use lib.ListN.{length};
+ghost use Rattle.area.specs.Layout.{WORDS};
 ghost use Rattle.definition.specs.Names as Names;
 ghost use Rattle.definition.specs.Deinline as Deinline;
 ghost use Rattle.emit.specs.Put.{Put};
-ghost use Rattle.expr.specs.Views.{plainIs};
+ghost use Rattle.syntax.specs.Plain.{plainIs};
 ghost use Rattle.scope.specs.Scope.{scopeIn};
 ghost use Rattle.binary.specs.Emits.{Emits};
 ghost use Rattle.operands.specs.Operands.{constBytes, zeroOp};
 
 // A constant has no locals and no blocks, so no label or local of it has a name.
 pub fn emit_const(out: &mut [u8], at: usize, s: &[u8], work: &[u32], c: Plain, rec: u32) -> Emitted
-    requires { ⌜ 16384 ≤ length (now work) ⌝ }
+    requires { ⌜ WORDS ≤ length (now work) ⌝ }
     ensures { λ r. ⌜ Emits constBytes (Names.constOp (scopeIn (now (s .entry)) (now (work .entry))) rec (plainIs (now (s .entry)) c)) (now (out .entry)) at r (now (out .exit)) ⌝ }
 {
     let none = Locals {
@@ -25,7 +26,7 @@ pub fn emit_const(out: &mut [u8], at: usize, s: &[u8], work: &[u32], c: Plain, r
     };
     match crate::operand::emit_plain(s, work, out, at, none, 0, c, rec) {
         Emitted::To(o) => Emitted::To(emit::put(out, o, 0x0B)),
-        Emitted::Refused(n, r) => Emitted::Refused(n, r),
+        Emitted::Refused(r) => Emitted::Refused(r),
     }
 }
 

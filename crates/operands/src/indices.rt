@@ -1,22 +1,23 @@
 // Lists of indices: the functions of an element segment, the labels of a br_table. The count, and each in its turn.
 use binary::Emitted;
+use name_table::Resolved;
 use scope::DepthAt;
-use space::Resolved;
-use token::Index;
-use token::IndexAt;
-use token::Space;
-use typeuse::List;
+use syntax::Index;
+use syntax::IndexAt;
+use syntax::List;
+use syntax::Space;
 ghost use mathlib.Core.Path.{_≡_};
 ghost use mathlib.Core.List.{[]};
 ghost use Prim.Native.Nat.{_≤_};
 ghost use lib.ListN.{length};
+ghost use Rattle.area.specs.Layout.{WORDS};
 ghost use Rattle.definition.specs.Basic.{each, concatMap};
 ghost use Rattle.definition.specs.Syntax.{funcs, labels};
 ghost use Rattle.definition.specs.Token as Token;
 ghost use Rattle.definition.specs.Names as Names;
 ghost use Rattle.definition.specs.Binary as Binary;
-ghost use Rattle.token.specs.Views.{indexOf};
-ghost use Rattle.typeuse.specs.Views.{listOf};
+ghost use Rattle.syntax.specs.Tokens.{indexOf};
+ghost use Rattle.syntax.specs.TypeUses.{listOf};
 ghost use Rattle.scope.specs.Scope.{scopeIn, labelsIn};
 ghost use Rattle.binary.specs.Emits.{Emits};
 ghost use Rattle.operands.specs.Operands.{depthBytes};
@@ -45,18 +46,18 @@ pub fn count_indices(s: &[u8], l: List) -> u64
 
 // A function's number.
 pub fn emit_func(out: &mut [u8], at: usize, s: &[u8], work: &[u32], x: Index, rec: u32) -> Emitted
-    requires { ⌜ 16384 ≤ length (now work) ⌝ }
+    requires { ⌜ WORDS ≤ length (now work) ⌝ }
     ensures { λ r. ⌜ Emits Binary.u (Names.itemNo (scopeIn (now (s .entry)) (now (work .entry))) funcs rec (indexOf (now (s .entry)) x)) (now (out .entry)) at r (now (out .exit)) ⌝ }
 {
     match scope::item_no(s, work, Space::Funcs, x, rec) {
         Resolved::To(n) => Emitted::To(leb::put_u(out, at, n as u64)),
-        Resolved::Refused(n, r) => Emitted::Refused(n, r),
+        Resolved::Refused(r) => Emitted::Refused(r),
     }
 }
 
 // The functions' numbers, without their count.
 fn emit_each_func(out: &mut [u8], at: usize, s: &[u8], work: &[u32], l: List, rec: u32) -> Emitted
-    requires { ⌜ 16384 ≤ length (now work) ⌝ }
+    requires { ⌜ WORDS ≤ length (now work) ⌝ }
     ensures { λ r. ⌜ Emits (concatMap Binary.u) (each (Names.itemNo (scopeIn (now (s .entry)) (now (work .entry))) funcs rec) (listOf Token.present (now (s .entry)) l)) (now (out .entry)) at r (now (out .exit)) ⌝ }
 {
     let mut o = at;
@@ -70,8 +71,8 @@ fn emit_each_func(out: &mut [u8], at: usize, s: &[u8], work: &[u32], l: List, re
                     here = next;
                     left -= 1;
                 }
-                Emitted::Refused(n, r) => {
-                    return Emitted::Refused(n, r);
+                Emitted::Refused(r) => {
+                    return Emitted::Refused(r);
                 }
             },
             IndexAt::Fault(_) => {
@@ -83,7 +84,7 @@ fn emit_each_func(out: &mut [u8], at: usize, s: &[u8], work: &[u32], l: List, re
 }
 
 pub fn emit_funcs(out: &mut [u8], at: usize, s: &[u8], work: &[u32], l: List, rec: u32) -> Emitted
-    requires { ⌜ 16384 ≤ length (now work) ⌝ }
+    requires { ⌜ WORDS ≤ length (now work) ⌝ }
     ensures { λ r. ⌜ Emits (Binary.vec Binary.u) (each (Names.itemNo (scopeIn (now (s .entry)) (now (work .entry))) funcs rec) (listOf Token.present (now (s .entry)) l)) (now (out .entry)) at r (now (out .exit)) ⌝ }
 {
     let n = count_indices(s, l);
@@ -101,12 +102,12 @@ pub fn emit_depth(
     x: Index,
     rec: u32,
 ) -> Emitted
-    requires { ⌜ (16384 ≤ length (now work)) × (blocks ≤ 128) ⌝ }
+    requires { ⌜ (WORDS ≤ length (now work)) × (blocks ≤ 128) ⌝ }
     ensures { λ r. ⌜ Emits depthBytes (Names.depthOf (scopeIn (now (s .entry)) (now (work .entry))) (labelsIn (now (s .entry)) (now (work .entry)) blocks) rec (indexOf (now (s .entry)) x)) (now (out .entry)) at r (now (out .exit)) ⌝ }
 {
     match scope::depth_no(s, work, blocks, x, rec) {
         DepthAt::To(d) => Emitted::To(binary::put_depth(out, at, d)),
-        DepthAt::Refused(n, r) => Emitted::Refused(n, r),
+        DepthAt::Refused(r) => Emitted::Refused(r),
     }
 }
 
@@ -120,7 +121,7 @@ fn emit_each_label(
     l: List,
     rec: u32,
 ) -> Emitted
-    requires { ⌜ (16384 ≤ length (now work)) × (blocks ≤ 128) ⌝ }
+    requires { ⌜ (WORDS ≤ length (now work)) × (blocks ≤ 128) ⌝ }
     ensures { λ r. ⌜ Emits (concatMap depthBytes) (each (Names.depthOf (scopeIn (now (s .entry)) (now (work .entry))) (labelsIn (now (s .entry)) (now (work .entry)) blocks) rec) (listOf Token.present (now (s .entry)) l)) (now (out .entry)) at r (now (out .exit)) ⌝ }
 {
     let mut o = at;
@@ -134,8 +135,8 @@ fn emit_each_label(
                     here = next;
                     left -= 1;
                 }
-                Emitted::Refused(n, r) => {
-                    return Emitted::Refused(n, r);
+                Emitted::Refused(r) => {
+                    return Emitted::Refused(r);
                 }
             },
             IndexAt::Fault(_) => {
@@ -155,7 +156,7 @@ fn emit_label_list(
     l: List,
     rec: u32,
 ) -> Emitted
-    requires { ⌜ (16384 ≤ length (now work)) × (blocks ≤ 128) ⌝ }
+    requires { ⌜ (WORDS ≤ length (now work)) × (blocks ≤ 128) ⌝ }
     ensures { λ r. ⌜ Emits (Binary.vec depthBytes) (each (Names.depthOf (scopeIn (now (s .entry)) (now (work .entry))) (labelsIn (now (s .entry)) (now (work .entry)) blocks) rec) (listOf Token.present (now (s .entry)) l)) (now (out .entry)) at r (now (out .exit)) ⌝ }
 {
     let n = count_indices(s, l);
@@ -174,11 +175,11 @@ pub fn emit_labels(
     x: Index,
     rec: u32,
 ) -> Emitted
-    requires { ⌜ (16384 ≤ length (now work)) × (blocks ≤ 128) ⌝ }
+    requires { ⌜ (WORDS ≤ length (now work)) × (blocks ≤ 128) ⌝ }
     ensures { λ r. ⌜ Emits Binary.imm (Names.immediate (scopeIn (now (s .entry)) (now (work .entry))) [] (labelsIn (now (s .entry)) (now (work .entry)) blocks) rec (labels (listOf Token.present (now (s .entry)) xs) (indexOf (now (s .entry)) x))) (now (out .entry)) at r (now (out .exit)) ⌝ }
 {
     match emit_label_list(out, at, s, work, blocks, xs, rec) {
         Emitted::To(a) => emit_depth(out, a, s, work, blocks, x, rec),
-        Emitted::Refused(n, r) => Emitted::Refused(n, r),
+        Emitted::Refused(r) => Emitted::Refused(r),
     }
 }

@@ -1,20 +1,21 @@
 // Operands, each resolved and put.
 use binary::Emitted;
-use expr::Operand;
-use expr::Plain;
+use name_table::Resolved;
 use scope::LocalAt;
 use scope::Locals;
-use space::Resolved;
-use token::Index;
-use token::Space;
+use syntax::Index;
+use syntax::Operand;
+use syntax::Plain;
+use syntax::Space;
 ghost use mathlib.Core.List.{[]};
 ghost use Prim.Native.Nat.{_≤_};
 ghost use lib.ListN.{length};
+ghost use Rattle.area.specs.Layout.{WORDS};
 ghost use Rattle.definition.specs.Syntax.{label, local, item, access};
 ghost use Rattle.definition.specs.Names as Names;
 ghost use Rattle.definition.specs.Binary as Binary;
-ghost use Rattle.token.specs.Views.{spaceOf, indexOf};
-ghost use Rattle.expr.specs.Views.{operandOf, plainIs};
+ghost use Rattle.syntax.specs.Tokens.{spaceOf, indexOf};
+ghost use Rattle.syntax.specs.Plain.{operandOf, plainIs};
 ghost use Rattle.scope.specs.Scope.{scopeIn, localsIn, FewLocals, labelsIn};
 ghost use Rattle.binary.specs.Emits.{Emits};
 
@@ -27,7 +28,7 @@ pub fn emit_label(
     x: Index,
     rec: u32,
 ) -> Emitted
-    requires { ⌜ (16384 ≤ length (now work)) × (k ≤ 128) ⌝ }
+    requires { ⌜ (WORDS ≤ length (now work)) × (k ≤ 128) ⌝ }
     ensures { λ r. ⌜ Emits Binary.imm (Names.immediate (scopeIn (now (s .entry)) (now (work .entry))) [] (labelsIn (now (s .entry)) (now (work .entry)) k) rec (label (indexOf (now (s .entry)) x))) (now (out .entry)) at r (now (out .exit)) ⌝ }
 {
     crate::indices::emit_depth(out, at, s, work, k, x, rec)
@@ -42,12 +43,12 @@ pub fn emit_local(
     x: Index,
     rec: u32,
 ) -> Emitted
-    requires { ⌜ (16384 ≤ length (now work)) × FewLocals l ⌝ }
+    requires { ⌜ (WORDS ≤ length (now work)) × FewLocals l ⌝ }
     ensures { λ r. ⌜ Emits Binary.imm (Names.immediate (scopeIn (now (s .entry)) (now (work .entry))) (localsIn (now (s .entry)) (now (work .entry)) l) [] rec (local (indexOf (now (s .entry)) x))) (now (out .entry)) at r (now (out .exit)) ⌝ }
 {
     match scope::local_no(s, work, l, x, rec) {
         LocalAt::To(n) => Emitted::To(binary::put_local(out, at, n)),
-        LocalAt::Refused(n, q) => Emitted::Refused(n, q),
+        LocalAt::Refused(q) => Emitted::Refused(q),
     }
 }
 
@@ -60,12 +61,12 @@ pub fn emit_item(
     x: Index,
     rec: u32,
 ) -> Emitted
-    requires { ⌜ 16384 ≤ length (now work) ⌝ }
+    requires { ⌜ WORDS ≤ length (now work) ⌝ }
     ensures { λ r. ⌜ Emits Binary.imm (Names.immediate (scopeIn (now (s .entry)) (now (work .entry))) [] [] rec (item (spaceOf kind) (indexOf (now (s .entry)) x))) (now (out .entry)) at r (now (out .exit)) ⌝ }
 {
     match scope::item_no(s, work, kind, x, rec) {
         Resolved::To(n) => Emitted::To(leb::put_u(out, at, n as u64)),
-        Resolved::Refused(n, q) => Emitted::Refused(n, q),
+        Resolved::Refused(q) => Emitted::Refused(q),
     }
 }
 
@@ -80,12 +81,12 @@ fn emit_access(
     x: Index,
     rec: u32,
 ) -> Emitted
-    requires { ⌜ 16384 ≤ length (now work) ⌝ }
+    requires { ⌜ WORDS ≤ length (now work) ⌝ }
     ensures { λ r. ⌜ Emits Binary.imm (Names.immediate (scopeIn (now (s .entry)) (now (work .entry))) [] [] rec (access exponent offset (indexOf (now (s .entry)) x))) (now (out .entry)) at r (now (out .exit)) ⌝ }
 {
     match scope::item_no(s, work, Space::Mems, x, rec) {
         Resolved::To(m) => Emitted::To(binary::put_memarg(out, at, exponent, offset, m)),
-        Resolved::Refused(n, q) => Emitted::Refused(n, q),
+        Resolved::Refused(q) => Emitted::Refused(q),
     }
 }
 
@@ -99,7 +100,7 @@ fn emit_operand(
     operand: Operand,
     rec: u32,
 ) -> Emitted
-    requires { ⌜ (16384 ≤ length (now work)) × FewLocals l × (k ≤ 128) ⌝ }
+    requires { ⌜ (WORDS ≤ length (now work)) × FewLocals l × (k ≤ 128) ⌝ }
     ensures { λ r. ⌜ Emits Binary.imm (Names.immediate (scopeIn (now (s .entry)) (now (work .entry))) (localsIn (now (s .entry)) (now (work .entry)) l) (labelsIn (now (s .entry)) (now (work .entry)) k) rec (operandOf (now (s .entry)) operand)) (now (out .entry)) at r (now (out .exit)) ⌝ }
 {
     match operand {
@@ -127,7 +128,7 @@ pub fn emit_plain(
     p: Plain,
     rec: u32,
 ) -> Emitted
-    requires { ⌜ (16384 ≤ length (now work)) × FewLocals l × (k ≤ 128) ⌝ }
+    requires { ⌜ (WORDS ≤ length (now work)) × FewLocals l × (k ≤ 128) ⌝ }
     ensures { λ r. ⌜ Emits Binary.instruction (Names.plainOp (scopeIn (now (s .entry)) (now (work .entry))) (localsIn (now (s .entry)) (now (work .entry)) l) (labelsIn (now (s .entry)) (now (work .entry)) k) rec (plainIs (now (s .entry)) p)) (now (out .entry)) at r (now (out .exit)) ⌝ }
 {
     let operand = p.operand;

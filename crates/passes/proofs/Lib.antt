@@ -1,2 +1,5 @@
+pub mod Begin
+pub mod Counted
+pub mod Join
 pub mod Stages
 pub mod Whole

@@ -10,31 +10,34 @@ use Rattle.definition.specs.Types.{uses, declared}
 use Rattle.definition.specs.Names.{Scope, resolveAll}
 use Rattle.definition.specs.Binary.{entries}
 use Rattle.definition.specs.Assemble.{itemsIn}
-use Rattle.space.specs.Kept.{Kept}
-use Rattle.space.proofs.Kept.{kept-less}
-use Rattle.signatures.specs.Table.{typesIn, Recalled}
+use Rattle.syntax.specs.Refusals.{refusedBy}
+use Rattle.syntax.specs.declared.Refusal.{Refusal}
+use Rattle.area.specs.Layout.{BYTES, LOCALS, TYPES, UNUSED, WORDS}
+use Rattle.area.specs.Kept.{Kept}
+use Rattle.area.proofs.Kept.{kept-less}
+use Rattle.type_table.specs.Table.{typesIn, Recalled}
 use Rattle.walk.specs.Walk.{begin, fieldsIn, Ahead}
 use Rattle.walk.proofs.Steps.{ahead-kept}
 use Rattle.scope.specs.Scope.{scopeIn}
 use Rattle.scope.proofs.Frames.{scope-kept, recalled-scope}
-use Rattle.content.specs.Entry.{Entries, entriesOf}
-use Rattle.parts.specs.Tally.{tallies, noTally, Twelve, ChecksIn}
-use Rattle.parts.specs.Content.{Fine, kept, typeEntries}
-use Rattle.parts.specs.declared.tally.Tally.{Tally}
-use Rattle.parts.specs.declared.tally.Verdict.{Verdict}
-use Rattle.parts.specs.declared.tally.Verdict.the-variants as V′
-use Rattle.parts.specs.declared.tally.Checked.{Checked}
-use Rattle.parts.proofs.Tallies.{tallies-append}
-use Rattle.checks.proofs.Checking.{was-fine, fine-kept, was-not, not-long, tallied-twelve}
-use Rattle.parts.proofs.Keeping.{keeps-then}
-use Rattle.section_entries.specs.Added.{KeepsTypes}
-use Rattle.section_entries.specs.Write.{Writable, Held, allEntries, keptItems, moduleItems}
+use Rattle.deinline.specs.Entry.{Entries, entriesOf}
+use Rattle.kept.specs.Tally.{tallies, noTally, Twelve, ChecksIn}
+use Rattle.kept.specs.Content.{Fine, kept, typeEntries}
+use Rattle.kept.specs.declared.tally.Tally.{Tally}
+use Rattle.kept.specs.declared.tally.Verdict.{Verdict}
+use Rattle.kept.specs.declared.tally.Verdict.the-variants as V′
+use Rattle.kept.specs.declared.tally.Checked.{Checked}
+use Rattle.kept.proofs.Tallies.{tallies-append}
+use Rattle.resolve.proofs.Checking.{was-fine, fine-kept, was-not, not-long, tallied-twelve}
+use Rattle.kept.proofs.Keeping.{keeps-then}
+use Rattle.sections.specs.Added.{KeepsTypes}
+use Rattle.sections.specs.Write.{Writable, Held, allEntries, keptItems, moduleItems}
 use Rattle.passes.specs.Passes.{Found, fromNames, Passes}
 use Rattle.passes.specs.declared.Passed.{Passed}
 
 -- a stage that refuses
-pub refuses : (a : Answer Found) (count : ℕ) (s w : List ℕ) (p : Passed) (w′ b : List ℕ) (n q : ℕ) → a ≡ refused n q → p .verdict ≡ V′.Refused n q → length w′ ≡ length w → Passes a count s w p w′ b
-refuses a count s w p w′ b n q e v l = record { says = rw v e; long = l }
+pub refuses : (a : Answer Found) (count : ℕ) (s w : List ℕ) (p : Passed) (w′ b : List ℕ) (q : Refusal) → a ≡ refusedBy q → p .verdict ≡ V′.Refused q → length w′ ≡ length w → Passes a count s w p w′ b
+refuses a count s w p w′ b q e v l = record { says = rw v e; long = l }
 
 -- a stage that leaves the rest to the next
 pub passes-on : (a b : Answer Found) (count : ℕ) (s w w₁ : List ℕ) (p : Passed) (w′ k : List ℕ) → a ≡ b → length w₁ ≡ length w → Passes b count s w₁ p w′ k → Passes a count s w p w′ k
@@ -58,31 +61,31 @@ unfolding _>>=_
 found-of (ok is) Γ more e = refl
 found-of (refused n r) Γ more e = let z : _≡_ {A = ℕ} 0 1 = cc in absurd (omega arith)
 
-not-items : (a : Answer (List Item)) (n q : ℕ) → (a >>= λ is. ok (concatMap entries is)) ≡ refused n q → a ≡ refused n q
+not-items : (a : Answer (List Item)) (q : Refusal) → (a >>= λ is. ok (concatMap entries is)) ≡ refusedBy q → a ≡ refusedBy q
 unfolding _>>=_
-not-items (ok is) n q e = let z : _≡_ {A = ℕ} 0 1 = cc in absurd (omega arith)
-not-items (refused m p) n q e = cc
+not-items (ok is) q e = let z : _≡_ {A = ℕ} 0 1 = cc in absurd (omega arith)
+not-items (refused m p) q e = cc
 
 module _ (s w : List ℕ) (d count : ℕ) (r : Checked) (w₁ b₀ b₁ : List ℕ) (h : ChecksIn (entriesOf (scopeIn s w) (fieldsIn s)) noTally w b₀ r w₁ b₁) (v : Verdict) (g : v ≡ r .verdict) where
   module _ (e : v ≡ V′.Fine) where
-    k : Kept 11536 w w₁
+    k : Kept LOCALS w w₁
     k = fine-kept h (sym g ∙ e)
 
     scope : scopeIn s w₁ ≡ scopeIn s w
-    scope = scope-kept s w w₁ (kept-less 11280 11536 (omega arith) k)
+    scope = scope-kept s w w₁ (kept-less UNUSED LOCALS (omega arith) k)
 
-    pub resolve-long : 16384 ≤ length w → 16384 ≤ length w₁
+    pub resolve-long : WORDS ≤ length w → WORDS ≤ length w₁
     resolve-long a = rw (k .long) a
 
     -- what the writer asks for
-    writable : length s ≤ 65536 → 16384 ≤ length w → Ahead s w begin → Recalled w (typesIn s w) (uses (fieldsIn s)) → Writable s w₁
+    writable : length s ≤ BYTES → WORDS ≤ length w → Ahead s w begin → Recalled w (typesIn s w) (uses (fieldsIn s)) → Writable s w₁
     writable a b c u =
         let x = was-fine h (sym g ∙ e) in
         record {
           stream = a;
           room = rw (k .long) b;
-          ahead = ahead-kept s w w₁ begin (kept-less 520 11536 (omega arith) k) c;
-          recalled = recalled-scope s w w₁ (uses (fieldsIn s)) (kept-less 11280 11536 (omega arith) k) u;
+          ahead = ahead-kept s w w₁ begin (kept-less TYPES LOCALS (omega arith) k) c;
+          recalled = recalled-scope s w w₁ (uses (fieldsIn s)) (kept-less UNUSED LOCALS (omega arith) k) u;
           fine = record { entries = x .entries; is = rw scope (x .is) };
         }
 
@@ -118,7 +121,7 @@ module _ (s w : List ℕ) (d count : ℕ) (r : Checked) (w₁ b₀ b₁ : List �
         ∙ ap (λ (Γ : Scope Identifier). ok (Γ, keptItems (resolveAll Γ (fieldsIn s)) ++ map typeI (drop (length (declared (fieldsIn s))) (Γ .allTypes)))) (sym scope)
         ∙ ap (λ n. ok (scopeIn s w₁, keptItems (resolveAll (scopeIn s w₁) (fieldsIn s)) ++ map typeI (drop n (typesIn s w₁)))) (sym y)
 
-    pub resolve-done : (t : Tally) → length s ≤ 65536 → 16384 ≤ length w → Ahead s w begin → Recalled w (typesIn s w) (uses (fieldsIn s))
+    pub resolve-done : (t : Tally) → length s ≤ BYTES → WORDS ≤ length w → Ahead s w begin → Recalled w (typesIn s w) (uses (fieldsIn s))
         → d ≡ length (declared (fieldsIn s)) → (b₂ : List ℕ) → KeepsTypes (drop d (typesIn s w₁)) (r .tally) b₁ t b₂
         → Passes (fromNames (fieldsIn s) (scopeIn s w)) count s w (record { count = count; declared = d; tally = t; verdict = V′.Fine }) w₁ b₂
     resolve-done t a b c u y b₂ i = record {
@@ -127,8 +130,8 @@ module _ (s w : List ℕ) (d count : ℕ) (r : Checked) (w₁ b₀ b₁ : List �
     }
 
   -- a field was refused
-  pub resolve-not : (p : Passed) (n q : ℕ) → v ≡ V′.Refused n q → p .verdict ≡ V′.Refused n q → Passes (fromNames (fieldsIn s) (scopeIn s w)) count s w p w₁ b₁
+  pub resolve-not : (p : Passed) (q : Refusal) → v ≡ V′.Refused q → p .verdict ≡ V′.Refused q → Passes (fromNames (fieldsIn s) (scopeIn s w)) count s w p w₁ b₁
   unfolding fromNames itemsIn entriesOf _>>=_
-  resolve-not p n q e y =
-      let i = not-items (resolveAll (scopeIn s w) (fieldsIn s)) n q (was-not h n q (sym g ∙ e)) in
-      refuses _ count s w p w₁ b₁ n q (rw i refl) y (not-long h n q (sym g ∙ e))
+  resolve-not p q e y =
+      let i = not-items (resolveAll (scopeIn s w) (fieldsIn s)) q (was-not h q (sym g ∙ e)) in
+      refuses _ count s w p w₁ b₁ q (rw i refl) y (not-long h q (sym g ∙ e))

@@ -6,6 +6,8 @@ use mathlib.Core.List.{List, []}
 use lib.Dec.{ltb}
 use lib.ListN.{length}
 use native.Mathlib.Omega.{arith}
+use Rattle.syntax.specs.declared.Refusal.{Refusal}
+use Rattle.area.specs.Layout.{BYTES, TYPES, WORDS}
 use Rattle.definition.specs.Basic.{if_then_else_, Answer, ok, refused, _>>=_, sameBytes}
 use Rattle.definition.specs.Syntax.{Bytes, Identifier, Rec, Item, FuncType}
 use Rattle.definition.specs.Read.{read}
@@ -20,20 +22,20 @@ use Rattle.laws.specs.Steps.{total}
 use Rattle.stream.specs.Pass.{reading, counted, Reads}
 use Rattle.stream.specs.declared.pass.Count.{Count}
 use Rattle.stream.specs.declared.pass.Count.the-variants as C
-use Rattle.signatures.specs.Table.{typeTable, typesIn, Recalled}
-use Rattle.signatures.proofs.Types.{table-length}
+use Rattle.type_table.specs.Table.{typeTable, typesIn, Recalled}
+use Rattle.type_table.proofs.Types.{table-length}
 use Rattle.walk.specs.Walk.{begin, fieldsIn, Ahead}
 use Rattle.walk.proofs.Steps.{ahead-kept}
-use Rattle.walk.proofs.Join.{fields-in}
-use Rattle.walk.proofs.Begin.{reads-accepted, Accepted}
-use Rattle.types.specs.Declaring.{DeclaredAll}
+use Rattle.passes.proofs.Join.{fields-in}
+use Rattle.passes.proofs.Begin.{reads-accepted, Accepted}
+use Rattle.interning.specs.Declaring.{DeclaredAll}
 use Rattle.survey.specs.Survey.{typesAfterOrder, Stands, Surveys}
 use Rattle.survey.specs.declared.Surveyed.{Surveyed}
 use Rattle.survey.specs.declared.Surveyed.the-variants as S
 use Rattle.scope.specs.Scope.{scopeIn}
-use Rattle.parts.specs.declared.tally.Verdict.{Verdict}
-use Rattle.parts.specs.declared.tally.Verdict.the-variants as V′
-use Rattle.section_entries.specs.Write.{moduleItems}
+use Rattle.kept.specs.declared.tally.Verdict.{Verdict}
+use Rattle.kept.specs.declared.tally.Verdict.the-variants as V′
+use Rattle.sections.specs.Write.{moduleItems}
 use Rattle.passes.specs.Passes.{Found, fromNames, fromTypes, fromFields, PassesBy, Passes}
 use Rattle.passes.specs.Passes.{makes, writes, saidBy, ReadyBy, Prepares}
 use Rattle.passes.specs.declared.Passed.{Passed}
@@ -54,7 +56,7 @@ module _ (s w : List ℕ) (q : Surveyed) (w₁ : List ℕ) (h : Surveys s w q w�
     unfolding Surveys
     stands = rw e at h
 
-    pub survey-long : 16384 ≤ length w → 16384 ≤ length w₁
+    pub survey-long : WORDS ≤ length w → WORDS ≤ length w₁
     survey-long a = rw (stands .kept .long) a
 
     pub survey-ahead : Ahead s w begin → Ahead s w₁ begin
@@ -71,20 +73,20 @@ module _ (s w : List ℕ) (q : Surveyed) (w₁ : List ℕ) (h : Surveys s w q w�
     unfolding fromFields fromTypes _>>=_
     survey-done count p w₂ b y = let t = stands .all in let a = stands .says in passes-on _ _ count s w w₁ p w₂ b (rw (t, a, scope-is) refl) (stands .kept .long) y
 
-  pub survey-not : (count : ℕ) (p : Passed) (b : List ℕ) (n r : ℕ) → q ≡ S.Refused n r → p .verdict ≡ V′.Refused n r → Passes (fromFields (fieldsIn s)) count s w p w₁ b
+  pub survey-not : (count : ℕ) (p : Passed) (b : List ℕ) (r : Refusal) → q ≡ S.Refused r → p .verdict ≡ V′.Refused r → Passes (fromFields (fieldsIn s)) count s w p w₁ b
   unfolding fromFields fromTypes Surveys
-  survey-not count p b n r e v =
+  survey-not count p b r e v =
       (let g = rw e at h in
-      refuses _ count s w p w₁ b n r (falls-then (typesAfterOrder (fieldsIn s)) (register sameBytes [] (fieldsIn s)) _ n r (g .says)) v (g .long))
+      refuses _ count s w p w₁ b r (falls-then (typesAfterOrder (fieldsIn s)) (register sameBytes [] (fieldsIn s)) _ (r .number) (r .rec) (g .says)) v (g .long))
 
 -- ## The declared types
 
 -- as many as are in the table
-pub table-count : (s w : List ℕ) (d : ℕ) → typeTable d s w 520 ≡ declared (fieldsIn s) → d ≡ length (declared (fieldsIn s))
-table-count s w d e = sym (table-length d s w 520) ∙ ap length e
+pub table-count : (s w : List ℕ) (d : ℕ) → typeTable d s w TYPES ≡ declared (fieldsIn s) → d ≡ length (declared (fieldsIn s))
+table-count s w d e = sym (table-length d s w TYPES) ∙ ap length e
 
 module _ (s w : List ℕ) (d : ℕ) (w₁ : List ℕ) (h : DeclaredAll s w d w₁) where
-  pub declared-long : 16384 ≤ length w → 16384 ≤ length w₁
+  pub declared-long : WORDS ≤ length w → WORDS ≤ length w₁
   declared-long a = rw (h .kept .long) a
 
   pub declared-ahead : Ahead s w begin → Ahead s w₁ begin
@@ -131,7 +133,7 @@ made true room rs =
 -- what reading refuses the call refuses
 read-not : (make : Maker) (s : Bytes) (work room n q : ℕ) → reading s work ≡ refused n q → assembleBy make s work room ≡ refusal n q
 unfolding reading assembleBy sayRead
-read-not make s work room n q e = go (ltb 65536 (length s)) (ltb work 16384) (read s) e
+read-not make s work room n q e = go (ltb BYTES (length s)) (ltb work WORDS) (read s) e
   where
     go : (a b : Bool) (c : Answer (List (Rec Identifier))) → (if a then refused 1 0 else if b then refused 10 0 else total 0 c) ≡ refused n q
         → (if a then refusal 1 0 else if b then refusal 10 0 else sayRead make room c) ≡ refusal n q
@@ -143,7 +145,7 @@ read-not make s work room n q e = go (ltb 65536 (length s)) (ltb work 16384) (re
 -- what it accepts is assembled
 read-ok : (make : Maker) (s : Bytes) (work room n : ℕ) (rs : List (Rec Identifier)) → read s ≡ ok rs → reading s work ≡ ok n → assembleBy make s work room ≡ say n (make room rs)
 unfolding reading assembleBy sayRead
-read-ok make s work room n rs d e = go (ltb 65536 (length s)) (ltb work 16384) e
+read-ok make s work room n rs d e = go (ltb BYTES (length s)) (ltb work WORDS) e
   where
     go : (a b : Bool) → (if a then refused 1 0 else if b then refused 10 0 else total 0 (read s)) ≡ ok n
         → (if a then refusal 1 0 else if b then refusal 10 0 else sayRead make room (read s)) ≡ say n (make room rs)
@@ -158,7 +160,7 @@ read-ok make s work room n rs d e = go (ltb 65536 (length s)) (ltb work 16384) e
 -- how many records there are
 count-of : (s : Bytes) (work n : ℕ) (rs : List (Rec Identifier)) → read s ≡ ok rs → reading s work ≡ ok n → length rs ≡ n
 unfolding reading
-count-of s work n rs d e = go (ltb 65536 (length s)) (ltb work 16384) e
+count-of s work n rs d e = go (ltb BYTES (length s)) (ltb work WORDS) e
   where
     go : (a b : Bool) → (if a then refused 1 0 else if b then refused 10 0 else total 0 (read s)) ≡ ok n → length rs ≡ n
     go true b e = let z : _≡_ {A = ℕ} 0 1 = cc in absurd (omega arith)
@@ -166,8 +168,8 @@ count-of s work n rs d e = go (ltb 65536 (length s)) (ltb work 16384) e
     go false false e = let f : ok (0 + length rs) ≡ ok n = (let g = e in rw d at g) in let x : 0 + length rs ≡ n = cc in omega arith
 
 module _ (s w : List ℕ) (q : Count) (w₁ : List ℕ) (h : Reads s w q w₁) (l : length w₁ ≡ length w) (p : Passed) where
-  pub prepare-not : (n r : ℕ) → q ≡ C.Refused n r → p .verdict ≡ V′.Refused n r → (b : List ℕ) → Prepares s w p w₁ b
-  prepare-not n r e v b = record { says = λ names room. rw v (read-not (makes names) s (length w) room n r (h .says ∙ ap counted e)); ready = rw v tt; long = l }
+  pub prepare-not : (r : Refusal) → q ≡ C.Refused r → p .verdict ≡ V′.Refused r → (b : List ℕ) → Prepares s w p w₁ b
+  prepare-not r e v b = record { says = λ names room. rw v (read-not (makes names) s (length w) room (r .number) (r .rec) (h .says ∙ ap counted e)); ready = rw v tt; long = l }
 
   pub prepare-done : (n : ℕ) (w₂ b : List ℕ) → q ≡ C.Records n → Passes (fromFields (fieldsIn s)) n s w₁ p w₂ b → Prepares s w p w₂ b
   unfolding _>>=_ say
@@ -193,8 +195,8 @@ module _ (s w : List ℕ) (q : Count) (w₁ : List ℕ) (h : Reads s w q w₁) (
           → say n (fromFields (fieldsIn s) >>= λ x. fitting room n (writes names (fieldsIn s) x))
           ≡ saidBy v (p .count) room (writes names (fieldsIn s) (scopeIn s w₂, moduleItems (p .declared) s w₂))
       ends names room V′.Fine z = let f = z .found in let c = z .records in rw (f, c) refl
-      ends names room (V′.Refused m r) z = rw z refl
+      ends names room (V′.Refused r) z = rw z refl
 
       ready : (v : Verdict) → PassesBy v (fromFields (fieldsIn s)) n s p w₂ b → ReadyBy v s p w₂ b
       ready V′.Fine z = z .ready
-      ready (V′.Refused m r) z = tt
+      ready (V′.Refused r) z = tt

@@ -12,13 +12,14 @@ use Rattle.definition.specs.Binary.{module′}
 use Rattle.definition.specs.NameSection.{nameSection}
 use Rattle.definition.specs.Assemble as Assemble
 use Rattle.definition.specs.Assemble.{itemsIn, fitting, Maker, moduleIn, namedModuleIn, refusal, say, assembleBy}
+use Rattle.syntax.specs.Refusals.{refusedBy}
 use Rattle.walk.specs.Walk.{fieldsIn}
 use Rattle.survey.specs.Survey.{typesAfterOrder}
 use Rattle.scope.specs.Scope.{scopeIn}
-use Rattle.parts.specs.Tally.{tallies, noTally}
-use Rattle.parts.specs.declared.tally.Verdict.{Verdict}
-use Rattle.parts.specs.declared.tally.Verdict.the-variants as V′
-use Rattle.section_entries.specs.Write.{Writable, Held, allEntries, moduleItems}
+use Rattle.kept.specs.Tally.{tallies, noTally}
+use Rattle.kept.specs.declared.tally.Verdict.{Verdict}
+use Rattle.kept.specs.declared.tally.Verdict.the-variants as V′
+use Rattle.sections.specs.Write.{Writable, Held, allEntries, moduleItems}
 use Rattle.passes.specs.declared.Passed.{Passed}
 
 -- ## What the passes find, from the last to the first
@@ -50,7 +51,7 @@ pub record Holds (a : Answer Found) (count : ℕ) (s : List ℕ) (p : Passed) (w
 
 abbrev pub PassesBy : Verdict → Answer Found → ℕ → List ℕ → Passed → List ℕ → List ℕ → Type 0
 PassesBy V′.Fine a count s p w kept = Holds a count s p w kept
-PassesBy (V′.Refused n q) a count s p w kept = a ≡ refused n q
+PassesBy (V′.Refused q) a count s p w kept = a ≡ refusedBy q
 
 -- a stage finds what is left to find, and keeps the work area's length
 pub record Passes (a : Answer Found) (count : ℕ) (s w : List ℕ) (p : Passed) (w′ kept : List ℕ) : Type 0 where
@@ -71,11 +72,11 @@ writes true fs x = module′ (x .1) ++ nameSection (x .0) fs
 -- what is said after the passes
 abbrev pub saidBy : Verdict → ℕ → ℕ → Bytes → Assemble.Said
 saidBy V′.Fine count room bs = say count (fitting room count bs)
-saidBy (V′.Refused n q) count room bs = refusal n q
+saidBy (V′.Refused q) count room bs = refusal (q .number) (q .rec)
 
 abbrev pub ReadyBy : Verdict → List ℕ → Passed → List ℕ → List ℕ → Type 0
 ReadyBy V′.Fine s p w kept = Ready s p w kept
-ReadyBy (V′.Refused n q) s p w kept = Unit {0}
+ReadyBy (V′.Refused q) s p w kept = Unit {0}
 
 -- all passes: what is left of either call is its writer
 pub record Prepares (s w : List ℕ) (p : Passed) (w′ kept : List ℕ) : Type 0 where

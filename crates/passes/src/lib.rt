@@ -1,13 +1,16 @@
 // The passes in document 01's order, up to what a writer needs.
-use parts::Tally;
-use parts::Verdict;
+use kept::Tally;
+use kept::Verdict;
 use stream::Count;
 use survey::Surveyed;
+use syntax::Refusal;
 ghost use mathlib.Core.Path.{_≡_};
 ghost use Prim.Native.Nat.{_≤_};
 ghost use lib.ListN.{length, getD};
+ghost use Rattle.area.specs.Layout.{TYPES};
+ghost use Rattle.area.specs.Lent.{Lent};
 ghost use Rattle.definition.specs.Types as Types;
-ghost use Rattle.signatures.specs.Table.{typeTable, typesIn, Recalled};
+ghost use Rattle.type_table.specs.Table.{typeTable, typesIn, Recalled};
 ghost use Rattle.walk.specs.Walk.{Ahead, begin, fieldsIn};
 ghost use Rattle.scope.specs.Scope.{scopeIn};
 ghost use Rattle.passes.specs.Passes.{Passes, Prepares, fromNames, fromFields};
@@ -20,8 +23,8 @@ pub struct Passed {
     pub verdict: Verdict,
 }
 
-fn refuse(n: u8, q: u32) -> Passed
-    ensures { λ r. ⌜ r .verdict ≡ Verdict.Refused n q ⌝ }
+fn refuse(q: Refusal) -> Passed
+    ensures { λ r. ⌜ r .verdict ≡ Verdict.Refused q ⌝ }
 {
     let tally = Tally {
         sizes: [0; 12],
@@ -31,21 +34,21 @@ fn refuse(n: u8, q: u32) -> Passed
         count: 0,
         declared: 0,
         tally,
-        verdict: Verdict::Refused(n, q),
+        verdict: Verdict::Refused(q),
     }
 }
 
 // The fields, resolved in order.
 fn resolve(s: &[u8], work: &mut [u32], kept: &mut [u8], count: u32, declared: u32) -> Passed
-    requires { ⌜ (length (now s) ≤ 65536) × (16384 ≤ length (now work)) × Ahead (now s) (now work) begin × Recalled (now work) (typesIn (now s) (now work)) (Types.uses (fieldsIn (now s))) × (declared ≡ length (Types.declared (fieldsIn (now s)))) ⌝ }
+    requires { ⌜ Lent (now s) (now work) × Ahead (now s) (now work) begin × Recalled (now work) (typesIn (now s) (now work)) (Types.uses (fieldsIn (now s))) × (declared ≡ length (Types.declared (fieldsIn (now s)))) ⌝ }
     ensures { λ r. ⌜ Passes (fromNames (fieldsIn (now (s .entry))) (scopeIn (now (s .entry)) (now (work .entry)))) count (now (s .entry)) (now (work .entry)) r (now (work .exit)) (now (kept .exit)) ⌝ }
 {
-    let r = sections::check_fields(s, work, kept);
+    let r = resolve::check_fields(s, work, kept);
     let tally = r.tally;
     let v = r.verdict;
     match v {
         Verdict::Fine => {
-            let tally = section_entries::keep_types(s, work, kept, declared, tally);
+            let tally = sections::keep_types(s, work, kept, declared, tally);
             Passed {
                 count,
                 declared,
@@ -53,27 +56,27 @@ fn resolve(s: &[u8], work: &mut [u32], kept: &mut [u8], count: u32, declared: u3
                 verdict: Verdict::Fine,
             }
         }
-        Verdict::Refused(n, q) => refuse(n, q),
+        Verdict::Refused(q) => refuse(q),
     }
 }
 
 // The order of imports, the types of uses and the names, in one walk; then the fields.
 fn intern(s: &[u8], work: &mut [u32], kept: &mut [u8], count: u32, declared: u32) -> Passed
-    requires { ⌜ (length (now s) ≤ 65536) × (16384 ≤ length (now work)) × (declared ≤ 256) × Ahead (now s) (now work) begin × (typeTable declared (now s) (now work) 520 ≡ Types.declared (fieldsIn (now s))) ⌝ }
+    requires { ⌜ Lent (now s) (now work) × (declared ≤ 256) × Ahead (now s) (now work) begin × (typeTable declared (now s) (now work) TYPES ≡ Types.declared (fieldsIn (now s))) ⌝ }
     ensures { λ r. ⌜ Passes (fromFields (fieldsIn (now (s .entry)))) count (now (s .entry)) (now (work .entry)) r (now (work .exit)) (now (kept .exit)) ⌝ }
 {
     match survey::survey_all(s, work, declared) {
         Surveyed::Done => resolve(s, work, kept, count, declared),
-        Surveyed::Refused(n, q) => refuse(n, q),
+        Surveyed::Refused(q) => refuse(q),
     }
 }
 
 // The declared types; then what uses and names there are.
 fn declare(s: &[u8], work: &mut [u32], kept: &mut [u8], count: u32) -> Passed
-    requires { ⌜ (length (now s) ≤ 65536) × (16384 ≤ length (now work)) × Ahead (now s) (now work) begin × (getD (now work) 4 0 ≡ length (Types.declared (fieldsIn (now s)))) ⌝ }
+    requires { ⌜ Lent (now s) (now work) × Ahead (now s) (now work) begin × (getD (now work) 4 0 ≡ length (Types.declared (fieldsIn (now s)))) ⌝ }
     ensures { λ r. ⌜ Passes (fromFields (fieldsIn (now (s .entry)))) count (now (s .entry)) (now (work .entry)) r (now (work .exit)) (now (kept .exit)) ⌝ }
 {
-    let declared = types::declare_all(s, work);
+    let declared = interning::declare_all(s, work);
     intern(s, work, kept, count, declared)
 }
 
@@ -83,6 +86,6 @@ pub fn prepare(s: &[u8], work: &mut [u32], kept: &mut [u8]) -> Passed
 {
     match stream::read_all(s, work) {
         Count::Records(count) => declare(s, work, kept, count),
-        Count::Refused(n, q) => refuse(n, q),
+        Count::Refused(q) => refuse(q),
     }
 }

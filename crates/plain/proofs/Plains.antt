@@ -10,18 +10,18 @@ use Rattle.definition.specs.Instructions as Instructions
 use Rattle.definition.specs.Names.{Namespace, immediate, plainOp}
 use Rattle.definition.specs.Binary.{imm, instruction}
 use Rattle.emit.specs.Put.{Put}
-use Rattle.token.specs.Views.{indexOf, indexAt}
+use Rattle.syntax.specs.Tokens.{indexOf, indexAt}
 use Rattle.token.specs.Known.{Gets}
-use Rattle.token.specs.declared.index.Index.{Index}
-use Rattle.token.specs.declared.index.IndexAt.{IndexAt}
-use Rattle.token.specs.declared.index.IndexAt.the-variants as X
+use Rattle.syntax.specs.declared.Index.{Index}
+use Rattle.syntax.specs.declared.IndexAt.{IndexAt}
+use Rattle.syntax.specs.declared.IndexAt.the-variants as X
 use Rattle.token.proofs.Gets.{gets-first}
-use Rattle.expr.specs.Views.{plainIs, plainAt, operandsIs}
-use Rattle.expr.specs.declared.Plain.{Plain}
-use Rattle.expr.specs.declared.PlainAt.{PlainAt}
-use Rattle.expr.specs.declared.PlainAt.the-variants as P
-use Rattle.expr.specs.declared.Operands.{Operands}
-use Rattle.expr.specs.declared.Operands.the-variants as W
+use Rattle.syntax.specs.Plain.{plainIs, plainAt, operandsIs}
+use Rattle.syntax.specs.declared.Plain.{Plain}
+use Rattle.syntax.specs.declared.PlainAt.{PlainAt}
+use Rattle.syntax.specs.declared.PlainAt.the-variants as P
+use Rattle.syntax.specs.declared.Operands.{Operands}
+use Rattle.syntax.specs.declared.Operands.the-variants as W
 use Rattle.scope.specs.Scope.{scopeIn, localsIn, labelsIn}
 use Rattle.scope.specs.declared.Locals.{Locals}
 use Rattle.binary.specs.Emits.{Emits}

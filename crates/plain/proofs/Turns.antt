@@ -9,8 +9,11 @@ use Rattle.definition.specs.Reader.{Step, got, fault}
 use Rattle.definition.specs.Read.{openAfter}
 use Rattle.definition.specs.Names.{Namespace, blocksAfter, plainOp, instrOp}
 use Rattle.definition.specs.Binary.{instruction}
-use Rattle.space.specs.Kept.{Kept}
-use Rattle.space.proofs.Kept.{kept-same}
+use Rattle.syntax.specs.Refusals.{refusedBy}
+use Rattle.syntax.specs.declared.Refusal.{Refusal}
+use Rattle.area.specs.Layout.{LABELS}
+use Rattle.area.specs.Kept.{Kept}
+use Rattle.area.proofs.Kept.{kept-same}
 use Rattle.scope.specs.Scope.{scopeIn, labelsIn}
 use Rattle.binary.specs.Emits.{Wrote, Emits}
 use Rattle.binary.specs.declared.Emitted.{Emitted}
@@ -25,8 +28,8 @@ module _ (e : Emitted) (next j : ℕ) where
   pub goes-to : (o : ℕ) → e ≡ E.To o → T.On o next j ≡ turnOf e next j
   goes-to o d = rw d
 
-  pub goes-not : (n q : ℕ) → e ≡ E.Refused n q → T.Refused n q ≡ turnOf e next j
-  goes-not n q d = rw d
+  pub goes-not : (q : Refusal) → e ≡ E.Refused q → T.Refused q ≡ turnOf e next j
+  goes-not q d = rw d
 
 -- ## Any record
 
@@ -38,20 +41,20 @@ module _ (s w : List ℕ) (ls : Namespace Identifier) (k rec : ℕ) (m : Step (R
   -- an instruction was read and emitted
   module _ (x : Syntax.Instr Identifier) (next : ℕ) (reads : m ≡ got (instr x) next) (new : List ℕ) where
     pub turned-on : (o j : ℕ) (w′ : List ℕ) → Wrote instruction (instrOp (scopeIn s w) ls (labelsIn s w k) rec x) old at o new
-        → labelsIn s w′ j ≡ blocksAfter (labelsIn s w k) x → j ≡ openAfter x k → j ≤ 128 → Kept 11920 w w′ → Turned s w ls k rec m old at (T.On o next j) w′ new
+        → labelsIn s w′ j ≡ blocksAfter (labelsIn s w k) x → j ≡ openAfter x k → j ≤ 128 → Kept LABELS w w′ → Turned s w ls k rec m old at (T.On o next j) w′ new
     unfolding Turned
     turned-on o j w′ v b d f kept = record { read = x; op = v .value; reads = reads; is = v .is; put = v .put; blocks = b; depth = d; few = f; kept = kept }
 
-    pub turned-refused : (n q : ℕ) → instrOp (scopeIn s w) ls (labelsIn s w k) rec x ≡ refused n q → Turned s w ls k rec m old at (T.Refused n q) w new
+    pub turned-refused : (q : Refusal) → instrOp (scopeIn s w) ls (labelsIn s w k) rec x ≡ refusedBy q → Turned s w ls k rec m old at (T.Refused q) w new
     unfolding Turned
-    turned-refused n q e = record { read = x; next = next; reads = reads; says = e; area = refl }
+    turned-refused q e = record { read = x; next = next; reads = reads; says = e; area = refl }
 
     -- it opened no block
     pub turned-same : (j : ℕ) (y : Emitted) → labelsIn s w j ≡ blocksAfter (labelsIn s w k) x → j ≡ openAfter x k → j ≤ 128
         → Emits instruction (instrOp (scopeIn s w) ls (labelsIn s w k) rec x) old at y new → Turned s w ls k rec m old at (turnOf y next j) w new
     unfolding Emits
-    turned-same j (E.To o) b d f v = turned-on o j w v b d f (kept-same 11920 w)
-    turned-same j (E.Refused n q) b d f v = turned-refused n q v
+    turned-same j (E.To o) b d f v = turned-on o j w v b d f (kept-same LABELS w)
+    turned-same j (E.Refused q) b d f v = turned-refused q v
 
 -- ## Plain ones
 

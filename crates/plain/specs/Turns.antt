@@ -12,9 +12,12 @@ use Rattle.definition.specs.Read.{openAfter}
 use Rattle.definition.specs.Types.{Uses, usedAt, instrUses}
 use Rattle.definition.specs.Names.{Namespace, blocksAfter, instrOp}
 use Rattle.definition.specs.Binary.{instruction}
+use Rattle.syntax.specs.Refusals.{refusedBy}
+use Rattle.syntax.specs.declared.Refusal.{Refusal}
 use Rattle.emit.specs.Put.{Put}
-use Rattle.space.specs.Kept.{Kept}
-use Rattle.walk.specs.Walk.{onBody}
+use Rattle.area.specs.Layout.{LABELS}
+use Rattle.area.specs.Kept.{Kept}
+use Rattle.instr.specs.Bodies.{onBody}
 use Rattle.scope.specs.Scope.{scopeIn, labelsIn}
 use Rattle.binary.specs.declared.Emitted.{Emitted}
 use Rattle.binary.specs.declared.Emitted.the-variants as E
@@ -24,7 +27,7 @@ use Rattle.plain.specs.declared.turn.Turn.the-variants as T
 -- what came of an instruction
 abbrev pub turnOf : Emitted → ℕ → ℕ → Turn
 turnOf (E.To o) next j = T.On o next j
-turnOf (E.Refused n q) next j = T.Refused n q
+turnOf (E.Refused q) next j = T.Refused q
 
 -- ## What is read
 
@@ -60,7 +63,7 @@ pub record Stepped (s w : List ℕ) (locals : Namespace Identifier) (k rec : ℕ
   pub blocks : labelsIn s w′ j ≡ blocksAfter (labelsIn s w k) read
   pub depth : j ≡ openAfter read k
   pub few : j ≤ 128
-  pub kept : Kept 11920 w w′
+  pub kept : Kept LABELS w w′
 
 -- no instruction is here
 pub record Ended (m : Step (Rec Identifier)) (w old w′ new : List ℕ) : Type 0 where
@@ -69,18 +72,18 @@ pub record Ended (m : Step (Rec Identifier)) (w old w′ new : List ℕ) : Type 
   pub bytes : new ≡ old
 
 -- an instruction was refused
-pub record Halted (s w : List ℕ) (locals : Namespace Identifier) (k rec : ℕ) (m : Step (Rec Identifier)) (n q : ℕ) (w′ : List ℕ) : Type 0 where
+pub record Halted (s w : List ℕ) (locals : Namespace Identifier) (k rec : ℕ) (m : Step (Rec Identifier)) (q : Refusal) (w′ : List ℕ) : Type 0 where
   pub read : Syntax.Instr Identifier
   pub next : ℕ
   pub reads : m ≡ got (instr read) next
-  pub says : instrOp (scopeIn s w) locals (labelsIn s w k) rec read ≡ refused n q
+  pub says : instrOp (scopeIn s w) locals (labelsIn s w k) rec read ≡ refusedBy q
   pub area : w′ ≡ w
 
 -- `m` is what is read where k blocks are open
 unfoldable pub Turned : List ℕ → List ℕ → Namespace Identifier → ℕ → ℕ → Step (Rec Identifier) → List ℕ → ℕ → Turn → List ℕ → List ℕ → Type 0
 Turned s w locals k rec m old at (T.On o next j) w′ new = Stepped s w locals k rec m old at o next j w′ new
 Turned s w locals k rec m old at T.Done w′ new = Ended m w old w′ new
-Turned s w locals k rec m old at (T.Refused n q) w′ new = Halted s w locals k rec m n q w′
+Turned s w locals k rec m old at (T.Refused q) w′ new = Halted s w locals k rec m q w′
 
 -- whatever the locals are
 pub record AnyLocals (s w : List ℕ) (k rec : ℕ) (m : Step (Rec Identifier)) (old : List ℕ) (at : ℕ) (r : Turn) (w′ new : List ℕ) : Type 0 where

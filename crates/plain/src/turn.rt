@@ -1,5 +1,6 @@
 // What came of one record of a body.
 use binary::Emitted;
+use syntax::Refusal;
 ghost use mathlib.Core.Path.{_≡_};
 ghost use Rattle.plain.specs.Turns.{turnOf};
 
@@ -8,7 +9,7 @@ pub enum Turn {
     On(usize, usize, u32),
     // no instruction is here
     Done,
-    Refused(u8, u32),
+    Refused(Refusal),
 }
 
 // What came of an instruction: its record ends before `next`, and after it j blocks are open.
@@ -17,6 +18,6 @@ pub fn go_on(e: Emitted, next: usize, j: u32) -> Turn
 {
     match e {
         Emitted::To(o) => Turn::On(o, next, j),
-        Emitted::Refused(n, q) => Turn::Refused(n, q),
+        Emitted::Refused(q) => Turn::Refused(q),
     }
 }

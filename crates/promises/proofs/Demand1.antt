@@ -6,6 +6,7 @@ use mathlib.Core.List.{List, [], _++_}
 use lib.Dec.{ltb}
 use lib.ListN.{length, take, drop, take-append-drop}
 use native.Mathlib.Omega.{arith}
+use Rattle.definition.specs.Assemble.{longestStream, leastWork}
 use Rattle.definition.specs.Basic.{if_then_else_, Answer, ok, refused, sameBytes}
 use Rattle.definition.specs.Syntax.{Bytes, Identifier, Rec}
 use Rattle.definition.specs.Read.{read}
@@ -26,7 +27,7 @@ say-refused count (refused n r) h = refl
 
 refused-writes : (make : Maker) (s : Bytes) (work room : ℕ) → 0 < assembleBy make s work room .number → assembleBy make s work room .bytes ≡ []
 unfolding assembleBy sayRead
-refused-writes make s work room h = go (ltb 65536 (length s)) (ltb work 16384) (read s) h
+refused-writes make s work room h = go (ltb longestStream (length s)) (ltb work leastWork) (read s) h
   where
     go : (x y : Bool) (c : Answer (List (Rec Identifier))) → 0 < (if x then refusal 1 0 else if y then refusal 10 0 else sayRead make room c) .number
         → (if x then refusal 1 0 else if y then refusal 10 0 else sayRead make room c) .bytes ≡ []

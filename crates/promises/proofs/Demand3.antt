@@ -5,6 +5,7 @@ use mathlib.Core.Path.{_≡_, refl, sym, _∙_, ap}
 use mathlib.Core.List.{List, _++_}
 use lib.ListN.{length, take, drop, replicate, length-take}
 use native.Mathlib.Omega.{arith}
+use Rattle.definition.specs.Assemble.{leastWork}
 use Rattle.definition.specs.Syntax.{Bytes}
 use Rattle.definition.specs.Assemble.{assemble, outputAfter, Outcome, outcome, callBy, call, callNames}
 use Rattle.renaming.specs.Renamed.{Renamed, SaysTheSame, namesOf, SaysTheSameBefore}
@@ -20,7 +21,7 @@ use Rattle.promises.proofs.Demand1.{demand-1-assemble, demand-1-export}
 -- ## What two calls leave
 
 -- the bytes beyond the module are those that were there
-call-outputs : (s t : Bytes) (d : Renamed s t) (work work′ : List ℕ) (h : 16384 ≤ length work) (h′ : 16384 ≤ length work′) (old old′ : Bytes)
+call-outputs : (s t : Bytes) (d : Renamed s t) (work work′ : List ℕ) (h : leastWork ≤ length work) (h′ : leastWork ≤ length work′) (old old′ : Bytes)
     → old ≡ old′ → call s work old .output ≡ call t work′ old′ .output
 unfolding call callBy assemble outcome
 call-outputs s t d work work′ h h′ old old′ o =
@@ -32,7 +33,7 @@ same-works work work′ old old′ o o′ x y l = x .work-cleared ∙ ap (λ n. 
 
 -- ## The call
 
-module _ (s t : Bytes) (d : Renamed s t) (work work′ : List ℕ) (h : 16384 ≤ length work) (h′ : 16384 ≤ length work′)
+module _ (s t : Bytes) (d : Renamed s t) (work work′ : List ℕ) (h : leastWork ≤ length work) (h′ : leastWork ≤ length work′)
     (old old′ : Bytes) (e : length old ≡ length old′) (r r′ : Said) (out out′ w w′ : List ℕ)
     (k : Assembles s work old r out w) (k′ : Assembles t work′ old′ r′ out′ w′) where
   same : SaysTheSame (outcomeOf r out w) (outcomeOf r′ out′ w′)
@@ -48,7 +49,7 @@ module _ (s t : Bytes) (d : Renamed s t) (work work′ : List ℕ) (h : 16384 �
 
 -- ## The exported call
 
-module _ (s t : Bytes) (d : Renamed s t) (work work′ : List ℕ) (h : 16384 ≤ length work) (h′ : 16384 ≤ length work′)
+module _ (s t : Bytes) (d : Renamed s t) (work work′ : List ℕ) (h : leastWork ≤ length work) (h′ : leastWork ≤ length work′)
     (old old′ : Bytes) (e : length old ≡ length old′) (r r′ : ℕ) (a a′ out out′ w w′ : List ℕ)
     (k : Exports s work old r a out w) (k′ : Exports t work′ old′ r′ a′ out′ w′) where
   -- as much of both outputs is lent
@@ -80,7 +81,7 @@ module _ (s t : Bytes) (d : Renamed s t) (work work′ : List ℕ) (h : 16384 �
 
 -- ## The calls with names: the bytes before the name section, and nothing of refusal 18
 
-module _ (s t : Bytes) (d : Renamed s t) (work work′ : List ℕ) (h : 16384 ≤ length work) (h′ : 16384 ≤ length work′) (old old′ : Bytes) where
+module _ (s t : Bytes) (d : Renamed s t) (work work′ : List ℕ) (h : leastWork ≤ length work) (h′ : leastWork ≤ length work′) (old old′ : Bytes) where
   pub demand-3-assemble-names : (r r′ : Said) (out out′ w w′ : List ℕ) → AssemblesNames s work old r out w → AssemblesNames t work′ old′ r′ out′ w′
       → (r .number ≡ 18 → ⊥) → (r′ .number ≡ 18 → ⊥)
       → SaysTheSameBefore (namesOf (d .first)) (namesOf (d .second)) (outcomeOf r out w) (outcomeOf r′ out′ w′)

@@ -8,6 +8,7 @@ use lib.ListN.{length, take, length-append, length-take}
 use lib.Seq.{take-append-seam}
 use borrow.Author.Tests.{le-ltb, le-leb, leb-true}
 use native.Mathlib.Omega.{arith}
+use Rattle.definition.specs.Assemble.{longestStream, leastWork}
 use Rattle.definition.specs.Basic.{if_then_else_, Answer, ok, refused, _>>=_, sameBytes}
 use Rattle.definition.specs.Syntax.{Bytes, Identifier, Rec, Item}
 use Rattle.definition.specs.Read.{read}
@@ -67,10 +68,10 @@ module _ (s : Bytes) (work room : ℕ) where
   abbrev named : Assemble.Said
   named = assembleBy namedModuleIn s work room
 
-  said-after : (work′ room′ : ℕ) → 16384 ≤ work′ → 0 < length (named .bytes) → length (named .bytes) ≤ room′
+  said-after : (work′ room′ : ℕ) → leastWork ≤ work′ → 0 < length (named .bytes) → length (named .bytes) ≤ room′
       → Follows room (sectionOf (read s)) named (assembleBy (moduleIn sameBytes) s work′ room′)
   unfolding assembleBy sayRead namedModuleIn moduleIn resolved items namesOf
-  said-after work′ room′ h′ p h = rw (le-ltb work′ 16384 h′) (go (ltb 65536 (length s)) (ltb work 16384) (read s) p h)
+  said-after work′ room′ h′ p h = rw (le-ltb work′ leastWork h′) (go (ltb longestStream (length s)) (ltb work leastWork) (read s) p h)
     where
       go : (x y : Bool) (c : Answer (List (Rec Identifier)))
           → 0 < length ((if x then refusal 1 0 else if y then refusal 10 0 else sayRead namedModuleIn room c) .bytes)
@@ -82,7 +83,7 @@ module _ (s : Bytes) (work room : ℕ) where
       go false false (refused n r) p h = absurd (omega arith)
       go false false (ok rs) p h = with-scope (length rs) room room′ (deinline rs) (scope sameBytes (deinline rs)) p h
 
-module _ (s : Bytes) (work work′ : List ℕ) (h′ : 16384 ≤ length work′) (old old′ : Bytes) (p : 0 < callNames s work old .written) where
+module _ (s : Bytes) (work work′ : List ℕ) (h′ : leastWork ≤ length work′) (old old′ : Bytes) (p : 0 < callNames s work old .written) where
   written-fits : callNames s work old .written ≤ length old
   unfolding callNames callBy outcome
   written-fits =
@@ -102,7 +103,7 @@ module _ (s : Bytes) (work work′ : List ℕ) (h′ : 16384 ≤ length work′)
 
 -- ## The calls: where that with names has written a module, and the other has as much room
 
-module _ (s : Bytes) (work work′ : List ℕ) (h′ : 16384 ≤ length work′) (old old′ : Bytes) where
+module _ (s : Bytes) (work work′ : List ℕ) (h′ : leastWork ≤ length work′) (old old′ : Bytes) where
   pub names-after-assemble : (r r′ : Said) (out out′ w w′ : List ℕ) → AssemblesNames s work old r out w → Assembles s work′ old′ r′ out′ w′
       → 0 < r .len → r .len ≤ length old′ → NamesAfter (sectionOf (read s)) (outcomeOf r out w) (outcomeOf r′ out′ w′)
   names-after-assemble r r′ out out′ w w′ k k′ p h =

@@ -7,11 +7,11 @@ use native.Mathlib.Omega.{arith}
 use Rattle.definition.specs.Reader.{Step}
 use Rattle.definition.specs.Assemble.{call, callNames}
 use Rattle.emit.specs.Put.{Put}
-use Rattle.leb.specs.Views.{u32At, u64At}
-use Rattle.leb.specs.declared.read.U32.{U32}
-use Rattle.leb.specs.declared.read.U32.the-variants as U32′
-use Rattle.leb.specs.declared.read.U64.{U64}
-use Rattle.leb.specs.declared.read.U64.the-variants as U64′
+use Rattle.syntax.specs.Numbers.{u32At, u64At}
+use Rattle.syntax.specs.declared.U32.{U32}
+use Rattle.syntax.specs.declared.U32.the-variants as U32′
+use Rattle.syntax.specs.declared.U64.{U64}
+use Rattle.syntax.specs.declared.U64.the-variants as U64′
 use Rattle.stream.specs.Pass.{counted, Reads}
 use Rattle.stream.specs.Export.{Told}
 use Rattle.stream.specs.declared.pass.Count.{Count}
@@ -51,9 +51,9 @@ export-names-one = handed-one callNames
 
 counted-one : (a b : Count) → counted a ≡ counted b → a ≡ b
 counted-one (C.Records n) (C.Records m) e = let x : n ≡ m = cc in rw x refl
-counted-one (C.Records n) (C.Refused m q) e = let z : _≡_ {A = ℕ} 0 1 = cc in absurd (omega arith)
-counted-one (C.Refused n p) (C.Records m) e = let z : _≡_ {A = ℕ} 0 1 = cc in absurd (omega arith)
-counted-one (C.Refused n p) (C.Refused m q) e = let x : n ≡ m = cc in let y : p ≡ q = cc in rw (x, y) refl
+counted-one (C.Records n) (C.Refused q) e = let z : _≡_ {A = ℕ} 0 1 = cc in absurd (omega arith)
+counted-one (C.Refused p) (C.Records m) e = let z : _≡_ {A = ℕ} 0 1 = cc in absurd (omega arith)
+counted-one (C.Refused p) (C.Refused q) e = let x : p .number ≡ q .number = cc in let y : p .rec ≡ q .rec = cc in λ i. C.Refused (record { number = x i; rec = y i })
 
 pub read-all-one : (s work : List ℕ) (r r′ : Count) (w w′ : List ℕ) → Reads s work r w → Reads s work r′ w′ → (r ≡ r′) × (w ≡ w′)
 read-all-one s work r r′ w w′ k k′ = (counted-one r r′ (sym (k .says) ∙ k′ .says), k .leaves ∙ sym (k′ .leaves))

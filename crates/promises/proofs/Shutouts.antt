@@ -6,6 +6,7 @@ use lib.Dec.{leb, ltb}
 use lib.ListN.{length, drop}
 use borrow.Author.Tests.{le-ltb, le-leb}
 use native.Mathlib.Omega.{arith}
+use Rattle.definition.specs.Assemble.{leastWork}
 use Rattle.definition.specs.Basic.{if_then_else_, ok, refused}
 use Rattle.definition.specs.Syntax.{Bytes}
 use Rattle.definition.specs.Assemble as Assemble
@@ -26,13 +27,13 @@ S7-module =
     ∷ 0x0A ∷ 0x06 ∷ 0x01 ∷ 0x04 ∷ 0x00 ∷ 0x20 ∷ 0x00 ∷ 0x0B ∷ [])
 
 -- with room for its bytes a module is written
-fits : (count : ℕ) (bs : Bytes) (work room : ℕ) → 16384 ≤ work → length bs ≤ room
-    → (if ltb work 16384 then refusal 10 0 else say count (if leb (length bs) room then ok bs else refused 18 count))
+fits : (count : ℕ) (bs : Bytes) (work room : ℕ) → leastWork ≤ work → length bs ≤ room
+    → (if ltb work leastWork then refusal 10 0 else say count (if leb (length bs) room then ok bs else refused 18 count))
     ≡ record { number = 0; rec = count; bytes = bs }
 unfolding say
-fits count bs work room h b = rw (le-ltb work 16384 h, le-leb (length bs) room b) refl
+fits count bs work room h b = rw (le-ltb work leastWork h, le-leb (length bs) room b) refl
 
-module _ (work room : ℕ) (h : 16384 ≤ work) where
+module _ (work room : ℕ) (h : leastWork ≤ work) where
   S1-said : 8 ≤ room → assemble [] work room ≡ record { number = 0; rec = 0; bytes = S1-module }
   unfolding computing
   S1-said b = fits 0 S1-module work room h b
@@ -44,11 +45,11 @@ module _ (work room : ℕ) (h : 16384 ≤ work) where
   -- with y for the second x there is no such identifier
   S7-slip-said : assemble (S7 0x79) work room ≡ refusal 14 1
   unfolding computing
-  S7-slip-said = rw (le-ltb work 16384 h) refl
+  S7-slip-said = rw (le-ltb work leastWork h) refl
 
 -- ## The answers
 
-module _ (work : List ℕ) (h : 16384 ≤ length work) (old : Bytes) (r : Said) (out w : List ℕ) where
+module _ (work : List ℕ) (h : leastWork ≤ length work) (old : Bytes) (r : Said) (out w : List ℕ) where
   -- what is said decides the answer
   answer : (s : Bytes) (a : Assemble.Said) → assemble s (length work) (length old) ≡ a → Assembles s work old r out w
       → (r ≡ record { number = a .number; rec = a .rec; len = length (a .bytes) }) × (out ≡ a .bytes ++ drop (length (a .bytes)) old)

@@ -7,6 +7,7 @@ use lib.Dec.{lit≤}
 use lib.ListN.{length, length-map}
 use lib.Seq.{take-append-seam}
 use borrow.Author.Tests.{le-ltb}
+use Rattle.definition.specs.Assemble.{longestStream, leastWork}
 use Rattle.definition.specs.Basic.{at, sameBytes}
 use Rattle.definition.specs.Syntax.{Bytes, Identifier, Rec}
 use Rattle.definition.specs.Assemble.{resolved, moduleIn, sayRead, assembleBy, assemble, outputAfter, outcome, callBy, call}
@@ -79,24 +80,24 @@ module _ (xs ys : List (Rec Identifier)) (same-shape : shape xs ≡ shape ys) (a
 
 -- ## Demand 3 on streams, and on calls
 
-pub demand-3 : (s t : Bytes) (work room : ℕ) → 16384 ≤ work → Renamed s t → assemble s work room ≡ assemble t work room
+pub demand-3 : (s t : Bytes) (work room : ℕ) → leastWork ≤ work → Renamed s t → assemble s work room ≡ assemble t work room
 unfolding assemble assembleBy sayRead
 demand-3 s t work room enough d =
     let l = same-length (d .first) (d .second) (d .same-shape) (d .alike) in
     let m = same-module (d .first) (d .second) (d .same-shape) (d .alike) room in
-    rw (le-ltb 65536 (length s) (d .short), le-ltb 65536 (length t) (d .short′), le-ltb work 16384 enough, d .reads, d .reads′, l, m)
+    rw (le-ltb longestStream (length s) (d .short), le-ltb longestStream (length t) (d .short′), le-ltb work leastWork enough, d .reads, d .reads′, l, m)
 
 -- a work area that is large enough may be any
-any-work : (s : Bytes) (work work′ room : ℕ) → 16384 ≤ work → 16384 ≤ work′ → assemble s work room ≡ assemble s work′ room
+any-work : (s : Bytes) (work work′ room : ℕ) → leastWork ≤ work → leastWork ≤ work′ → assemble s work room ≡ assemble s work′ room
 unfolding assemble assembleBy
-any-work s work work′ room h h′ = rw (le-ltb work 16384 h, le-ltb work′ 16384 h′)
+any-work s work work′ room h h′ = rw (le-ltb work leastWork h, le-ltb work′ leastWork h′)
 
-pub same-said : (s t : Bytes) (work work′ room room′ : ℕ) → 16384 ≤ work → 16384 ≤ work′ → room ≡ room′ → Renamed s t
+pub same-said : (s t : Bytes) (work work′ room room′ : ℕ) → leastWork ≤ work → leastWork ≤ work′ → room ≡ room′ → Renamed s t
     → assemble s work room ≡ assemble t work′ room′
 same-said s t work work′ room room′ h h′ e d = rw e (any-work s work work′ room′ h h′ ∙ demand-3 s t work′ room′ h′ d)
 
 pub demand-3-call : (s t : Bytes) (work work′ : List ℕ) (output output′ : Bytes)
-    → 16384 ≤ length work → 16384 ≤ length work′ → length output ≡ length output′ → Renamed s t
+    → leastWork ≤ length work → leastWork ≤ length work′ → length output ≡ length output′ → Renamed s t
     → SaysTheSame (call s work output) (call t work′ output′)
 unfolding call callBy assemble outcome outputAfter
 demand-3-call s t work work′ output output′ h h′ e d =
@@ -109,5 +110,5 @@ demand-3-call s t work work′ output output′ h h′ e d =
     }
 
 -- two streams of the examples
-pub same-answer : assemble first 16384 65536 ≡ assemble second 16384 65536
-same-answer = demand-3 first second 16384 65536 (lit≤ tt) renamed
+pub same-answer : assemble first leastWork 65536 ≡ assemble second leastWork 65536
+same-answer = demand-3 first second leastWork 65536 (lit≤ tt) renamed

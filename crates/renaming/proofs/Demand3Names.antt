@@ -8,6 +8,7 @@ use lib.ListN.{length}
 use lib.Seq.{take-append-seam}
 use borrow.Author.Tests.{le-ltb}
 use native.Mathlib.Omega.{arith}
+use Rattle.definition.specs.Assemble.{longestStream, leastWork}
 use Rattle.definition.specs.Basic.{if_then_else_, Answer, ok, refused, _>>=_, sameBytes}
 use Rattle.definition.specs.Syntax.{Bytes, Identifier, Rec, Item}
 use Rattle.definition.specs.Read.{read}
@@ -34,11 +35,11 @@ named-is room rs = go (scope sameBytes (deinline rs))
 abbrev does : ℕ → Answer (List Item) → Bytes → List ℕ → Bytes → Outcome
 does count a section work output = outcome output work (say count (a >>= λ is. fitting (length output) count (module′ is ++ section)))
 
-names-call : (s : Bytes) (work : List ℕ) (output : Bytes) (rs : List (Rec Identifier)) → length s ≤ 65536 → 16384 ≤ length work → read s ≡ ok rs
+names-call : (s : Bytes) (work : List ℕ) (output : Bytes) (rs : List (Rec Identifier)) → length s ≤ longestStream → leastWork ≤ length work → read s ≡ ok rs
     → callNames s work output ≡ does (length rs) (resolved sameBytes rs) (namesOf rs) work output
 unfolding callNames callBy assembleBy sayRead
 names-call s work output rs short enough reads =
-    rw (le-ltb 65536 (length s) short, le-ltb (length work) 16384 enough, reads, named-is (length output) rs) refl
+    rw (le-ltb longestStream (length s) short, le-ltb (length work) leastWork enough, reads, named-is (length output) rs) refl
 
 not-empty : (is : List Item) (bs : Bytes) → length (module′ is ++ bs) ≡ 0 → ⊥
 unfolding module′ preamble
@@ -66,7 +67,7 @@ module _ (count : ℕ) (section section′ : Bytes) (work work′ : List ℕ) (o
       }
 
 pub demand-3-names : (s t : Bytes) (work work′ : List ℕ) (output output′ : Bytes)
-    → 16384 ≤ length work → 16384 ≤ length work′ → (d : Renamed s t)
+    → leastWork ≤ length work → leastWork ≤ length work′ → (d : Renamed s t)
     → (callNames s work output .number ≡ 18 → ⊥) → (callNames t work′ output′ .number ≡ 18 → ⊥)
     → SaysTheSameBefore (namesOf (d .first)) (namesOf (d .second)) (callNames s work output) (callNames t work′ output′)
 demand-3-names s t work work′ output output′ h h′ d =

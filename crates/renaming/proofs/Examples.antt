@@ -3,6 +3,7 @@ use mathlib.Core.Path.{_≡_, refl, ap, _∙_, sym}
 use Prim.Native.Nat.{ℕ}
 use native.Mathlib.Omega.{arith}
 use mathlib.Core.List.{[], _∷_}
+use Rattle.definition.specs.Assemble.{leastWork}
 use Rattle.definition.specs.Basic
 use Rattle.definition.specs.Syntax.{Bytes}
 use Rattle.definition.specs.Reader
@@ -85,7 +86,7 @@ pub renamed : Renamed first second
 unfolding computing
 renamed = renamed-by-test first second refl refl refl refl
 
-pub accepted : assemble first 16384 65536 .number ≡ 0
+pub accepted : assemble first leastWork 65536 .number ≡ 0
 unfolding computing
 accepted = refl
 
@@ -111,15 +112,15 @@ not-renamed d =
     let n : _≡_ {A = ℕ} 0x78 0x79 = cc in
     omega arith
 
-pub accepts-first : assemble (S7 0x78) 16384 65536 .number ≡ 0
+pub accepts-first : assemble (S7 0x78) leastWork 65536 .number ≡ 0
 unfolding computing
 accepts-first = refl
 
-pub refuses-second : assemble (S7 0x79) 16384 65536 ≡ refusal 14 1
+pub refuses-second : assemble (S7 0x79) leastWork 65536 ≡ refusal 14 1
 unfolding computing
 refuses-second = refl
 
-pub answers-differ : assemble (S7 0x78) 16384 65536 ≡ assemble (S7 0x79) 16384 65536 → ⊥
+pub answers-differ : assemble (S7 0x78) leastWork 65536 ≡ assemble (S7 0x79) leastWork 65536 → ⊥
 answers-differ e =
     let n : _≡_ {A = ℕ} 0 14 = sym accepts-first ∙ ap (λ a. a .number) (e ∙ refuses-second) in
     omega arith

@@ -6,6 +6,7 @@ use mathlib.Core.Logic.{_↔_}
 use mathlib.Core.List.{List, [], _++_}
 use mathlib.Core.Option.{some}
 use lib.ListN.{length, take}
+use Rattle.definition.specs.Assemble.{longestStream}
 use Rattle.definition.specs.Basic.{Answer, ok, refused, at, sameBytes}
 use Rattle.definition.specs.Syntax.{Bytes, Identifier, Rec}
 use Rattle.definition.specs.Read.{read}
@@ -25,8 +26,8 @@ pub record Alike (first second : Names Identifier) : Type 0 where
 
 pub record Renamed (s t : Bytes) : Type 0 where
   -- free of refusal 1
-  pub short : length s ≤ 65536
-  pub short′ : length t ≤ 65536
+  pub short : length s ≤ longestStream
+  pub short′ : length t ≤ longestStream
   -- free of refusals 2 to 9 and 19
   pub first : List (Rec Identifier)
   pub second : List (Rec Identifier)

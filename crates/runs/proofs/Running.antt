@@ -16,10 +16,10 @@ use Rattle.emit.specs.Put.{Put}
 use Rattle.emit.proofs.Laws.{put-none, put-then, put-is}
 use Rattle.laws.specs.Steps.{stops}
 use Rattle.token.specs.Known.{Gets}
-use Rattle.typeuse.specs.Views.{localAt, elements}
-use Rattle.typeuse.specs.declared.Local.{Local}
-use Rattle.typeuse.specs.declared.LocalAt.{LocalAt}
-use Rattle.typeuse.specs.declared.LocalAt.the-variants as OA
+use Rattle.syntax.specs.TypeUses.{localAt, elements}
+use Rattle.syntax.specs.declared.Local.{Local}
+use Rattle.syntax.specs.declared.LocalAt.{LocalAt}
+use Rattle.syntax.specs.declared.LocalAt.the-variants as OA
 use Rattle.typeuse.proofs.Gets.{know-begin, know-local, know-again}
 use Rattle.runs.specs.Locals.{localTypes, RunIs, FirstRun, RunAtIs}
 use Rattle.runs.specs.declared.Run.{Run}

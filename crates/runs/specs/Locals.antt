@@ -7,7 +7,7 @@ use Rattle.definition.specs.Reader.{many}
 use Rattle.definition.specs.Token.{param}
 use Rattle.definition.specs.Binary.{runs}
 use Rattle.token.specs.Known.{Gets}
-use Rattle.typeuse.specs.Views.{elements}
+use Rattle.syntax.specs.TypeUses.{elements}
 use Rattle.runs.specs.declared.Run.{Run}
 use Rattle.runs.specs.declared.RunAt.{RunAt}
 use Rattle.runs.specs.declared.RunAt.the-variants as R

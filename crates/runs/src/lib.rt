@@ -1,6 +1,6 @@
 // The locals of a function: equal neighbours in one run. They were read before, so of their names only the lengths are looked at.
-use typeuse::List;
-use typeuse::LocalAt;
+use syntax::List;
+use syntax::LocalAt;
 ghost use mathlib.Core.Path.{_≡_};
 ghost use Prim.Native.Nat.{_≤_};
 ghost use lib.ListN.{length};

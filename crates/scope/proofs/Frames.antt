@@ -9,17 +9,18 @@ use Rattle.definition.specs.Syntax.{Identifier, Space, FuncType, code}
 use Rattle.definition.specs.Types.{Uses}
 use Rattle.definition.specs.Names.{Namespace}
 use Rattle.definition.specs.Basic.{sameBytes}
-use Rattle.token.specs.Views.{idOf}
-use Rattle.token.specs.declared.text.Part.{Part}
-use Rattle.space.specs.Area.{entry, entryWords, names, labels}
-use Rattle.space.specs.Kept.{Kept}
-use Rattle.space.proofs.Kept.{kept-word}
-use Rattle.space.proofs.Walk.{entry-written}
-use Rattle.signatures.specs.Table.{typesIn, Recalled}
-use Rattle.signatures.proofs.Types as Signatures
-use Rattle.names.specs.Register.{base, tableOf}
-use Rattle.names.proofs.Items.{base-low}
-use Rattle.names.proofs.Tables.{code-small, words-kept}
+use Rattle.area.specs.Layout.{LABELS, LOCALS, NAMED, TOTAL, UNUSED, USES}
+use Rattle.syntax.specs.Tokens.{idOf}
+use Rattle.syntax.specs.declared.Part.{Part}
+use Rattle.name_table.specs.Area.{entry, entryWords, names, labels}
+use Rattle.area.specs.Kept.{Kept}
+use Rattle.area.proofs.Kept.{kept-word}
+use Rattle.name_table.proofs.Walk.{entry-written}
+use Rattle.type_table.specs.Table.{typesIn, Recalled}
+use Rattle.type_table.proofs.Types as Signatures
+use Rattle.name_table.specs.Tables.{base, tableOf}
+use Rattle.name_table.proofs.Tables.{base-low}
+use Rattle.name_table.proofs.Tables.{code-small, words-kept}
 use Rattle.scope.specs.Scope.{scopeIn, localsIn, labelsIn}
 use Rattle.scope.specs.declared.Locals.{Locals}
 
@@ -36,27 +37,27 @@ module _ (s w w′ : List ℕ) (m : ℕ) (k : Kept m w w′) where
   names-kept (suc n) b h = rw (entry-kept b (omega arith), names-kept n (b + 3) (omega arith))
 
   -- the labels below a place
-  pub labels-kept : (n : ℕ) → 11920 + 3 * n ≤ m → labelsIn s w′ n ≡ labelsIn s w n
+  pub labels-kept : (n : ℕ) → LABELS + 3 * n ≤ m → labelsIn s w′ n ≡ labelsIn s w n
   unfolding labelsIn labels
   labels-kept zero h = refl
-  labels-kept (suc n) h = rw (entry-kept (11920 + 3 * n) (omega arith), labels-kept n (omega arith))
+  labels-kept (suc n) h = rw (entry-kept (LABELS + 3 * n) (omega arith), labels-kept n (omega arith))
 
-  pub types-kept : 5897 ≤ m → typesIn s w′ ≡ typesIn s w
+  pub types-kept : NAMED ≤ m → typesIn s w′ ≡ typesIn s w
   types-kept h = Signatures.types-kept m s h k
 
-  table-kept : 11280 ≤ m → (j : Space) → tableOf j s w′ ≡ tableOf j s w
+  table-kept : UNUSED ≤ m → (j : Space) → tableOf j s w′ ≡ tableOf j s w
   unfolding tableOf
   table-kept h j =
-      rw (kept-word k (5897 + code j) (omega (arith, code-small j))) (names-kept (min (getD w (5897 + code j) 0) 256) (base j) (omega (arith, base-low j)))
+      rw (kept-word k (NAMED + code j) (omega (arith, code-small j))) (names-kept (min (getD w (NAMED + code j) 0) 256) (base j) (omega (arith, base-low j)))
 
 module _ (s w w′ : List ℕ) where
-  pub scope-kept : Kept 11280 w w′ → scopeIn s w′ ≡ scopeIn s w
+  pub scope-kept : Kept UNUSED w w′ → scopeIn s w′ ≡ scopeIn s w
   unfolding scopeIn
-  scope-kept k = rw (types-kept s w w′ 11280 k (omega arith)) (ap (λ (f : Space → Namespace Identifier). record { eq = sameBytes; names = f; allTypes = typesIn s w }) (fun-ext (table-kept s w w′ 11280 k (omega arith))))
+  scope-kept k = rw (types-kept s w w′ UNUSED k (omega arith)) (ap (λ (f : Space → Namespace Identifier). record { eq = sameBytes; names = f; allTypes = typesIn s w }) (fun-ext (table-kept s w w′ UNUSED k (omega arith))))
 
-  pub locals-kept : (l : Locals) → Kept 11920 w w′ → l .count ≤ 128 → localsIn s w′ l ≡ localsIn s w l
+  pub locals-kept : (l : Locals) → Kept LABELS w w′ → l .count ≤ 128 → localsIn s w′ l ≡ localsIn s w l
   unfolding localsIn
-  locals-kept l k h = rw (names-kept s w w′ 11920 k (l .count) 11536 (omega arith))
+  locals-kept l k h = rw (names-kept s w w′ LABELS k (l .count) LOCALS (omega arith))
 
 -- ## Uses
 
@@ -72,23 +73,23 @@ module _ (w : List ℕ) (ts : List FuncType) where
   recalled-right [] vs h = h
   recalled-right ((r, t) ∷ us) vs h = recalled-right us vs (h .2)
 
-  pub recalled-kept : (w′ : List ℕ) (m : ℕ) (us : Uses) → Kept m w w′ → 5896 ≤ m → Recalled w ts us → Recalled w′ ts us
+  pub recalled-kept : (w′ : List ℕ) (m : ℕ) (us : Uses) → Kept m w w′ → TOTAL ≤ m → Recalled w ts us → Recalled w′ ts us
   unfolding Recalled
   recalled-kept w′ m [] k h u = tt
   recalled-kept w′ m ((r, t) ∷ us) k h u =
-      let low = u .0 in (low, kept-word k (1800 + r) (omega arith) ∙ u .1, recalled-kept w′ m us k h (u .2))
+      let low = u .0 in (low, kept-word k (USES + r) (omega arith) ∙ u .1, recalled-kept w′ m us k h (u .2))
 
 -- and with the types, whose count stands in word 5896
-pub recalled-scope : (s w w′ : List ℕ) (us : Uses) → Kept 11280 w w′ → Recalled w (typesIn s w) us → Recalled w′ (typesIn s w′) us
-recalled-scope s w w′ us k u = rw (types-kept s w w′ 11280 k (omega arith)) (recalled-kept w (typesIn s w) w′ 11280 us k (omega arith) u)
+pub recalled-scope : (s w w′ : List ℕ) (us : Uses) → Kept UNUSED w w′ → Recalled w (typesIn s w) us → Recalled w′ (typesIn s w′) us
+recalled-scope s w w′ us k u = rw (types-kept s w w′ UNUSED k (omega arith)) (recalled-kept w (typesIn s w) w′ UNUSED us k (omega arith) u)
 
 -- ## One more entry
 
 -- a block opens: its label is the innermost
-pub labels-open : (s w : List ℕ) (k : ℕ) (p : Part) → 11920 + 3 * k + 2 < length w → labelsIn s (entryWords s w (11920 + 3 * k) p) (k + 1) ≡ idOf s p ∷ labelsIn s w k
+pub labels-open : (s w : List ℕ) (k : ℕ) (p : Part) → LABELS + 3 * k + 2 < length w → labelsIn s (entryWords s w (LABELS + 3 * k) p) (k + 1) ≡ idOf s p ∷ labelsIn s w k
 unfolding labelsIn labels
 labels-open s w k p h =
-    let i = 11920 + 3 * k in
+    let i = LABELS + 3 * k in
     rw (add-one, entry-written s w i p h) (ap (λ (l : Namespace Identifier). idOf s p ∷ l) (labels-kept s w (entryWords s w i p) i (words-kept s w i p i (omega arith)) k (omega arith)))
 
 -- a block closes

@@ -9,30 +9,33 @@ use native.Mathlib.Omega.{arith}
 use Rattle.definition.specs.Basic.{ok, refused, _>>=_, sameBytes}
 use Rattle.definition.specs.Syntax.{Identifier, Index}
 use Rattle.definition.specs.Names.{carries, numberIn, depthOf, closes}
-use Rattle.token.specs.Views.{partOf, idOf}
-use Rattle.token.specs.declared.text.Part.{Part}
-use Rattle.space.specs.Area.{entry, labels, resolved}
-use Rattle.space.specs.declared.table.Resolved.{Resolved}
-use Rattle.space.specs.declared.table.Resolved.the-variants as R
+use Rattle.syntax.specs.Refusals.{refusedBy}
+use Rattle.syntax.specs.declared.Refusal.{Refusal}
+use Rattle.area.specs.Layout.{LABELS, WORDS}
+use Rattle.syntax.specs.Tokens.{partOf, idOf}
+use Rattle.syntax.specs.declared.Part.{Part}
+use Rattle.name_table.specs.Area.{entry, labels, resolved}
+use Rattle.name_table.specs.declared.table.Resolved.{Resolved}
+use Rattle.name_table.specs.declared.table.Resolved.the-variants as R
 use Rattle.scope.specs.Scope.{scopeIn, labelsIn}
 
 -- the labels lie in the area
-pub label-table : (w : List ℕ) (k : ℕ) → 16384 ≤ length w → k ≤ 128 → 11920 + 3 * k ≤ length w
+pub label-table : (w : List ℕ) (k : ℕ) → WORDS ≤ length w → k ≤ 128 → LABELS + 3 * k ≤ length w
 label-table w k h l = omega arith
 
-pub label-entry : (w : List ℕ) (k : ℕ) → 16384 ≤ length w → k ≤ 128 → 11920 + 3 * (k - 1) + 2 < length w
+pub label-entry : (w : List ℕ) (k : ℕ) → WORDS ≤ length w → k ≤ 128 → LABELS + 3 * (k - 1) + 2 < length w
 label-entry w k h l = omega arith
 
 -- ## Depths
 
-module _ (s w : List ℕ) (k r : ℕ) (x : Index Identifier) (q : Resolved) (told : numberIn sameBytes (labels k s w 11920) r x ≡ resolved q) where
+module _ (s w : List ℕ) (k r : ℕ) (x : Index Identifier) (q : Resolved) (told : numberIn sameBytes (labels k s w LABELS) r x ≡ resolved q) where
   pub depth-to : (n : ℕ) → q ≡ R.To n → depthOf (scopeIn s w) (labelsIn s w k) r x ≡ ok (record { depth = n })
   unfolding depthOf scopeIn labelsIn _>>=_
   depth-to n e = rw (told, e)
 
-  pub depth-refused : (n z : ℕ) → q ≡ R.Refused n z → depthOf (scopeIn s w) (labelsIn s w k) r x ≡ refused n z
+  pub depth-refused : (z : Refusal) → q ≡ R.Refused z → depthOf (scopeIn s w) (labelsIn s w k) r x ≡ refusedBy z
   unfolding depthOf scopeIn labelsIn _>>=_
-  depth-refused n z e = rw (told, e)
+  depth-refused z e = rw (told, e)
 
 pub ruleset depths = (depth-to, depth-refused)
 
@@ -50,15 +53,15 @@ module _ (s w : List ℕ) (k r : ℕ) (p : Part) where
   closes-nothing h e = rw (ne-eqb _ _ h, e)
 
   -- the innermost block, and the others
-  inner : (k ≡ 0 → ⊥) → labels k s w 11920 ≡ entry s w (11920 + 3 * (k - 1)) ∷ labels (k - 1) s w 11920
+  inner : (k ≡ 0 → ⊥) → labels k s w LABELS ≡ entry s w (LABELS + 3 * (k - 1)) ∷ labels (k - 1) s w LABELS
   unfolding labels
   inner h = go k h
     where
-      go : (n : ℕ) → (n ≡ 0 → ⊥) → labels n s w 11920 ≡ entry s w (11920 + 3 * (n - 1)) ∷ labels (n - 1) s w 11920
+      go : (n : ℕ) → (n ≡ 0 → ⊥) → labels n s w LABELS ≡ entry s w (LABELS + 3 * (n - 1)) ∷ labels (n - 1) s w LABELS
       go zero h = absurd (h refl)
       go (suc n) h = (let e : suc n - 1 ≡ n = omega arith in rw e)
 
-  module _ (h : p .len ≡ 0 → ⊥) (g : k ≡ 0 → ⊥) (name : List ℕ) (b : name ≡ partOf s p) (t : Bool) (told : t ≡ carries sameBytes name (entry s w (11920 + 3 * (k - 1)))) where
+  module _ (h : p .len ≡ 0 → ⊥) (g : k ≡ 0 → ⊥) (name : List ℕ) (b : name ≡ partOf s p) (t : Bool) (told : t ≡ carries sameBytes name (entry s w (LABELS + 3 * (k - 1)))) where
     -- the innermost block carries it
     pub closes-inner : t ≡ true → closes (scopeIn s w) r (idOf s p) (labelsIn s w k) ≡ ok tt
     unfolding closes scopeIn labelsIn

@@ -14,26 +14,29 @@ use Rattle.definition.specs.Types as Types
 use Rattle.definition.specs.Types.{signature, sameType, isInline, isShort, usedAt}
 use Rattle.definition.specs.Names as Names
 use Rattle.definition.specs.Names.{itemNo, typeNo, blockType, isAbsent, shortType}
-use Rattle.binary.specs.Views.{typeNoOf, blockTypeOf}
-use Rattle.binary.specs.declared.instructions.TypeNo.{TypeNo}
-use Rattle.binary.specs.declared.instructions.BlockType.{BlockType}
-use Rattle.token.specs.Views.{byteAt, indexOf}
-use Rattle.token.specs.declared.byte.ByteAt.{ByteAt}
-use Rattle.token.specs.declared.byte.ByteAt.the-variants as B
-use Rattle.token.specs.declared.text.Part.{Part}
-use Rattle.token.specs.declared.index.Index.{Index}
-use Rattle.token.specs.declared.index.Index.the-variants as X
-use Rattle.typeuse.specs.Views.{onStep, elements, listOf, useOf}
-use Rattle.typeuse.specs.declared.List as Code
-use Rattle.typeuse.specs.declared.TypeUse.{TypeUse}
-use Rattle.space.specs.Area.{resolved}
-use Rattle.space.specs.declared.table.Resolved.{Resolved}
-use Rattle.space.specs.declared.table.Resolved.the-variants as R
-use Rattle.signatures.specs.Table.{typesIn, agreeing, Recalled}
-use Rattle.signatures.specs.declared.table.Agreement.{Agreement}
-use Rattle.signatures.specs.declared.table.Agreement.the-variants as A
+use Rattle.syntax.specs.Refusals.{refusedBy}
+use Rattle.syntax.specs.declared.Refusal.{Refusal}
+use Rattle.area.specs.Layout.{USES}
+use Rattle.syntax.specs.Resolved.{typeNoOf, blockTypeOf}
+use Rattle.syntax.specs.declared.TypeNo.{TypeNo}
+use Rattle.syntax.specs.declared.BlockType.{BlockType}
+use Rattle.syntax.specs.Tokens.{byteAt, indexOf}
+use Rattle.syntax.specs.declared.ByteAt.{ByteAt}
+use Rattle.syntax.specs.declared.ByteAt.the-variants as B
+use Rattle.syntax.specs.declared.Part.{Part}
+use Rattle.syntax.specs.declared.Index.{Index}
+use Rattle.syntax.specs.declared.Index.the-variants as X
+use Rattle.syntax.specs.TypeUses.{onStep, elements, listOf, useOf}
+use Rattle.syntax.specs.declared.List as Code
+use Rattle.syntax.specs.declared.TypeUse.{TypeUse}
+use Rattle.name_table.specs.Area.{resolved}
+use Rattle.name_table.specs.declared.table.Resolved.{Resolved}
+use Rattle.name_table.specs.declared.table.Resolved.the-variants as R
+use Rattle.type_table.specs.Table.{typesIn, agreeing, Recalled}
+use Rattle.type_table.specs.declared.table.Agreement.{Agreement}
+use Rattle.type_table.specs.declared.table.Agreement.the-variants as A
 use Rattle.scope.specs.Scope.{scopeIn}
-use Rattle.uses.specs.Uses.{blockUses}
+use Rattle.type_table.specs.Uses.{blockUses}
 use Rattle.scope.specs.Answers.{typeAnswer}
 use Rattle.scope.specs.declared.types.TypeAt.{TypeAt}
 use Rattle.scope.specs.declared.types.TypeAt.the-variants as T
@@ -80,10 +83,10 @@ pub ruleset checks = (checked-plain, checked-same, checked-differs, checked-noth
 
 module _ (s w : List ℕ) (r : ℕ) (t : TypeUse) where
   -- without an index it is the word of its record
-  pub use-absent : (n : ℕ) → t .index ≡ X.Absent → Recalled w (typesIn s w) (usedAt r (Types.useOf (useOf s t))) → n ≡ getD w (1800 + r) 0
+  pub use-absent : (n : ℕ) → t .index ≡ X.Absent → Recalled w (typesIn s w) (usedAt r (Types.useOf (useOf s t))) → n ≡ getD w (USES + r) 0
       → typeNo (scopeIn s w) r (useOf s t) ≡ ok (record { type-no = n })
   unfolding typeNo Names.typeNoOf scopeIn Types.useOf Recalled signature
-  use-absent n d h e = (let g : (r < 4096) × (getD w (1800 + r) 0 ≡ Types.typeNumber (signature (useOf s t)) (typesIn s w)) × Unit {0} = rw d at h in rw (d, e, g .1))
+  use-absent n d h e = (let g : (r < 4096) × (getD w (USES + r) 0 ≡ Types.typeNumber (signature (useOf s t)) (typesIn s w)) × Unit {0} = rw d at h in rw (d, e, g .1))
 
   pub use-number : (n : ℕ) (a : Answer Syntax.TypeNo) → t .index ≡ X.Number n → Names.checked (scopeIn s w) r (isInline (useOf s t)) (signature (useOf s t)) n ≡ a
       → typeNo (scopeIn s w) r (useOf s t) ≡ a
@@ -96,9 +99,9 @@ module _ (s w : List ℕ) (r : ℕ) (t : TypeUse) where
     unfolding typeNo Names.typeNoOf _>>=_ isInline signature
     use-named n a e h = rw (d, told, e) h
 
-    pub use-refused : (n z : ℕ) → q ≡ R.Refused n z → typeNo (scopeIn s w) r (useOf s t) ≡ refused n z
+    pub use-refused : (z : Refusal) → q ≡ R.Refused z → typeNo (scopeIn s w) r (useOf s t) ≡ refusedBy z
     unfolding typeNo Names.typeNoOf _>>=_
-    use-refused n z e = rw (d, told, e)
+    use-refused z e = rw (d, told, e)
 
 pub ruleset uses = (use-absent, use-number, use-named, use-refused)
 
@@ -172,8 +175,8 @@ module _ (s w : List ℕ) (r : ℕ) (t : TypeUse) (b : Bool) (is : b ≡ (isAbse
     unfolding blockType _>>=_
     block-typed n d = rw (← is, e, told, d)
 
-    pub block-refused : (n z : ℕ) → q ≡ T.Refused n z → blockType (scopeIn s w) r (useOf s t) ≡ refused n z
+    pub block-refused : (z : Refusal) → q ≡ T.Refused z → blockType (scopeIn s w) r (useOf s t) ≡ refusedBy z
     unfolding blockType _>>=_
-    block-refused n z d = rw (← is, e, told, d)
+    block-refused z d = rw (← is, e, told, d)
 
 pub ruleset blocks = (block-short, block-typed, block-refused)

@@ -11,14 +11,15 @@ use native.Mathlib.Omega.{arith}
 use Rattle.definition.specs.Basic.{if_then_else_, ok, refused, _>>=_, sameBytes, firstAt, later}
 use Rattle.definition.specs.Syntax.{Identifier}
 use Rattle.definition.specs.Names.{Namespace, carries, find, numberIn, localNo}
-use Rattle.token.specs.Views.{partOf, indexOf}
-use Rattle.token.specs.declared.text.Part.{Part}
-use Rattle.token.specs.declared.index.Index.{Index}
-use Rattle.token.specs.declared.index.Index.the-variants as X
-use Rattle.space.specs.Area.{entry, names, found}
-use Rattle.space.specs.declared.table.Found.{Found}
-use Rattle.space.specs.declared.table.Found.the-variants as F
-use Rattle.space.proofs.Walk.{shifted}
+use Rattle.area.specs.Layout.{LOCALS, WORDS}
+use Rattle.syntax.specs.Tokens.{partOf, indexOf}
+use Rattle.syntax.specs.declared.Part.{Part}
+use Rattle.syntax.specs.declared.Index.{Index}
+use Rattle.syntax.specs.declared.Index.the-variants as X
+use Rattle.name_table.specs.Area.{entry, names, found}
+use Rattle.name_table.specs.declared.table.Found.{Found}
+use Rattle.name_table.specs.declared.table.Found.the-variants as F
+use Rattle.name_table.proofs.Walk.{shifted}
 use Rattle.scope.specs.Scope.{scopeIn, localsIn, FewLocals}
 use Rattle.scope.specs.declared.Locals.{Locals}
 
@@ -59,12 +60,12 @@ entries-low name s w (suc n) b = go (carries sameBytes name (entry s w b)) (find
 
 module _ (s w : List ℕ) (l : Locals) (few : FewLocals l) where
   -- the entries lie in the area
-  pub local-table : 16384 ≤ length w → 11536 + 3 * l .count ≤ length w
+  pub local-table : WORDS ≤ length w → LOCALS + 3 * l .count ≤ length w
   local-table h = omega (arith, few .named)
 
-  module _ (name : List ℕ) (q : Found) (k : ℕ) (told : find sameBytes name (names (l .count) s w 11536) ≡ found q) (e : q ≡ F.At k) where
+  module _ (name : List ℕ) (q : Found) (k : ℕ) (told : find sameBytes name (names (l .count) s w LOCALS) ≡ found q) (e : q ≡ F.At k) where
     entry-low : k < l .count
-    entry-low = rw (told, e) at (entries-low name s w (l .count) 11536)
+    entry-low = rw (told, e) at (entries-low name s w (l .count) LOCALS)
 
     -- a place among the entries is a u32
     pub local-entry : Fits w32 k
@@ -85,15 +86,15 @@ module _ (s w : List ℕ) (l : Locals) (r : ℕ) (x : Index) where
   unfolding localNo numberIn _>>=_
   local-number n d = rw d
 
-  module _ (p : Part) (d : x ≡ X.Named p) (name : List ℕ) (b : name ≡ partOf s p) (q : Found) (told : find sameBytes name (names (l .count) s w 11536) ≡ found q) where
+  module _ (p : Part) (d : x ≡ X.Named p) (name : List ℕ) (b : name ≡ partOf s p) (q : Found) (told : find sameBytes name (names (l .count) s w LOCALS) ≡ found q) where
     -- a name that is there
     pub local-found : (k : ℕ) → q ≡ F.At k → localNo (scopeIn s w) (localsIn s w l) r (indexOf s x) ≡ ok (record { local-no = l .nameless + k })
     unfolding localNo scopeIn localsIn numberIn _>>=_ shifted
-    local-found k e = rw (d, ← b, find-after (l .nameless) name (names (l .count) s w 11536), told, e)
+    local-found k e = rw (d, ← b, find-after (l .nameless) name (names (l .count) s w LOCALS), told, e)
 
     -- a name that is not
     pub local-none : q ≡ F.Nothing → localNo (scopeIn s w) (localsIn s w l) r (indexOf s x) ≡ refused 14 r
     unfolding localNo scopeIn localsIn numberIn _>>=_ shifted
-    local-none e = rw (d, ← b, find-after (l .nameless) name (names (l .count) s w 11536), told, e)
+    local-none e = rw (d, ← b, find-after (l .nameless) name (names (l .count) s w LOCALS), told, e)
 
 pub ruleset locals = (local-absent, local-number, local-found, local-none)

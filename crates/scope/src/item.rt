@@ -1,22 +1,23 @@
 // The number of an item in its index space.
-use space::Resolved;
-use token::Index;
-use token::Space;
+use name_table::Resolved;
+use syntax::Index;
+use syntax::Space;
 ghost use mathlib.Core.Path.{_≡_};
 ghost use Prim.Native.Nat.{_+_, _≤_, min};
 ghost use lib.ListN.{length, getD};
+ghost use Rattle.area.specs.Layout.{NAMED, WORDS};
 ghost use Rattle.definition.specs.Syntax.{code};
 ghost use Rattle.definition.specs.Names as Names;
-ghost use Rattle.token.specs.Views.{spaceOf, indexOf};
-ghost use Rattle.space.specs.Area.{resolved};
+ghost use Rattle.syntax.specs.Tokens.{spaceOf, indexOf};
+ghost use Rattle.name_table.specs.Area.{resolved};
 ghost use Rattle.scope.specs.Scope.{scopeIn};
 
 // How many names the table of a space has.
 fn name_count(work: &[u32], k: Space) -> usize
-    requires { ⌜ 16384 ≤ length (now work) ⌝ }
-    ensures { λ r. ⌜ r ≡ min (getD (now (work .entry)) (5897 + code (spaceOf k)) 0) 256 ⌝ }
+    requires { ⌜ WORDS ≤ length (now work) ⌝ }
+    ensures { λ r. ⌜ r ≡ min (getD (now (work .entry)) (NAMED + code (spaceOf k)) 0) 256 ⌝ }
 {
-    let n = space::word(work, 5897 + sources::space_code(k));
+    let n = area::word(work, area::NAMED + syntax::space_code(k));
     if n < 256 {
         return n as usize;
     }
@@ -25,10 +26,10 @@ fn name_count(work: &[u32], k: Space) -> usize
 
 // The number that an index means in a space.
 pub fn item_no(s: &[u8], work: &[u32], k: Space, x: Index, rec: u32) -> Resolved
-    requires { ⌜ 16384 ≤ length (now work) ⌝ }
+    requires { ⌜ WORDS ≤ length (now work) ⌝ }
     ensures { λ r. ⌜ Names.itemNo (scopeIn (now (s .entry)) (now (work .entry))) (spaceOf k) rec (indexOf (now (s .entry)) x) ≡ resolved r ⌝ }
 {
-    let base = names::item::table_base(k);
+    let base = name_table::table_base(k);
     let count = name_count(work, k);
-    space::number_in(s, work, base, count, x, rec)
+    name_table::number_in(s, work, base, count, x, rec)
 }

@@ -1,25 +1,27 @@
 // The number of a local in its function.
 use crate::Locals;
-use binary::LocalNo;
-use space::Found;
-use token::Index;
+use name_table::Found;
+use syntax::Index;
+use syntax::LocalNo;
+use syntax::Refusal;
 ghost use mathlib.Core.Path.{_≡_};
 ghost use Prim.Native.Nat.{_≤_};
 ghost use lib.ListN.{length};
+ghost use Rattle.area.specs.Layout.{WORDS};
 ghost use Rattle.definition.specs.Names as Names;
-ghost use Rattle.token.specs.Views.{indexOf};
+ghost use Rattle.syntax.specs.Tokens.{indexOf};
 ghost use Rattle.scope.specs.Scope.{scopeIn, localsIn, FewLocals};
 ghost use Rattle.scope.specs.Answers.{localAnswer};
 
 // A local's number, or a refusal's number and record.
 pub enum LocalAt {
     To(LocalNo),
-    Refused(u8, u32),
+    Refused(Refusal),
 }
 
 // The number that an index means among the locals: the nameless places count too.
 pub fn local_no(s: &[u8], work: &[u32], l: Locals, x: Index, rec: u32) -> LocalAt
-    requires { ⌜ (16384 ≤ length (now work)) × FewLocals l ⌝ }
+    requires { ⌜ (WORDS ≤ length (now work)) × FewLocals l ⌝ }
     ensures { λ r. ⌜ Names.localNo (scopeIn (now (s .entry)) (now (work .entry))) (localsIn (now (s .entry)) (now (work .entry)) l) rec (indexOf (now (s .entry)) x) ≡ localAnswer r ⌝ }
 {
     match x {
@@ -27,9 +29,9 @@ pub fn local_no(s: &[u8], work: &[u32], l: Locals, x: Index, rec: u32) -> LocalA
         Index::Number(n) => LocalAt::To(LocalNo(n)),
         Index::Named(p) => {
             let name = token::bytes_of(s, p);
-            match space::find_name(s, work, 11536, l.count as usize, name) {
+            match name_table::find_name(s, work, area::LOCALS, l.count as usize, name) {
                 Found::At(k) => LocalAt::To(LocalNo(l.nameless + k as u32)),
-                Found::Nothing => LocalAt::Refused(14, rec),
+                Found::Nothing => LocalAt::Refused(Refusal { number: 14, rec }),
             }
         }
     }

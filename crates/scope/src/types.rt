@@ -1,43 +1,45 @@
 // The number of a type use's type, and the type of a block.
-use binary::BlockType;
-use binary::TypeNo;
-use signatures::Agreement;
-use space::Resolved;
-use token::ByteAt;
-use token::Index;
-use token::Space;
-use typeuse::List;
-use typeuse::TypeUse;
+use name_table::Resolved;
+use syntax::BlockType;
+use syntax::ByteAt;
+use syntax::Index;
+use syntax::List;
+use syntax::Refusal;
+use syntax::Space;
+use syntax::TypeNo;
+use syntax::TypeUse;
+use type_table::Agreement;
 ghost use mathlib.Core.Path.{_≡_};
 ghost use mathlib.Core.Bool.{_&&_};
 ghost use Prim.Native.Nat.{_≤_};
 ghost use lib.ListN.{length};
+ghost use Rattle.area.specs.Layout.{WORDS};
 ghost use Rattle.definition.specs.Token as Token;
 ghost use Rattle.definition.specs.Types as Types;
 ghost use Rattle.definition.specs.Names as Names;
-ghost use Rattle.binary.specs.Views.{blockTypeOf};
-ghost use Rattle.typeuse.specs.Views.{listOf, useOf};
-ghost use Rattle.signatures.specs.Table.{typesIn, Recalled};
+ghost use Rattle.syntax.specs.Resolved.{blockTypeOf};
+ghost use Rattle.syntax.specs.TypeUses.{listOf, useOf};
+ghost use Rattle.type_table.specs.Table.{typesIn, Recalled};
 ghost use Rattle.scope.specs.Scope.{scopeIn};
-ghost use Rattle.uses.specs.Uses.{blockUses};
+ghost use Rattle.type_table.specs.Uses.{blockUses};
 ghost use Rattle.scope.specs.Answers.{typeAnswer, blockAnswer};
 
 // A type's number, or a refusal's number and record.
 pub enum TypeAt {
     To(TypeNo),
-    Refused(u8, u32),
+    Refused(Refusal),
 }
 
 // A type's number as a use says it: an inline type must be that type.
 fn checked(s: &[u8], work: &[u32], n: u32, t: TypeUse, rec: u32) -> TypeAt
-    requires { ⌜ 16384 ≤ length (now work) ⌝ }
+    requires { ⌜ WORDS ≤ length (now work) ⌝ }
     ensures { λ r. ⌜ Names.checked (scopeIn (now (s .entry)) (now (work .entry))) rec (Types.isInline (useOf (now (s .entry)) t)) (Types.signature (useOf (now (s .entry)) t)) n ≡ typeAnswer r ⌝ }
 {
-    if signatures::is_inline(s, t) {
-        return match signatures::agrees(s, work, n, t) {
+    if type_table::is_inline(s, t) {
+        return match type_table::agrees(s, work, n, t) {
             Agreement::Same => TypeAt::To(TypeNo(n)),
-            Agreement::Differs => TypeAt::Refused(16, rec),
-            Agreement::NoType => TypeAt::Refused(15, rec),
+            Agreement::Differs => TypeAt::Refused(Refusal { number: 16, rec }),
+            Agreement::NoType => TypeAt::Refused(Refusal { number: 15, rec }),
         };
     }
     TypeAt::To(TypeNo(n))
@@ -45,16 +47,16 @@ fn checked(s: &[u8], work: &[u32], n: u32, t: TypeUse, rec: u32) -> TypeAt
 
 // The number of the type of a use. Without an index it is the one that interning gave it.
 pub fn type_no(s: &[u8], work: &[u32], t: TypeUse, rec: u32) -> TypeAt
-    requires { ⌜ (16384 ≤ length (now work)) × Recalled (now work) (typesIn (now s) (now work)) (Types.usedAt rec (Types.useOf (useOf (now s) t))) ⌝ }
+    requires { ⌜ (WORDS ≤ length (now work)) × Recalled (now work) (typesIn (now s) (now work)) (Types.usedAt rec (Types.useOf (useOf (now s) t))) ⌝ }
     ensures { λ r. ⌜ Names.typeNo (scopeIn (now (s .entry)) (now (work .entry))) rec (useOf (now (s .entry)) t) ≡ typeAnswer r ⌝ }
 {
     let index = t.index;
     match index {
-        Index::Absent => TypeAt::To(TypeNo(space::word(work, 1800 + (rec as usize)))),
+        Index::Absent => TypeAt::To(TypeNo(area::word(work, area::USES + (rec as usize)))),
         Index::Number(n) => checked(s, work, n, t, rec),
         Index::Named(p) => match crate::item::item_no(s, work, Space::Types, Index::Named(p), rec) {
             Resolved::To(n) => checked(s, work, n, t, rec),
-            Resolved::Refused(n, r) => TypeAt::Refused(n, r),
+            Resolved::Refused(r) => TypeAt::Refused(r),
         },
     }
 }
@@ -62,7 +64,7 @@ pub fn type_no(s: &[u8], work: &[u32], t: TypeUse, rec: u32) -> TypeAt
 // A block's type, or a refusal's number and record.
 pub enum BlockAt {
     To(BlockType),
-    Refused(u8, u32),
+    Refused(Refusal),
 }
 
 // The short form of a block with these results.
@@ -84,7 +86,7 @@ fn goes_short(s: &[u8], t: TypeUse) -> bool
 {
     let index = t.index;
     match index {
-        Index::Absent => signatures::is_short(s, t),
+        Index::Absent => type_table::is_short(s, t),
         Index::Number(_) => false,
         Index::Named(_) => false,
     }
@@ -92,7 +94,7 @@ fn goes_short(s: &[u8], t: TypeUse) -> bool
 
 // The type of a block.
 pub fn block_type(s: &[u8], work: &[u32], t: TypeUse, rec: u32) -> BlockAt
-    requires { ⌜ (16384 ≤ length (now work)) × Recalled (now work) (typesIn (now s) (now work)) (Types.usedAt rec (blockUses (useOf (now s) t))) ⌝ }
+    requires { ⌜ (WORDS ≤ length (now work)) × Recalled (now work) (typesIn (now s) (now work)) (Types.usedAt rec (blockUses (useOf (now s) t))) ⌝ }
     ensures { λ r. ⌜ Names.blockType (scopeIn (now (s .entry)) (now (work .entry))) rec (useOf (now (s .entry)) t) ≡ blockAnswer r ⌝ }
 {
     if goes_short(s, t) {
@@ -100,6 +102,6 @@ pub fn block_type(s: &[u8], work: &[u32], t: TypeUse, rec: u32) -> BlockAt
     }
     match type_no(s, work, t, rec) {
         TypeAt::To(n) => BlockAt::To(BlockType::Typed(n)),
-        TypeAt::Refused(n, r) => BlockAt::Refused(n, r),
+        TypeAt::Refused(r) => BlockAt::Refused(r),
     }
 }

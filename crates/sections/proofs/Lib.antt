@@ -1,1 +1,3 @@
-pub mod Sweep
+pub mod Tables
+pub mod Emitting
+pub mod Fields

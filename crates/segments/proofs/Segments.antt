@@ -13,25 +13,27 @@ use Rattle.definition.specs.Deinline.{zeroOffset}
 use Rattle.definition.specs.Names.{Scope, itemNo, constOp, tableNo, resolve}
 use Rattle.definition.specs.Names as Names
 use Rattle.definition.specs.Binary.{u, vec, sized, expr, elem, data′, entries}
+use Rattle.syntax.specs.Refusals.{refusedBy}
+use Rattle.syntax.specs.declared.Refusal.{Refusal}
 use Rattle.emit.specs.Put.{Put}
 use Rattle.emit.proofs.Laws.{put-then, put-is}
-use Rattle.token.specs.Views.{indexOf}
-use Rattle.token.specs.declared.text.Part.{Part}
-use Rattle.token.specs.declared.index.Index.{Index}
-use Rattle.token.specs.declared.index.Index.the-variants as X
-use Rattle.expr.specs.Views.{plainIs}
-use Rattle.expr.specs.declared.Plain.{Plain}
-use Rattle.fields.specs.Views.{modeOf}
-use Rattle.fields.specs.declared.segment.Mode as Code
-use Rattle.fields.specs.declared.segment.Mode.the-variants as M
-use Rattle.space.specs.Area.{resolved}
-use Rattle.space.specs.declared.table.Resolved.{Resolved}
-use Rattle.space.specs.declared.table.Resolved.the-variants as R
+use Rattle.syntax.specs.Tokens.{indexOf}
+use Rattle.syntax.specs.declared.Part.{Part}
+use Rattle.syntax.specs.declared.Index.{Index}
+use Rattle.syntax.specs.declared.Index.the-variants as X
+use Rattle.syntax.specs.Plain.{plainIs}
+use Rattle.syntax.specs.declared.Plain.{Plain}
+use Rattle.syntax.specs.Fields.{modeOf}
+use Rattle.syntax.specs.declared.Mode as Code
+use Rattle.syntax.specs.declared.Mode.the-variants as M
+use Rattle.name_table.specs.Area.{resolved}
+use Rattle.name_table.specs.declared.table.Resolved.{Resolved}
+use Rattle.name_table.specs.declared.table.Resolved.the-variants as R
 use Rattle.binary.specs.Emits.{Wrote, Emits}
 use Rattle.binary.specs.declared.Emitted.{Emitted}
 use Rattle.binary.specs.declared.Emitted.the-variants as E
 use Rattle.binary.proofs.Emitting.{wrote, halts, was-wrote, has-halted, emits-is, emits-map, emits-not, emits-then, emits-put}
-use Rattle.entries.specs.Entry.{entryOf}
+use Rattle.import_export.specs.Entry.{entryOf}
 use Rattle.segments.specs.Segments.{tableAt, atTable, elemMode, atMemory, dataMode}
 use Rattle.operands.specs.Operands.{constBytes}
 use Rattle.segments.specs.declared.elem_segment.TableAt.{TableAt}
@@ -44,7 +46,7 @@ module _ {A : Type 0} (f g : A → Bytes) (a : Answer A) (old : List ℕ) (at : 
   before : (bs : Bytes) (o : ℕ) (mid : List ℕ) (q : Emitted) (new : List ℕ) → ((x : A) → bs ++ f x ≡ g x) → Put old at bs o mid → Emits f a mid o q new → Emits g a old at q new
   unfolding Emits
   before bs o mid (E.To q) new s p w = record { value = w .value; is = w .is; put = put-is (put-then p (w .put)) (s (w .value)) }
-  before bs o mid (E.Refused n r) new s p w = w
+  before bs o mid (E.Refused r) new s p w = w
 
   -- after them
   behind : (bs : Bytes) (q : Emitted) (o : ℕ) (mid : List ℕ) (r : ℕ) (new : List ℕ) → ((x : A) → f x ++ bs ≡ g x) → Emits f a old at q mid → q ≡ E.To o → Put mid o bs r new → Emits g a old at (E.To r) new
@@ -69,9 +71,9 @@ module _ (Γ : Scope Identifier) (s : Bytes) (rec : ℕ) (x : Index) where
     unfolding tableNo _>>=_
     table-named n e = rw (d, told, e)
 
-    pub table-not : (n r : ℕ) → y ≡ R.Refused n r → tableNo Γ rec (indexOf s x) ≡ refused n r
+    pub table-not : (r : Refusal) → y ≡ R.Refused r → tableNo Γ rec (indexOf s x) ≡ refusedBy r
     unfolding tableNo _>>=_
-    table-not n r e = rw (d, told, e)
+    table-not r e = rw (d, told, e)
 
 pub ruleset table-nos = (table-absent, table-number, table-named, table-not)
 
@@ -89,8 +91,8 @@ module _ (a : Answer Op) (old : List ℕ) (at o : ℕ) (mid : List ℕ) where
         behind (λ x. 2 ∷ u n ++ expr (x ∷ [])) (atTable (some n)) a old at (0 ∷ []) q e b r new (λ x. refl)
         (before constBytes (λ x. 2 ∷ u n ++ expr (x ∷ [])) a old at (2 ∷ u n) o mid q b (λ x. refl) p w) d z
 
-    pub with-table-not : (m r : ℕ) → q ≡ E.Refused m r → Emits (atTable (some n)) a old at (E.Refused m r) b
-    with-table-not m r d = halts (atTable (some n)) a old at b m r (has-halted constBytes a mid o b q m r w d)
+    pub with-table-not : (r : Refusal) → q ≡ E.Refused r → Emits (atTable (some n)) a old at (E.Refused r) b
+    with-table-not r d = halts (atTable (some n)) a old at b r (has-halted constBytes a mid o b q r w d)
 
   pub with-memory : (m : ℕ) (q : Emitted) (new : List ℕ) → Put old at (if eqb m 0 then 0 ∷ [] else 2 ∷ u m) o mid → Emits constBytes a mid o q new → Emits (atMemory m) a old at q new
   unfolding atMemory constBytes
@@ -106,9 +108,9 @@ module _ {X : Type 0} (Γ : Scope Identifier) (f : ℕ → Syntax.Index Identifi
       emits-is bytes (constOp Γ rec c >>= λ o. ok (active t o)) Active old at q new (rw e)
       (emits-map g bytes (λ o. active t o) (constOp Γ rec c) old at q new s w)
 
-  mode-not : (n r : ℕ) (new : List ℕ) → f rec x ≡ refused n r → Emits bytes Active old at (E.Refused n r) new
+  mode-not : (r : Refusal) (new : List ℕ) → f rec x ≡ refusedBy r → Emits bytes Active old at (E.Refused r) new
   unfolding Names.modeOf _>>=_
-  mode-not n r new e = halts bytes Active old at new n r (rw e)
+  mode-not r new e = halts bytes Active old at new r (rw e)
 
 module _ (Γ : Scope Identifier) (rec : ℕ) (x : Syntax.Index Identifier) (c : Syntax.Plain Identifier) (old : List ℕ) (at : ℕ) (new : List ℕ) where
   module _ (y : TableAt) (told : tableNo Γ rec x ≡ tableAt y) where
@@ -120,16 +122,16 @@ module _ (Γ : Scope Identifier) (rec : ℕ) (x : Syntax.Index Identifier) (c : 
     unfolding elemMode
     at-table n q d w = mode-on Γ (tableNo Γ) elemMode rec x c old at (some n) (atTable (some n)) q new (λ o. refl) (told ∙ ap tableAt d) w
 
-    pub at-table-not : (n r : ℕ) → y ≡ T.Refused n r → Emits elemMode (Names.modeOf Γ (tableNo Γ) rec (active x c)) old at (E.Refused n r) new
-    at-table-not n r d = mode-not Γ (tableNo Γ) elemMode rec x c old at n r new (told ∙ ap tableAt d)
+    pub at-table-not : (r : Refusal) → y ≡ T.Refused r → Emits elemMode (Names.modeOf Γ (tableNo Γ) rec (active x c)) old at (E.Refused r) new
+    at-table-not r d = mode-not Γ (tableNo Γ) elemMode rec x c old at r new (told ∙ ap tableAt d)
 
   module _ (y : Resolved) (told : itemNo Γ mems rec x ≡ resolved y) where
     pub at-memory : (m : ℕ) (q : Emitted) → y ≡ R.To m → Emits (atMemory m) (constOp Γ rec c) old at q new → Emits dataMode (Names.modeOf Γ (itemNo Γ mems) rec (active x c)) old at q new
     unfolding dataMode
     at-memory m q d w = mode-on Γ (itemNo Γ mems) dataMode rec x c old at m (atMemory m) q new (λ o. refl) (told ∙ ap resolved d) w
 
-    pub at-memory-not : (n r : ℕ) → y ≡ R.Refused n r → Emits dataMode (Names.modeOf Γ (itemNo Γ mems) rec (active x c)) old at (E.Refused n r) new
-    at-memory-not n r d = mode-not Γ (itemNo Γ mems) dataMode rec x c old at n r new (told ∙ ap resolved d)
+    pub at-memory-not : (r : Refusal) → y ≡ R.Refused r → Emits dataMode (Names.modeOf Γ (itemNo Γ mems) rec (active x c)) old at (E.Refused r) new
+    at-memory-not r d = mode-not Γ (itemNo Γ mems) dataMode rec x c old at r new (told ∙ ap resolved d)
 
 -- passive or active
 module _ (Γ : Scope Identifier) (s : Bytes) (rec : ℕ) (m : Code.Mode) (old : List ℕ) (at : ℕ) (new : List ℕ) where
@@ -168,18 +170,18 @@ module _ (Γ : Scope Identifier) (rec : ℕ) (m : Mode (Syntax.Index Identifier)
     unfolding resolve
     elem-to o r new d w = emits-then elemMode (vec u) entryOf (λ y ns. Syntax.elemI y ns) (Names.modeOf Γ (tableNo Γ) rec m) (each (itemNo Γ funcs rec) xs) old at q o mid r new elem-bytes first d w
 
-    pub elem-not : (n r : ℕ) → q ≡ E.Refused n r → Emits entryOf (resolve Γ rec (Syntax.elemF none m xs)) old at (E.Refused n r) mid
+    pub elem-not : (r : Refusal) → q ≡ E.Refused r → Emits entryOf (resolve Γ rec (Syntax.elemF none m xs)) old at (E.Refused r) mid
     unfolding resolve
-    elem-not n r d = emits-not elemMode entryOf (λ y. each (itemNo Γ funcs rec) xs >>= λ ns. ok (Syntax.elemI y ns)) (Names.modeOf Γ (tableNo Γ) rec m) old at q n r mid first d
+    elem-not r d = emits-not elemMode entryOf (λ y. each (itemNo Γ funcs rec) xs >>= λ ns. ok (Syntax.elemI y ns)) (Names.modeOf Γ (tableNo Γ) rec m) old at q r mid first d
 
   module _ (bs : Bytes) (first : Emits dataMode (Names.modeOf Γ (itemNo Γ mems) rec m) old at q mid) where
     pub data-to : (o r : ℕ) (new : List ℕ) → q ≡ E.To o → Put mid o (sized bs) r new → Emits entryOf (resolve Γ rec (Syntax.dataF none m bs)) old at (E.To r) new
     unfolding resolve
     data-to o r new d p = emits-put dataMode entryOf (λ y. Syntax.dataI y bs) (Names.modeOf Γ (itemNo Γ mems) rec m) old at (sized bs) q o mid r new (data-bytes bs) first d p
 
-    pub data-not : (n r : ℕ) → q ≡ E.Refused n r → Emits entryOf (resolve Γ rec (Syntax.dataF none m bs)) old at (E.Refused n r) mid
+    pub data-not : (r : Refusal) → q ≡ E.Refused r → Emits entryOf (resolve Γ rec (Syntax.dataF none m bs)) old at (E.Refused r) mid
     unfolding resolve
-    data-not n r d = emits-not dataMode entryOf (λ y. ok (Syntax.dataI y bs)) (Names.modeOf Γ (itemNo Γ mems) rec m) old at q n r mid first d
+    data-not r d = emits-not dataMode entryOf (λ y. ok (Syntax.dataI y bs)) (Names.modeOf Γ (itemNo Γ mems) rec m) old at q r mid first d
 
 -- ## Offset 0
 

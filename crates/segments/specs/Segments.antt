@@ -6,6 +6,7 @@ use lib.Dec.{eqb}
 use Rattle.definition.specs.Basic.{if_then_else_, Answer, ok, refused}
 use Rattle.definition.specs.Syntax.{Bytes, Op, Mode, passive, active}
 use Rattle.definition.specs.Binary.{u, expr}
+use Rattle.syntax.specs.Refusals.{refusedBy}
 use Rattle.segments.specs.declared.elem_segment.TableAt.{TableAt}
 use Rattle.segments.specs.declared.elem_segment.TableAt.the-variants as T
 
@@ -13,7 +14,7 @@ use Rattle.segments.specs.declared.elem_segment.TableAt.the-variants as 
 abbrev pub tableAt : TableAt → Answer (Option ℕ)
 tableAt T.Absent = ok none
 tableAt (T.To n) = ok (some n)
-tableAt (T.Refused n r) = refused n r
+tableAt (T.Refused r) = refusedBy r
 
 -- what stands before the functions of an active segment, which begins at this offset
 unfoldable pub atTable : Option ℕ → Op → Bytes

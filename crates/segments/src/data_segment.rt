@@ -1,27 +1,28 @@
 // Data segments.
 use binary::Emitted;
-use expr::Plain;
-use fields::Mode;
-use space::Resolved;
-use token::Index;
-use token::Part;
-use token::Space;
+use name_table::Resolved;
+use syntax::Index;
+use syntax::Mode;
+use syntax::Part;
+use syntax::Plain;
+use syntax::Space;
 ghost use mathlib.Core.List.{[], _∷_};
 ghost use mathlib.Core.Option.{none};
 ghost use Prim.Native.Nat.{_≤_};
 ghost use lib.Dec.{eqb};
 ghost use lib.ListN.{length};
+ghost use Rattle.area.specs.Layout.{WORDS};
 ghost use Rattle.definition.specs.Basic.{if_then_else_};
 ghost use Rattle.definition.specs.Syntax.{mems, active, dataF};
 ghost use Rattle.definition.specs.Names as Names;
 ghost use Rattle.definition.specs.Binary as Binary;
 ghost use Rattle.emit.specs.Put.{Put};
-ghost use Rattle.token.specs.Views.{partOf, indexOf};
-ghost use Rattle.expr.specs.Views.{plainIs};
-ghost use Rattle.fields.specs.Views.{modeOf};
+ghost use Rattle.syntax.specs.Tokens.{partOf, indexOf};
+ghost use Rattle.syntax.specs.Plain.{plainIs};
+ghost use Rattle.syntax.specs.Fields.{modeOf};
 ghost use Rattle.scope.specs.Scope.{scopeIn};
 ghost use Rattle.binary.specs.Emits.{Emits};
-ghost use Rattle.entries.specs.Entry.{entryOf};
+ghost use Rattle.import_export.specs.Entry.{entryOf};
 ghost use Rattle.segments.specs.Segments.{atMemory, dataMode};
 ghost use Rattle.operands.specs.Operands.{zeroOp};
 
@@ -45,7 +46,7 @@ fn emit_on_memory(
     c: Plain,
     rec: u32,
 ) -> Emitted
-    requires { ⌜ 16384 ≤ length (now work) ⌝ }
+    requires { ⌜ WORDS ≤ length (now work) ⌝ }
     ensures { λ r. ⌜ Emits (atMemory m) (Names.constOp (scopeIn (now (s .entry)) (now (work .entry))) rec (plainIs (now (s .entry)) c)) (now (out .entry)) at r (now (out .exit)) ⌝ }
 {
     let a = put_memory(out, at, m);
@@ -61,12 +62,12 @@ fn emit_at_memory(
     c: Plain,
     rec: u32,
 ) -> Emitted
-    requires { ⌜ 16384 ≤ length (now work) ⌝ }
+    requires { ⌜ WORDS ≤ length (now work) ⌝ }
     ensures { λ r. ⌜ Emits dataMode (Names.modeOf (scopeIn (now (s .entry)) (now (work .entry))) (Names.itemNo (scopeIn (now (s .entry)) (now (work .entry))) mems) rec (active (indexOf (now (s .entry)) x) (plainIs (now (s .entry)) c))) (now (out .entry)) at r (now (out .exit)) ⌝ }
 {
     match scope::item_no(s, work, Space::Mems, x, rec) {
         Resolved::To(m) => emit_on_memory(out, at, s, work, m, c, rec),
-        Resolved::Refused(n, r) => Emitted::Refused(n, r),
+        Resolved::Refused(r) => Emitted::Refused(r),
     }
 }
 
@@ -79,7 +80,7 @@ fn emit_data_mode(
     mode: Mode,
     rec: u32,
 ) -> Emitted
-    requires { ⌜ 16384 ≤ length (now work) ⌝ }
+    requires { ⌜ WORDS ≤ length (now work) ⌝ }
     ensures { λ r. ⌜ Emits dataMode (Names.modeOf (scopeIn (now (s .entry)) (now (work .entry))) (Names.itemNo (scopeIn (now (s .entry)) (now (work .entry))) mems) rec (modeOf (now (s .entry)) mode)) (now (out .entry)) at r (now (out .exit)) ⌝ }
 {
     match mode {
@@ -97,12 +98,12 @@ pub fn emit_data(
     bytes: Part,
     rec: u32,
 ) -> Emitted
-    requires { ⌜ 16384 ≤ length (now work) ⌝ }
+    requires { ⌜ WORDS ≤ length (now work) ⌝ }
     ensures { λ r. ⌜ Emits entryOf (Names.resolve (scopeIn (now (s .entry)) (now (work .entry))) rec (dataF none (modeOf (now (s .entry)) mode) (partOf (now (s .entry)) bytes))) (now (out .entry)) at r (now (out .exit)) ⌝ }
 {
     match emit_data_mode(out, at, s, work, mode, rec) {
         Emitted::To(a) => Emitted::To(binary::put_name(out, a, s, bytes)),
-        Emitted::Refused(n, r) => Emitted::Refused(n, r),
+        Emitted::Refused(r) => Emitted::Refused(r),
     }
 }
 

@@ -1,40 +1,42 @@
 // Element segments.
 use binary::Emitted;
-use expr::Plain;
-use fields::Mode;
-use space::Resolved;
-use token::Index;
-use token::Space;
-use typeuse::List;
+use name_table::Resolved;
+use syntax::Index;
+use syntax::List;
+use syntax::Mode;
+use syntax::Plain;
+use syntax::Refusal;
+use syntax::Space;
 ghost use mathlib.Core.Path.{_≡_};
 ghost use mathlib.Core.List.{[], _∷_};
 ghost use mathlib.Core.Option.{none, some};
 ghost use Prim.Native.Nat.{_≤_};
 ghost use lib.ListN.{length};
+ghost use Rattle.area.specs.Layout.{WORDS};
 ghost use Rattle.definition.specs.Syntax.{active, number, elemF};
 ghost use Rattle.definition.specs.Token as Token;
 ghost use Rattle.definition.specs.Deinline as Deinline;
 ghost use Rattle.definition.specs.Names as Names;
 ghost use Rattle.definition.specs.Binary as Binary;
 ghost use Rattle.emit.specs.Put.{Put};
-ghost use Rattle.token.specs.Views.{indexOf};
-ghost use Rattle.typeuse.specs.Views.{listOf};
-ghost use Rattle.expr.specs.Views.{plainIs};
-ghost use Rattle.fields.specs.Views.{modeOf};
+ghost use Rattle.syntax.specs.Tokens.{indexOf};
+ghost use Rattle.syntax.specs.TypeUses.{listOf};
+ghost use Rattle.syntax.specs.Plain.{plainIs};
+ghost use Rattle.syntax.specs.Fields.{modeOf};
 ghost use Rattle.scope.specs.Scope.{scopeIn};
 ghost use Rattle.binary.specs.Emits.{Emits};
-ghost use Rattle.entries.specs.Entry.{entryOf};
+ghost use Rattle.import_export.specs.Entry.{entryOf};
 ghost use Rattle.segments.specs.Segments.{atTable, elemMode, tableAt};
 
 // The table of an element segment. An absent index stays so: it decides the segment's form.
 pub enum TableAt {
     Absent,
     To(u32),
-    Refused(u8, u32),
+    Refused(Refusal),
 }
 
 fn table_no(s: &[u8], work: &[u32], x: Index, rec: u32) -> TableAt
-    requires { ⌜ 16384 ≤ length (now work) ⌝ }
+    requires { ⌜ WORDS ≤ length (now work) ⌝ }
     ensures { λ r. ⌜ Names.tableNo (scopeIn (now (s .entry)) (now (work .entry))) rec (indexOf (now (s .entry)) x) ≡ tableAt r ⌝ }
 {
     match x {
@@ -42,7 +44,7 @@ fn table_no(s: &[u8], work: &[u32], x: Index, rec: u32) -> TableAt
         Index::Number(n) => TableAt::To(n),
         Index::Named(p) => match scope::item_no(s, work, Space::Tables, Index::Named(p), rec) {
             Resolved::To(n) => TableAt::To(n),
-            Resolved::Refused(n, r) => TableAt::Refused(n, r),
+            Resolved::Refused(r) => TableAt::Refused(r),
         },
     }
 }
@@ -56,7 +58,7 @@ fn emit_without_table(
     c: Plain,
     rec: u32,
 ) -> Emitted
-    requires { ⌜ 16384 ≤ length (now work) ⌝ }
+    requires { ⌜ WORDS ≤ length (now work) ⌝ }
     ensures { λ r. ⌜ Emits (atTable none) (Names.constOp (scopeIn (now (s .entry)) (now (work .entry))) rec (plainIs (now (s .entry)) c)) (now (out .entry)) at r (now (out .exit)) ⌝ }
 {
     let a = emit::put(out, at, 0);
@@ -81,13 +83,13 @@ fn emit_with_table(
     c: Plain,
     rec: u32,
 ) -> Emitted
-    requires { ⌜ 16384 ≤ length (now work) ⌝ }
+    requires { ⌜ WORDS ≤ length (now work) ⌝ }
     ensures { λ r. ⌜ Emits (atTable (some n)) (Names.constOp (scopeIn (now (s .entry)) (now (work .entry))) rec (plainIs (now (s .entry)) c)) (now (out .entry)) at r (now (out .exit)) ⌝ }
 {
     let a = put_form_2(out, at, n);
     match operands::emit_const(out, a, s, work, c, rec) {
         Emitted::To(b) => Emitted::To(emit::put(out, b, 0)),
-        Emitted::Refused(m, r) => Emitted::Refused(m, r),
+        Emitted::Refused(r) => Emitted::Refused(r),
     }
 }
 
@@ -100,13 +102,13 @@ fn emit_at_table(
     c: Plain,
     rec: u32,
 ) -> Emitted
-    requires { ⌜ 16384 ≤ length (now work) ⌝ }
+    requires { ⌜ WORDS ≤ length (now work) ⌝ }
     ensures { λ r. ⌜ Emits elemMode (Names.modeOf (scopeIn (now (s .entry)) (now (work .entry))) (Names.tableNo (scopeIn (now (s .entry)) (now (work .entry)))) rec (active (indexOf (now (s .entry)) x) (plainIs (now (s .entry)) c))) (now (out .entry)) at r (now (out .exit)) ⌝ }
 {
     match table_no(s, work, x, rec) {
         TableAt::Absent => emit_without_table(out, at, s, work, c, rec),
         TableAt::To(n) => emit_with_table(out, at, s, work, n, c, rec),
-        TableAt::Refused(n, r) => Emitted::Refused(n, r),
+        TableAt::Refused(r) => Emitted::Refused(r),
     }
 }
 
@@ -127,7 +129,7 @@ fn emit_elem_mode(
     mode: Mode,
     rec: u32,
 ) -> Emitted
-    requires { ⌜ 16384 ≤ length (now work) ⌝ }
+    requires { ⌜ WORDS ≤ length (now work) ⌝ }
     ensures { λ r. ⌜ Emits elemMode (Names.modeOf (scopeIn (now (s .entry)) (now (work .entry))) (Names.tableNo (scopeIn (now (s .entry)) (now (work .entry)))) rec (modeOf (now (s .entry)) mode)) (now (out .entry)) at r (now (out .exit)) ⌝ }
 {
     match mode {
@@ -145,12 +147,12 @@ pub fn emit_elem(
     funcs: List,
     rec: u32,
 ) -> Emitted
-    requires { ⌜ 16384 ≤ length (now work) ⌝ }
+    requires { ⌜ WORDS ≤ length (now work) ⌝ }
     ensures { λ r. ⌜ Emits entryOf (Names.resolve (scopeIn (now (s .entry)) (now (work .entry))) rec (elemF none (modeOf (now (s .entry)) mode) (listOf Token.present (now (s .entry)) funcs))) (now (out .entry)) at r (now (out .exit)) ⌝ }
 {
     match emit_elem_mode(out, at, s, work, mode, rec) {
         Emitted::To(a) => operands::emit_funcs(out, a, s, work, funcs, rec),
-        Emitted::Refused(n, r) => Emitted::Refused(n, r),
+        Emitted::Refused(r) => Emitted::Refused(r),
     }
 }
 
@@ -165,7 +167,7 @@ pub fn emit_inline_elem(
     funcs: List,
     rec: u32,
 ) -> Emitted
-    requires { ⌜ 16384 ≤ length (now work) ⌝ }
+    requires { ⌜ WORDS ≤ length (now work) ⌝ }
     ensures { λ r. ⌜ Emits entryOf (Names.resolve (scopeIn (now (s .entry)) (now (work .entry))) rec (elemF none (active (number n) (Deinline.zeroOffset is64)) (listOf Token.present (now (s .entry)) funcs))) (now (out .entry)) at r (now (out .exit)) ⌝ }
 {
     let offset = operands::zero_offset(s, is64);

@@ -7,9 +7,9 @@ use native.Mathlib.Omega.{arith}
 use mir.Syntax.{w64}
 use mir.Val.{Fits}
 use Rattle.definition.specs.Syntax.{code}
-use Rattle.token.specs.Views.{spaceOf}
-use Rattle.token.specs.declared.index.Space.{Space}
-use Rattle.token.specs.declared.index.Space.the-variants as K
+use Rattle.syntax.specs.Tokens.{spaceOf}
+use Rattle.syntax.specs.declared.Space.{Space}
+use Rattle.syntax.specs.declared.Space.the-variants as K
 
 code-small : (k : Space) → code (spaceOf k) < 7
 code-small K.Funcs = omega arith

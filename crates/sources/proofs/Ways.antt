@@ -7,18 +7,19 @@ use Rattle.definition.specs.Syntax as Syntax
 use Rattle.definition.specs.Syntax.{Bytes, Identifier}
 use Rattle.definition.specs.Reader.{Step, fault, onward, require}
 use Rattle.definition.specs.Records.{Room, Extern}
-use Rattle.sources.specs.Views.{countOf, roomOf, nameOf, nameAt, kindOf, externOf, externIs, externAt, sourceOf, sourceAt, source, formsOf}
-use Rattle.sources.specs.declared.import.ImportName.{ImportName}
-use Rattle.sources.specs.declared.import.NameAt.{NameAt}
-use Rattle.sources.specs.declared.import.NameAt.the-variants as NA
-use Rattle.sources.specs.declared.import.Kind.{Kind}
-use Rattle.sources.specs.declared.import.Extern as Code
-use Rattle.sources.specs.declared.import.ExternAt.{ExternAt}
-use Rattle.sources.specs.declared.import.ExternAt.the-variants as EA
-use Rattle.sources.specs.declared.seen.Seen.{Seen}
-use Rattle.sources.specs.declared.source.Source.{Source}
-use Rattle.sources.specs.declared.source.SourceAt.{SourceAt}
-use Rattle.sources.specs.declared.source.SourceAt.the-variants as SA
+use Rattle.syntax.specs.Items.{countOf, roomOf, nameOf, nameAt, kindOf, externIs, externAt, sourceOf, sourceAt}
+use Rattle.sources.specs.Readers.{externOf, source, formsOf}
+use Rattle.syntax.specs.declared.ImportName.{ImportName}
+use Rattle.syntax.specs.declared.NameAt.{NameAt}
+use Rattle.syntax.specs.declared.NameAt.the-variants as NA
+use Rattle.syntax.specs.declared.Kind.{Kind}
+use Rattle.syntax.specs.declared.Extern as Code
+use Rattle.syntax.specs.declared.ExternAt.{ExternAt}
+use Rattle.syntax.specs.declared.ExternAt.the-variants as EA
+use Rattle.syntax.specs.declared.Seen.{Seen}
+use Rattle.syntax.specs.declared.Source.{Source}
+use Rattle.syntax.specs.declared.SourceAt.{SourceAt}
+use Rattle.syntax.specs.declared.SourceAt.the-variants as SA
 
 module _ {C : Type 0} (x : Step C) (s : Bytes) where
   pub name-got : (k : Syntax.ImportName → ℕ → Step C) (m : Step Syntax.ImportName) (r : NameAt) (a : ImportName) (n : ℕ) → m ≡ nameAt s r → r ≡ NA.Got a n → k (nameOf s a) n ≡ x → onward k m ≡ x

@@ -1,28 +1,23 @@
 // The names of an import, and what is imported under them.
-use coretypes::GlobalType;
-use coretypes::GlobalTypeAt;
-use coretypes::Limits;
-use coretypes::LimitsAt;
-use coretypes::TableType;
-use coretypes::TableTypeAt;
-use token::Part;
-use token::PartAt;
-use typeuse::TypeUse;
-use typeuse::UseAt;
+use syntax::Extern;
+use syntax::ExternAt;
+use syntax::GlobalType;
+use syntax::GlobalTypeAt;
+use syntax::ImportName;
+use syntax::Kind;
+use syntax::Limits;
+use syntax::LimitsAt;
+use syntax::NameAt;
+use syntax::Part;
+use syntax::PartAt;
+use syntax::TableType;
+use syntax::TableTypeAt;
+use syntax::TypeUse;
+use syntax::UseAt;
 ghost use mathlib.Core.Path.{_≡_};
 ghost use Rattle.definition.specs.Records as Records;
-ghost use Rattle.sources.specs.Views.{nameAt, externAt, externOf};
-
-// The two names of an import.
-pub struct ImportName {
-    pub module: Part,
-    pub item: Part,
-}
-
-pub enum NameAt {
-    Got(ImportName, usize),
-    Fault(u8),
-}
+ghost use Rattle.syntax.specs.Items.{nameAt, externAt};
+ghost use Rattle.sources.specs.Readers.{externOf};
 
 pub fn read_import_name(s: &[u8], at: usize) -> NameAt
     ensures { λ r. ⌜ Records.importName (now (s .entry)) at ≡ nameAt (now (s .entry)) r ⌝ }
@@ -40,26 +35,6 @@ pub fn read_import_name(s: &[u8], at: usize) -> NameAt
             return NameAt::Fault(e);
         }
     }
-}
-
-// What may be imported: an item of one of four spaces.
-pub enum Kind {
-    Func,
-    Table,
-    Mem,
-    Global,
-}
-
-pub enum Extern {
-    Func(TypeUse),
-    Table(TableType),
-    Mem(Limits),
-    Global(GlobalType),
-}
-
-pub enum ExternAt {
-    Got(Extern, usize),
-    Fault(u8),
 }
 
 fn func_extern(s: &[u8], at: usize) -> ExternAt

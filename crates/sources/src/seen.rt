@@ -1,47 +1,16 @@
 // What the records before have brought, and what may still come.
-use crate::import::Kind;
-use token::Space;
+use syntax::Kind;
+use syntax::Seen;
+use syntax::Space;
 ghost use mathlib.Core.Path.{_≡_};
-ghost use Rattle.definition.specs.Syntax.{code};
-ghost use Rattle.token.specs.Views.{spaceOf};
-ghost use Rattle.sources.specs.Views.{noneSeen, countOf, kindOf, roomOf};
-
-// How many items each space has, by its code, and whether there was a start.
-pub struct Seen {
-    pub counts: [u32; 7],
-    pub started: bool,
-}
-
-impl Seen {
-    pub fn none() -> Seen
-        ensures { λ r. ⌜ r ≡ noneSeen ⌝ }
-    {
-        Seen {
-            counts: [0; 7],
-            started: false,
-        }
-    }
-}
-
-pub fn space_code(k: Space) -> usize
-    ensures { λ r. ⌜ r ≡ code (spaceOf k) ⌝ }
-{
-    match k {
-        Space::Funcs => 0,
-        Space::Tables => 1,
-        Space::Mems => 2,
-        Space::Globals => 3,
-        Space::Types => 4,
-        Space::Elems => 5,
-        Space::Datas => 6,
-    }
-}
+ghost use Rattle.syntax.specs.Tokens.{spaceOf};
+ghost use Rattle.syntax.specs.Items.{noneSeen, countOf, kindOf, roomOf};
 
 pub fn count_of(seen: Seen, k: Space) -> u32
     ensures { λ r. ⌜ r ≡ countOf seen (spaceOf k) ⌝ }
 {
     let counts = seen.counts;
-    let i = space_code(k);
+    let i = syntax::space_code(k);
     counts[i]
 }
 

@@ -1,51 +1,35 @@
 // The forms of an item's record: 0 the module's own, 1 imported, 2 made of an inline segment.
-use crate::import::Extern;
-use crate::import::ExternAt;
-use crate::import::ImportName;
-use crate::import::Kind;
-use crate::import::NameAt;
-use crate::seen::Seen;
-use coretypes::BoolAt;
-use coretypes::GlobalType;
-use coretypes::GlobalTypeAt;
-use coretypes::Limits;
-use coretypes::LimitsAt;
-use coretypes::TableType;
-use coretypes::TableTypeAt;
-use expr::Plain;
-use expr::PlainAt;
-use token::ByteAt;
-use token::Part;
-use token::PartAt;
-use token::Space;
-use typeuse::Elem;
-use typeuse::List;
-use typeuse::ListAt;
-use typeuse::TypeUse;
-use typeuse::UseAt;
+use syntax::BoolAt;
+use syntax::ByteAt;
+use syntax::Elem;
+use syntax::Extern;
+use syntax::ExternAt;
+use syntax::GlobalType;
+use syntax::GlobalTypeAt;
+use syntax::ImportName;
+use syntax::Kind;
+use syntax::Limits;
+use syntax::LimitsAt;
+use syntax::List;
+use syntax::ListAt;
+use syntax::NameAt;
+use syntax::Own;
+use syntax::Part;
+use syntax::PartAt;
+use syntax::Plain;
+use syntax::PlainAt;
+use syntax::Seen;
+use syntax::Source;
+use syntax::SourceAt;
+use syntax::Space;
+use syntax::TableType;
+use syntax::TableTypeAt;
+use syntax::TypeUse;
+use syntax::UseAt;
 ghost use mathlib.Core.Path.{_≡_};
 ghost use Rattle.definition.specs.Records as Records;
-ghost use Rattle.sources.specs.Views.{roomOf, externOf, sourceAt, source, funcForms, tableForms, memForms, globalForms, formsOf};
-
-pub enum Own {
-    Func(TypeUse, List),
-    Table(TableType),
-    Mem(Limits),
-    Global(GlobalType, Plain),
-}
-
-// A bool says 64-bit.
-pub enum Source {
-    Own(Own),
-    Imported(ImportName, Extern),
-    TableOf(bool, List),
-    MemOf(bool, Part),
-}
-
-pub enum SourceAt {
-    Got(Source, usize),
-    Fault(u8),
-}
+ghost use Rattle.syntax.specs.Items.{roomOf, sourceAt};
+ghost use Rattle.sources.specs.Readers.{externOf, source, funcForms, tableForms, memForms, globalForms, formsOf};
 
 fn import_form(s: &[u8], at: usize, kind: Kind) -> SourceAt
     ensures { λ r. ⌜ Records.importForm (externOf kind) (now (s .entry)) at ≡ sourceAt (now (s .entry)) r ⌝ }

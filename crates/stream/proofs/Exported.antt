@@ -4,8 +4,10 @@ use mathlib.Core.List.{List}
 use Prim.Native.Nat.{ℕ, _≤_, _<_}
 use lib.ListN.{length, set, length-set, replicate}
 use native.Mathlib.Omega.{arith}
-use Rattle.definition.specs.Basic.{ok, refused}
+use Rattle.definition.specs.Basic.{ok}
 use Rattle.definition.specs.Syntax.{Bytes}
+use Rattle.syntax.specs.Refusals.{refusedBy}
+use Rattle.syntax.specs.declared.Refusal.{Refusal}
 use Rattle.stream.specs.Pass.{counted, reading, Reads}
 use Rattle.stream.specs.Export.{toldIn, Told}
 use Rattle.stream.specs.declared.pass.Count.{Count}
@@ -20,8 +22,8 @@ module _ (s : Bytes) (w w₁ w′ a a′ : List ℕ) (r : Count) (v : Reads s w 
   told-accepted n e d = let g : reading s (length w) ≡ ok n = v .says ∙ ap counted e in
       record { number = rw g; answer = rw g d; leaves = cleared }
 
-  pub told-refused : (n m q : ℕ) → r ≡ C.Refused n q → m ≡ n → a′ ≡ toldIn a m q → Told s w a m w′ a′
-  told-refused n m q e f d = let g : reading s (length w) ≡ refused n q = v .says ∙ ap counted e in
+  pub told-refused : (q : Refusal) (m : ℕ) → r ≡ C.Refused q → m ≡ q .number → a′ ≡ toldIn a m (q .rec) → Told s w a m w′ a′
+  told-refused q m e f d = let g : reading s (length w) ≡ refusedBy q = v .says ∙ ap counted e in
       record { number = rw g f; answer = rw (g, ← f) d; leaves = cleared }
 
 pub second-answer : (a : List ℕ) (n : ℕ) → 2 ≤ length a → 1 < length (set a 0 n)

@@ -23,26 +23,29 @@ use Rattle.definition.specs.Read.{bodyAfter, seenAfter, nothingSeen, recordIn, 
 use Rattle.laws.specs.Steps.{total}
 use Rattle.laws.proofs.Bodies.{end-inside}
 use Rattle.laws.proofs.Sets.{sets-append, sets-more}
-use Rattle.sources.specs.Views.{roomOf, noneSeen}
-use Rattle.sources.specs.declared.seen.Seen.{Seen}
-use Rattle.fields.specs.Views.{fieldOf}
-use Rattle.fields.specs.declared.field.Field.{Field}
-use Rattle.records.specs.Uses.{mayUse, endWord}
+use Rattle.syntax.specs.Refusals.{refusal, refusedBy}
+use Rattle.syntax.specs.declared.Refusal.{Refusal}
+use Rattle.area.specs.Layout.{BYTES, WORDS}
+use Rattle.syntax.specs.Items.{roomOf, noneSeen}
+use Rattle.syntax.specs.declared.Seen.{Seen}
+use Rattle.syntax.specs.Fields.{fieldOf}
+use Rattle.syntax.specs.declared.Field.{Field}
+use Rattle.next_record.specs.Uses.{mayUse, endWord}
 use Rattle.stream.specs.Pass.{Passed, usedAfter, endOf, pass, passed, endWords, areaAfter, reading, readingArea, Walks, Reads}
-use Rattle.records.specs.Places.{bodyOf, recordPast, placeAfter, movedBy, fieldRecordAt, bodyRecordAt}
+use Rattle.next_record.specs.Places.{bodyOf, recordPast, placeAfter, movedBy, fieldRecordAt, bodyRecordAt}
 use Rattle.counting.specs.Counting.{fieldSeen}
-use Rattle.records.specs.Answers.{outsideAnswer, Kept, an-instr, an-end, keptOf, keptAnswer, keptAt, insideAnswer}
+use Rattle.next_record.specs.Answers.{outsideAnswer, Kept, an-instr, an-end, keptOf, keptAnswer, keptAt, insideAnswer}
 use Rattle.stream.specs.Pass.{endPut}
-use Rattle.records.specs.declared.record.Place.{Place}
-use Rattle.records.specs.declared.record.Outside.{Outside}
-use Rattle.records.specs.declared.record.Outside.the-variants as U
-use Rattle.records.specs.declared.record.Inside.{Inside}
-use Rattle.records.specs.declared.record.Inside.the-variants as N
+use Rattle.syntax.specs.declared.Place.{Place}
+use Rattle.next_record.specs.declared.record.Outside.{Outside}
+use Rattle.next_record.specs.declared.record.Outside.the-variants as U
+use Rattle.next_record.specs.declared.record.Inside.{Inside}
+use Rattle.next_record.specs.declared.record.Inside.the-variants as N
 use Rattle.stream.specs.declared.pass.Count.{Count}
 use Rattle.stream.specs.declared.pass.Count.the-variants as C
 use Rattle.stream.proofs.Model.{passed-says, pass-end, pass-fault, pass-full, pass-got}
 use Rattle.counting.proofs.Counts.{Counts, counts-none, counts-field, counts-instr, counts-end, room-same, counts-words}
-use Rattle.records.proofs.Records.{outside, inside, body-depth}
+use Rattle.next_record.proofs.Records.{outside, inside, body-depth}
 
 -- ## Backwards through a record that was read
 
@@ -157,28 +160,28 @@ module _ (s : Bytes) (w₀ : List ℕ) (p : Place) (c : Seen) (ended : ℕ) (use
   body-on x q a = ap (λ b. bodyAfter b x) (v .body) ∙ sym (a .deep)
 
   -- a refusal ends the pass
-  stopped : (n r : ℕ) → passed s ≡ record { says = refused n r; seen = v .seen; ends = v .ends } → Walks s w₀ (C.Refused n r) w
+  stopped : (r : Refusal) → passed s ≡ record { says = refusedBy r; seen = v .seen; ends = v .ends } → Walks s w₀ (C.Refused r) w
   unfolding areaAfter
-  stopped n r g = record { says = sym (passed-says s) ∙ ap (λ (x : Passed). x .says) g; leaves = v .area ∙ rw g }
+  stopped r g = record { says = sym (passed-says s) ∙ ap (λ (x : Passed). x .says) g; leaves = v .area ∙ rw g }
 
   -- one record too many
-  pub full-walk : (n : ℕ) → 4096 ≤ p .rec → n ≡ (if beginsIn (getD s (p .at) 0) (bodyOf (p .depth)) then 7 else 4) → Walks s w₀ (C.Refused n (p .rec)) w
+  pub full-walk : (n : ℕ) → 4096 ≤ p .rec → n ≡ (if beginsIn (getD s (p .at) 0) (bodyOf (p .depth)) then 7 else 4) → Walks s w₀ (C.Refused (refusal n (p .rec))) w
   full-walk n l e =
       let m : 4096 - p .rec ≡ 0 = omega arith in
       let b = v .body in
-      stopped n (p .rec) (v .same ∙ pass-full (p .rec) (v .seen) used (v .ends) s (p .at) (4096 - p .rec) h m ∙ rw (b, e))
+      stopped (refusal n (p .rec)) (v .same ∙ pass-full (p .rec) (v .seen) used (v .ends) s (p .at) (4096 - p .rec) h m ∙ rw (b, e))
 
   module _ (l : p .rec < 4096) (q : Place) where
     -- a record that is not read
     faulted : (n : ℕ) (st : Step (Rec Identifier)) → recordIn (roomOf c) (bodyOf (p .depth)) s (p .at) ≡ st → movedBy p st .0 ≡ refused n (q .rec)
-        → Walks s w₀ (C.Refused n (q .rec)) w
+        → Walks s w₀ (C.Refused (refusal n (q .rec))) w
     unfolding oneRecord
     faulted n (got y next) f e = let z : _≡_ {A = ℕ} 0 1 = cc in absurd (omega arith)
     faulted n (fault m) f e =
         let j : m ≡ n = cc in
         let i : p .rec ≡ q .rec = cc in
         let g : oneRecord (v .seen) s (p .at) ≡ fault m = rw (room-same (v .counts), v .body) f in
-        stopped n (q .rec) (v .same ∙ pass-fault (p .rec) (v .seen) used (v .ends) s (p .at) (4096 - p .rec) m h (omega arith) g ∙ rw (j, i))
+        stopped (refusal n (q .rec)) (v .same ∙ pass-fault (p .rec) (v .seen) used (v .ends) s (p .at) (4096 - p .rec) m h (omega arith) g ∙ rw (j, i))
 
     -- ### Outside a body
 
@@ -206,7 +209,7 @@ module _ (s : Bytes) (w₀ : List ℕ) (p : Place) (c : Seen) (ended : ℕ) (use
             long = v .long;
           }
 
-      pub refused-field : (n : ℕ) → what ≡ U.Refused n → Walks s w₀ (C.Refused n (q .rec)) w
+      pub refused-field : (n : ℕ) → what ≡ U.Refused n → Walks s w₀ (C.Refused (refusal n (q .rec))) w
       unfolding fieldRecordAt
       refused-field n k =
           faulted n (recordIn (roomOf c) none s (p .at)) (ap (λ b. recordIn (roomOf c) b s (p .at)) (outside (p .depth) d))
@@ -263,7 +266,7 @@ module _ (s : Bytes) (w₀ : List ℕ) (p : Place) (c : Seen) (ended : ℕ) (use
       again-second u k t = subst (λ z. Going s w₀ q c ended (z || u) w) t (again-instr u k)
 
       -- a body's end: its place fits a word, and two words are stored while there is room for them
-      pub end-fits : what ≡ N.End → length s ≤ 65536 → q .at < 2 ^ 32
+      pub end-fits : what ≡ N.End → length s ≤ BYTES → q .at < 2 ^ 32
       end-fits k m = let a = was-end k in omega (arith, end-inside (p .depth - 1) s (p .at) (q .at) (ap (λ b. recordIn (roomOf c) b s (p .at)) (sym (inside (p .depth) d)) ∙ a .reads))
 
       pub end-few : what ≡ N.End → q .rec ≤ 4096
@@ -309,7 +312,7 @@ module _ (s : Bytes) (w₀ : List ℕ) (p : Place) (c : Seen) (ended : ℕ) (use
               let z : 8 + 2 * ended + 1 ≡ suc (8 + 2 * ended) = omega arith in
               rw (lt-ltb _ _ n, take-all 512 (v .ends ++ (q .at ∷ second ∷ [])) m, sets-append w₀ 8 (v .ends) (q .at ∷ second ∷ []), i, u, z)
 
-      pub refused-instr : (n : ℕ) → what ≡ N.Refused n → Walks s w₀ (C.Refused n (q .rec)) w
+      pub refused-instr : (n : ℕ) → what ≡ N.Refused n → Walks s w₀ (C.Refused (refusal n (q .rec))) w
       unfolding bodyRecordAt
       refused-instr n k =
           faulted n (bodyRec (p .depth - 1) s (p .at)) (ap (λ b. recordIn (roomOf c) b s (p .at)) (inside (p .depth) d))
@@ -326,7 +329,7 @@ module _ (s : Bytes) (w₀ : List ℕ) (p : Place) (c : Seen) (ended : ℕ) (use
   at-end = let b = v .body in v .same ∙ pass-end (p .rec) (v .seen) used (v .ends) s (p .at) (4096 - p .rec) h ∙ rw b
 
   -- in a body it is refused
-  pub end-in-body : 0 < p .depth → Walks s w₀ (C.Refused 2 (p .rec)) w
+  pub end-in-body : 0 < p .depth → Walks s w₀ (C.Refused (refusal 2 (p .rec))) w
   unfolding areaAfter
   end-in-body d =
       let g : passed s ≡ record { says = refused 2 (p .rec); seen = v .seen; ends = v .ends } = at-end ∙ rw (inside (p .depth) d) in
@@ -366,7 +369,7 @@ module _ (w₀ xs w : List ℕ) (i : ℕ) (v : Counting w₀ xs w i) (f : length
 
 -- ## The second word of a body's end
 
-pub second-word : (w : List ℕ) (n a : ℕ) → 16384 ≤ length w → n < 256 → 8 + 2 * n + 1 < length (set w (8 + 2 * n) a)
+pub second-word : (w : List ℕ) (n a : ℕ) → WORDS ≤ length w → n < 256 → 8 + 2 * n + 1 < length (set w (8 + 2 * n) a)
 second-word w n a h l = rw (length-set w (8 + 2 * n) a) (omega arith)
 
 pub ends-put : (w : List ℕ) (n a r x : ℕ) (u : Bool) → n < 256 → x ≡ endWord r u → set (set w (8 + 2 * n) a) (8 + 2 * n + 1) x ≡ endPut w n a (endWord r u)
@@ -375,15 +378,15 @@ ends-put w n a r x u l e = rw (lt-ltb _ _ l, e)
 
 -- ## The two lengths before it
 
-pub too-long : (s : Bytes) (w : List ℕ) → 65536 < length s → Reads s w (C.Refused 1 0) w
+pub too-long : (s : Bytes) (w : List ℕ) → BYTES < length s → Reads s w (C.Refused (refusal 1 0)) w
 unfolding reading readingArea
 too-long s w h = record { says = rw (lt-ltb _ _ h); leaves = rw (lt-ltb _ _ h) }
 
-pub too-short : (s : Bytes) (w : List ℕ) → length s ≤ 65536 → length w < 16384 → Reads s w (C.Refused 10 0) w
+pub too-short : (s : Bytes) (w : List ℕ) → length s ≤ BYTES → length w < WORDS → Reads s w (C.Refused (refusal 10 0)) w
 unfolding reading readingArea
 too-short s w h l = record { says = rw (le-ltb _ _ h, lt-ltb _ _ l); leaves = rw (le-ltb _ _ h, lt-ltb _ _ l) }
 
-pub walked : (s : Bytes) (w : List ℕ) (r : Count) (w′ : List ℕ) → length s ≤ 65536 → 16384 ≤ length w → Walks s w r w′ → Reads s w r w′
+pub walked : (s : Bytes) (w : List ℕ) (r : Count) (w′ : List ℕ) → length s ≤ BYTES → WORDS ≤ length w → Walks s w r w′ → Reads s w r w′
 unfolding reading readingArea
 walked s w r w′ h l v = record { says = rw (le-ltb _ _ h, le-ltb _ _ l) (v .says); leaves = rw (le-ltb _ _ h, le-ltb _ _ l) (v .leaves) }
 

@@ -6,12 +6,14 @@ use mathlib.Core.Path.{_≡_}
 use lib.Dec.{leb, ltb}
 use lib.ListN.{length, take, set}
 use lib.Seq.{sets}
+use Rattle.syntax.specs.Refusals.{refusedBy}
+use Rattle.area.specs.Layout.{BYTES, WORDS}
 use Rattle.definition.specs.Basic.{if_then_else_, Answer, ok, refused}
 use Rattle.definition.specs.Syntax.{Bytes, Identifier, Rec, field, instr, bodyEnd}
 use Rattle.definition.specs.Reader.{Step, got, fault}
 use Rattle.definition.specs.Read.{Seen, nothingSeen, seenAfter, oneRecord, atEnd, records, read}
 use Rattle.laws.specs.Steps.{total}
-use Rattle.records.specs.Uses.{mayUse, endWord}
+use Rattle.next_record.specs.Uses.{mayUse, endWord}
 use Rattle.counting.specs.Counting.{countWords}
 use Rattle.stream.specs.declared.pass.Count.{Count}
 use Rattle.stream.specs.declared.pass.Count.the-variants as C
@@ -72,17 +74,17 @@ areaAfter p w = areaOf (p .says) (countWords (p .seen)) (sets w 8 (endWords (p .
 
 abbrev pub counted : Count → Answer ℕ
 counted (C.Records n) = ok n
-counted (C.Refused n r) = refused n r
+counted (C.Refused r) = refusedBy r
 
 -- the stream's length, the work area's length, and then the records
 unfoldable pub reading : Bytes → ℕ → Answer ℕ
 reading s work =
-    if ltb 65536 (length s) then refused 1 0 else
-    if ltb work 16384 then refused 10 0 else
+    if ltb BYTES (length s) then refused 1 0 else
+    if ltb work WORDS then refused 10 0 else
     total 0 (read s)
 
 unfoldable pub readingArea : Bytes → List ℕ → List ℕ
-readingArea s w = if ltb 65536 (length s) then w else if ltb (length w) 16384 then w else areaAfter (passed s) w
+readingArea s w = if ltb BYTES (length s) then w else if ltb (length w) WORDS then w else areaAfter (passed s) w
 
 -- over a stream and a work area that are long enough and not too long
 pub record Walks (s : Bytes) (w : List ℕ) (r : Count) (w′ : List ℕ) : Type 0 where

@@ -21,15 +21,15 @@ pub extern "C" fn barrizuppa_read(stream: &[u8], work: &mut [u32], answer: &mut 
     ensures { λ r. ⌜ Told (now (stream .entry)) (now (work .entry)) (now (answer .entry)) r (now (work .exit)) (now (answer .exit)) ⌝ }
 {
     let said = read_all(stream, work);
-    space::clear(work);
+    area::clear(work);
     match said {
         Count::Records(n) => {
             tell(answer, 0, n);
             0
         }
-        Count::Refused(n, r) => {
-            let number = n as u32;
-            tell(answer, number, r);
+        Count::Refused(r) => {
+            let number = r.number as u32;
+            tell(answer, number, r.rec);
             number
         }
     }

@@ -1,23 +1,26 @@
 // The pass over all records.
 use counting::with_field;
-use records::Inside;
-use records::Outside;
-use records::Place;
-use records::next_field;
-use records::next_instr;
-use records::too_many;
-use sources::Seen;
+use next_record::Inside;
+use next_record::Outside;
+use next_record::next_field;
+use next_record::next_instr;
+use next_record::too_many;
+use syntax::Place;
+use syntax::Refusal;
+use syntax::Seen;
 ghost use mathlib.Core.Path.{_≡_};
 ghost use Prim.Native.Nat.{_+_, _*_, _≤_, _<_, _^_};
 ghost use lib.ListN.{length};
 ghost use lib.Seq.{sets};
+ghost use Rattle.area.specs.Layout.{WORDS};
+ghost use Rattle.area.specs.Lent.{Lent};
 ghost use Rattle.stream.specs.Pass.{Reads, Walks};
 ghost use Rattle.stream.specs.Pass.{endPut};
-ghost use Rattle.records.specs.Uses.{endWord};
+ghost use Rattle.next_record.specs.Uses.{endWord};
 
 pub enum Count {
     Records(u32),
-    Refused(u8, u32),
+    Refused(Refusal),
 }
 
 // The second word of a body's end: the record after it, and 8,192 more where the body may use a type.
@@ -26,14 +29,14 @@ fn end_word(rec: u32, used: bool) -> u32
     ensures { λ r. ⌜ r ≡ endWord rec used ⌝ }
 {
     if used {
-        return rec + 8192;
+        return rec + area::MARK;
     }
     rec
 }
 
 // Where a body ended: the place and the record after it, and whether interning has to look at the body.
 fn put_end(work: &mut [u32], n: u32, p: Place, used: bool)
-    requires { ⌜ (16384 ≤ length (now work)) × (p .at < 2 ^ 32) × (p .rec ≤ 4096) ⌝ }
+    requires { ⌜ (WORDS ≤ length (now work)) × (p .at < 2 ^ 32) × (p .rec ≤ 4096) ⌝ }
     ensures { λ _. ⌜ now (work .exit) ≡ endPut (now (work .entry)) n (p .at) (endWord (p .rec) used) ⌝ }
 {
     if n < 256 {
@@ -45,7 +48,7 @@ fn put_end(work: &mut [u32], n: u32, p: Place, used: bool)
 
 // The counts of items, from word 0 on.
 fn put_counts(work: &mut [u32], seen: Seen)
-    requires { ⌜ 16384 ≤ length (now work) ⌝ }
+    requires { ⌜ WORDS ≤ length (now work) ⌝ }
     ensures { λ _. ⌜ now (work .exit) ≡ sets (now (work .entry)) 0 (seen .counts) ⌝ }
 {
     let counts = seen.counts;
@@ -57,7 +60,7 @@ fn put_counts(work: &mut [u32], seen: Seen)
 }
 
 fn walk(s: &[u8], work: &mut [u32]) -> Count
-    requires { ⌜ (length (now s) ≤ 65536) × (16384 ≤ length (now work)) ⌝ }
+    requires { ⌜ Lent (now s) (now work) ⌝ }
     ensures { λ r. ⌜ Walks (now (s .entry)) (now (work .entry)) r (now (work .exit)) ⌝ }
 {
     let mut p = Place {
@@ -71,13 +74,19 @@ fn walk(s: &[u8], work: &mut [u32]) -> Count
     loop {
         if s.len() <= p.at {
             if 0 < p.depth {
-                return Count::Refused(2, p.rec);
+                return Count::Refused(Refusal {
+                    number: 2,
+                    rec: p.rec,
+                });
             }
             put_counts(work, seen);
             return Count::Records(p.rec);
         }
         if 4096 <= p.rec {
-            return Count::Refused(too_many(s, p), p.rec);
+            return Count::Refused(Refusal {
+                number: too_many(s, p),
+                rec: p.rec,
+            });
         }
         if p.depth < 1 {
             let r = next_field(s, p, seen);
@@ -88,7 +97,10 @@ fn walk(s: &[u8], work: &mut [u32]) -> Count
                     seen = with_field(seen, f);
                 }
                 Outside::Refused(n) => {
-                    return Count::Refused(n, p.rec);
+                    return Count::Refused(Refusal {
+                        number: n,
+                        rec: p.rec,
+                    });
                 }
             }
         } else {
@@ -105,7 +117,10 @@ fn walk(s: &[u8], work: &mut [u32]) -> Count
                     used = false;
                 }
                 Inside::Refused(n) => {
-                    return Count::Refused(n, p.rec);
+                    return Count::Refused(Refusal {
+                        number: n,
+                        rec: p.rec,
+                    });
                 }
             }
         }
@@ -116,11 +131,11 @@ fn walk(s: &[u8], work: &mut [u32]) -> Count
 pub fn read_all(s: &[u8], work: &mut [u32]) -> Count
     ensures { λ r. ⌜ Reads (now (s .entry)) (now (work .entry)) r (now (work .exit)) ⌝ }
 {
-    if 65536 < s.len() {
-        return Count::Refused(1, 0);
+    if area::BYTES < s.len() {
+        return Count::Refused(Refusal { number: 1, rec: 0 });
     }
-    if work.len() < 16384 {
-        return Count::Refused(10, 0);
+    if work.len() < area::WORDS {
+        return Count::Refused(Refusal { number: 10, rec: 0 });
     }
     walk(s, work)
 }

@@ -1,3 +1,5 @@
 pub mod Interning
+pub mod Ordering
 pub mod Recalls
+pub mod Registering
 pub mod Surveying

@@ -7,10 +7,11 @@ use native.Mathlib.Omega.{arith}
 use Rattle.definition.specs.Basic.{someOr}
 use Rattle.definition.specs.Syntax.{FuncType}
 use Rattle.definition.specs.Types.{Uses, typeNumber}
-use Rattle.space.specs.Kept.{Kept}
-use Rattle.space.proofs.Kept.{kept-word}
-use Rattle.uses.specs.Uses.{Known}
-use Rattle.signatures.specs.Table.{Recalled}
+use Rattle.area.specs.Layout.{TOTAL, USES}
+use Rattle.area.specs.Kept.{Kept}
+use Rattle.area.proofs.Kept.{kept-word}
+use Rattle.interning.specs.Uses.{Known}
+use Rattle.type_table.specs.Table.{Recalled}
 
 -- what is known of each use
 pub known-recalled : (w : List ℕ) (ts : List FuncType) (us : Uses) → Known 4096 w ts us → Recalled w ts us
@@ -19,9 +20,9 @@ known-recalled w ts [] x = tt
 known-recalled w ts ((r, t) ∷ us) x = (x .0, sym (ap (someOr (length ts)) (x .1)), known-recalled w ts us (x .2))
 
 -- words after them do not matter
-pub recalled-kept : (n : ℕ) {w w′ : List ℕ} (ts : List FuncType) (us : Uses) → 5896 ≤ n → Kept n w w′ → Recalled w ts us → Recalled w′ ts us
+pub recalled-kept : (n : ℕ) {w w′ : List ℕ} (ts : List FuncType) (us : Uses) → TOTAL ≤ n → Kept n w w′ → Recalled w ts us → Recalled w′ ts us
 unfolding Recalled
 recalled-kept n ts [] h k x = tt
 recalled-kept n {w} {w′} ts ((r, t) ∷ us) h k x =
     let l = x .0 in
-    (l, kept-word k (1800 + r) (omega arith) ∙ x .1, recalled-kept n {w = w} {w′ = w′} ts us h k (x .2))
+    (l, kept-word k (USES + r) (omega arith) ∙ x .1, recalled-kept n {w = w} {w′ = w′} ts us h k (x .2))

@@ -13,28 +13,31 @@ use Rattle.definition.specs.Read.{fieldBody}
 use Rattle.definition.specs.Deinline.{importsFrom, importOrder}
 use Rattle.definition.specs.Types.{bodyUses, uses, declared, intern, allTypes}
 use Rattle.definition.specs.Names.{register}
-use Rattle.fields.specs.Views.{fieldOf}
-use Rattle.fields.specs.declared.field.Field.{Field}
-use Rattle.space.specs.Kept.{Kept}
-use Rattle.space.proofs.Kept.{kept-same, kept-set, kept-then, kept-less, kept-word}
-use Rattle.signatures.specs.Table.{typeTable, typesIn}
-use Rattle.signatures.proofs.Types.{table-kept}
+use Rattle.syntax.specs.Refusals.{refusal, refusedBy}
+use Rattle.syntax.specs.declared.Refusal.{Refusal}
+use Rattle.area.specs.Layout.{BYTES, NAMED, NAMES, TOTAL, TYPES, WORDS}
+use Rattle.syntax.specs.Fields.{fieldOf}
+use Rattle.syntax.specs.declared.Field.{Field}
+use Rattle.area.specs.Kept.{Kept}
+use Rattle.area.proofs.Kept.{kept-same, kept-set, kept-then, kept-less, kept-word}
+use Rattle.type_table.specs.Table.{typeTable, typesIn}
+use Rattle.type_table.proofs.Types.{table-kept}
 use Rattle.walk.specs.Walk.{bodyIn, begin, visitIn, visitOf, fieldsAhead, fieldsIn, Ahead}
 use Rattle.walk.specs.declared.Cursor.{Cursor}
 use Rattle.walk.specs.declared.Met.{Met}
 use Rattle.walk.specs.declared.What.the-variants as W
 use Rattle.walk.proofs.Steps.{visit-ahead, ahead-kept}
-use Rattle.order.specs.Order.{standing, isLate, lateAfter}
-use Rattle.order.specs.declared.Standing.{Standing}
-use Rattle.order.proofs.Passing.{Ordering, ordering-begin, ordering-done, ordering-late, ordering-again}
-use Rattle.uses.specs.Uses.{Skips, usesField, endAfter, Handles}
-use Rattle.uses.specs.declared.Used.{Used}
-use Rattle.uses.specs.declared.Used.the-variants as U
-use Rattle.uses.proofs.Handled.{handles-types, handles-stopped}
-use Rattle.names.specs.Register.{brought, Puts}
-use Rattle.names.specs.declared.register.Registered.{Registered}
-use Rattle.names.specs.declared.register.Registered.the-variants as R
-use Rattle.names.proofs.Passing.{Registering, registering-begin, registering-above, registering-again, registering-stops, registering-done, counted-tables, counted-kept}
+use Rattle.import_order.specs.Order.{standing, isLate, lateAfter}
+use Rattle.import_order.specs.declared.Standing.{Standing}
+use Rattle.survey.proofs.Ordering.{Ordering, ordering-begin, ordering-done, ordering-late, ordering-again}
+use Rattle.interning.specs.Uses.{Skips, usesField, endAfter, Handles}
+use Rattle.interning.specs.declared.uses.Used.{Used}
+use Rattle.interning.specs.declared.uses.Used.the-variants as U
+use Rattle.interning.proofs.Handled.{handles-types, handles-stopped}
+use Rattle.registration.specs.Register.{brought, Puts}
+use Rattle.registration.specs.declared.register.Registered.{Registered}
+use Rattle.registration.specs.declared.register.Registered.the-variants as R
+use Rattle.survey.proofs.Registering.{Registering, registering-begin, registering-above, registering-again, registering-stops, registering-done, counted-tables, counted-kept}
 use Rattle.survey.specs.Survey.{typesAfterOrder, typesThenNames, lateness, fineOf, Both, Takes, UseRefused, NameRefused, Reaches, Surveys, Ends}
 use Rattle.survey.specs.declared.How.{How}
 use Rattle.survey.specs.declared.How.the-variants as H
@@ -50,26 +53,26 @@ use Rattle.survey.proofs.Recalls.{known-recalled, recalled-kept}
 -- ## What is refused
 
 -- an import came too late
-falls-late : (s w : List ℕ) (n q : ℕ) (w′ : List ℕ) → importOrder (fieldsIn s) ≡ refused n q → length w′ ≡ length w → Surveys s w (Y.Refused n q) w′
+falls-late : (s w : List ℕ) (q : Refusal) (w′ : List ℕ) → importOrder (fieldsIn s) ≡ refusedBy q → length w′ ≡ length w → Surveys s w (Y.Refused q) w′
 unfolding Surveys typesAfterOrder _>>=_
-falls-late s w n q w′ e l = record { says = rw e; long = l }
+falls-late s w q w′ e l = record { says = rw e; long = l }
 
 -- none did, and the types or the names were refused
-falls-next : (s w : List ℕ) (n q : ℕ) (w′ : List ℕ) → importOrder (fieldsIn s) ≡ ok tt → typesThenNames (fieldsIn s) ≡ refused n q → length w′ ≡ length w → Surveys s w (Y.Refused n q) w′
+falls-next : (s w : List ℕ) (q : Refusal) (w′ : List ℕ) → importOrder (fieldsIn s) ≡ ok tt → typesThenNames (fieldsIn s) ≡ refusedBy q → length w′ ≡ length w → Surveys s w (Y.Refused q) w′
 unfolding Surveys typesAfterOrder typesThenNames _>>=_
-falls-next s w n q w′ e f l = record { says = rw e f; long = l }
+falls-next s w q w′ e f l = record { says = rw e f; long = l }
 
 -- the types were refused, or only the names
-types-fall : (s : Bytes) (n q : ℕ) → allTypes (fieldsIn s) ≡ refused n q → typesThenNames (fieldsIn s) ≡ refused n q
+types-fall : (s : Bytes) (q : Refusal) → allTypes (fieldsIn s) ≡ refusedBy q → typesThenNames (fieldsIn s) ≡ refusedBy q
 unfolding typesThenNames _>>=_
-types-fall s n q e = rw e
+types-fall s q e = rw e
 
-names-fall : (s k w : _) (n q : ℕ) → allTypes (fieldsIn s) ≡ ok (typeTable k s w 520) → register sameBytes [] (fieldsIn s) ≡ refused n q → typesThenNames (fieldsIn s) ≡ refused n q
+names-fall : (s k w : _) (q : Refusal) → allTypes (fieldsIn s) ≡ ok (typeTable k s w TYPES) → register sameBytes [] (fieldsIn s) ≡ refusedBy q → typesThenNames (fieldsIn s) ≡ refusedBy q
 unfolding typesThenNames _>>=_
-names-fall s k w n q e f = rw e f
+names-fall s k w q e f = rw e f
 
 -- an answer from words that came of others
-surveys-since : (s w₀ w : List ℕ) (a : Surveyed) (w′ : List ℕ) → Kept 520 w₀ w → Surveys s w a w′ → Surveys s w₀ a w′
+surveys-since : (s w₀ w : List ℕ) (a : Surveyed) (w′ : List ℕ) → Kept TYPES w₀ w → Surveys s w a w′ → Surveys s w₀ a w′
 unfolding Surveys
 surveys-since s w₀ w Y.Done w′ k x = record {
   all = x .all;
@@ -80,7 +83,7 @@ surveys-since s w₀ w Y.Done w′ k x = record {
   tables = x .tables;
   kept = kept-then k (x .kept);
 }
-surveys-since s w₀ w (Y.Refused n q) w′ k x = record { says = x .says; long = x .long ∙ k .long }
+surveys-since s w₀ w (Y.Refused q) w′ k x = record { says = x .says; long = x .long ∙ k .long }
 
 -- ## Whether an import comes too late
 
@@ -116,11 +119,11 @@ pub passing-begin : (s w : List ℕ) (c : Cursor) (late : Bool) → Ahead s w c 
 passing-begin s w c late a e = record { order = record { same = e }; ahead = a }
 
 module _ (s w : List ℕ) (c : Cursor) (late : Bool) (v : Passing s w c late) (m : Met) (told : visitIn (c .left) c s ≡ visitOf s m) where
-  pub passing-done : (n q : ℕ) → m .what ≡ W.Done → typesThenNames (fieldsIn s) ≡ refused n q → Surveys s w (Y.Refused n q) w
-  passing-done n q is e = falls-next s w n q w (ordering-done s c late (v .order) m told is) e refl
+  pub passing-done : (q : Refusal) → m .what ≡ W.Done → typesThenNames (fieldsIn s) ≡ refusedBy q → Surveys s w (Y.Refused q) w
+  passing-done q is e = falls-next s w q w (ordering-done s c late (v .order) m told is) e refl
 
   module _ (f : Field) (here : ℕ) (is : m .what ≡ W.Field f here) (x : Standing) (d : x ≡ standing f) (t : Lateness) (e : lateness late x ≡ fineOf t) where
-    pub passing-late : t ≡ L.Late → Surveys s w (Y.Refused 11 (c .rec)) w
+    pub passing-late : t ≡ L.Late → Surveys s w (Y.Refused (refusal 11 (c .rec))) w
     passing-late y = falls-late s w 11 (c .rec) w (ordering-late s c late (v .order) m told f here is x d (isLate late x) refl (is-late late x t e y)) refl
 
     pub passing-again : (u : Bool) → t ≡ L.Fine u → Passing s w (m .next) u
@@ -132,11 +135,11 @@ pub record Using (s w₀ w : List ℕ) (c : Cursor) (k : ℕ) : Type 0 where
   pub interning : Interning s w c k
   pub ahead : Ahead s w c
   pub few : k ≤ 256
-  pub kept : Kept 520 w₀ w
+  pub kept : Kept TYPES w₀ w
   pub long : length w ≡ length w₀
 
-pub using-begin : (s w : List ℕ) (c : Cursor) (k : ℕ) → Ahead s w c → k ≤ 256 → allTypes (fieldsIn s) ≡ intern (typeTable k s w 520) (uses (fieldsAhead c s)) → Using s w w c k
-using-begin s w c k a h e = record { interning = record { same = e }; ahead = a; few = h; kept = kept-same 520 w; long = refl }
+pub using-begin : (s w : List ℕ) (c : Cursor) (k : ℕ) → Ahead s w c → k ≤ 256 → allTypes (fieldsIn s) ≡ intern (typeTable k s w TYPES) (uses (fieldsAhead c s)) → Using s w w c k
+using-begin s w c k a h e = record { interning = record { same = e }; ahead = a; few = h; kept = kept-same TYPES w; long = refl }
 
 module _ (s w₀ w : List ℕ) (c : Cursor) (k : ℕ) (v : Using s w₀ w c k) (m : Met) (told : visitIn (c .left) c s ≡ visitOf s m) where
   pub using-done : m .what ≡ W.Done → Ends s w₀ (U.Types k) w
@@ -147,8 +150,8 @@ module _ (s w₀ w : List ℕ) (c : Cursor) (k : ℕ) (v : Using s w₀ w c k) (
     using-skips = field-skips s c m told f here is w (v .ahead)
 
     module _ (q : Used) (w′ : List ℕ) (used : Handles (c .rec) (endAfter (fieldBody (fieldOf s f)) (c .rec) s here) s (usesField (c .rec) (fieldOf s f) s here) w k q w′) where
-      pub using-refused : (n p : ℕ) → q ≡ U.Refused n p → Ends s w₀ (U.Refused n p) w′
-      using-refused n p e = record { says = interning-refused s c m told f here is w k q w′ used (v .interning) n p e; kept = kept-then (v .kept) (refused-kept s c m told f here is w k q w′ used n p e) }
+      pub using-refused : (p : Refusal) → q ≡ U.Refused p → Ends s w₀ (U.Refused p) w′
+      using-refused p e = record { says = interning-refused s c m told f here is w k q w′ used (v .interning) p e; kept = kept-then (v .kept) (refused-kept s c m told f here is w k q w′ used p e) }
 
       pub using-again : (k′ : ℕ) → q ≡ U.Types k′ → Using s w₀ w′ (m .next) k′
       using-again k′ e =
@@ -166,11 +169,11 @@ module _ (s w : List ℕ) (q : Used) (w′ : List ℕ) (a : Ends s w q w′) whe
   pub ends-ahead : (c : Cursor) → Ahead s w c → Ahead s w′ c
   ends-ahead c h = ahead-kept s w w′ c (a .kept) h
 
-  pub ends-names : (k n p : ℕ) → q ≡ U.Types k → register sameBytes [] (fieldsIn s) ≡ refused n p → typesThenNames (fieldsIn s) ≡ refused n p
-  ends-names k n p e f = names-fall s k w′ n p (rw e at (a .says)) f
+  pub ends-names : (k : ℕ) (p : Refusal) → q ≡ U.Types k → register sameBytes [] (fieldsIn s) ≡ refusedBy p → typesThenNames (fieldsIn s) ≡ refusedBy p
+  ends-names k p e f = names-fall s k w′ p (rw e at (a .says)) f
 
-  pub ends-types : (n p : ℕ) → q ≡ U.Refused n p → typesThenNames (fieldsIn s) ≡ refused n p
-  ends-types n p e = types-fall s n p (rw e at (a .says))
+  pub ends-types : (p : Refusal) → q ≡ U.Refused p → typesThenNames (fieldsIn s) ≡ refusedBy p
+  ends-types p e = types-fall s p (rw e at (a .says))
 
   pub ends-told : (r : Surveyed) (w₂ : List ℕ) → Surveys s w′ r w₂ → Surveys s w r w₂
   ends-told r w₂ x = surveys-since s w w′ r w₂ (a .kept) x
@@ -179,9 +182,9 @@ module _ (s w : List ℕ) (q : Used) (w′ : List ℕ) (a : Ends s w q w′) whe
 
 module _ (s w : List ℕ) (c : Cursor) (f : Field) (here k : ℕ) (q : Used) (w₁ : List ℕ)
     (used : Handles (c .rec) (endAfter (fieldBody (fieldOf s f)) (c .rec) s here) s (usesField (c .rec) (fieldOf s f) s here) w k q w₁) where
-  pub take-stops : (n p : ℕ) → q ≡ U.Refused n p → Takes s w c f here k (T.Use n p) w₁
+  pub take-stops : (p : Refusal) → q ≡ U.Refused p → Takes s w c f here k (T.Use p) w₁
   unfolding Takes
-  take-stops n p e = handles-stopped _ _ s _ w k q w₁ used n p e
+  take-stops p e = handles-stopped _ _ s _ w k q w₁ used p e
 
   module _ (k′ : ℕ) (b : Registered) (w₂ : List ℕ) (e : q ≡ U.Types k′) (put : Puts s w₁ (c .seen) (c .rec) (brought f) b w₂) where
     took-both : Both s w c f here k k′ b w₂
@@ -191,9 +194,9 @@ module _ (s w : List ℕ) (c : Cursor) (f : Field) (here k : ℕ) (q : Used) (w�
     unfolding Takes
     take-done d = let y = took-both in rw d at y
 
-    pub take-refused : (n p : ℕ) → b ≡ R.Refused n p → Takes s w c f here k (T.Name n p k′) w₂
+    pub take-refused : (p : Refusal) → b ≡ R.Refused p → Takes s w c f here k (T.Name p k′) w₂
     unfolding Takes
-    take-refused n p d = let y = took-both in rw d at y
+    take-refused p d = let y = took-both in rw d at y
 
 -- ## The walk
 
@@ -203,7 +206,7 @@ pub record Found (s w₀ w : List ℕ) (c : Cursor) (late : Bool) (k : ℕ) : Ty
   pub interning : Interning s w c k
   pub knowing : Knowing s w c k
   pub registering : Registering s w c
-  pub kept : Kept 520 w₀ w
+  pub kept : Kept TYPES w₀ w
 
 -- shut, so that a search does not go through it
 unfoldable pub Shut : List ℕ → List ℕ → List ℕ → Cursor → Bool → ℕ → Type 0
@@ -214,10 +217,10 @@ pub record Surveying (s w₀ w : List ℕ) (c : Cursor) (late : Bool) (k : ℕ) 
   pub ahead : Ahead s w c
   pub few : k ≤ 256
   pub long : length w ≡ length w₀
-  pub room : 16384 ≤ length w
-  pub stream : length s ≤ 65536
+  pub room : WORDS ≤ length w
+  pub stream : length s ≤ BYTES
 
-pub surveying-begin : (s w : List ℕ) (c : Cursor) (k : ℕ) → c ≡ begin → length s ≤ 65536 → 16384 ≤ length w → k ≤ 256 → Ahead s w begin → typeTable k s w 520 ≡ declared (fieldsIn s) → Surveying s w w c false k
+pub surveying-begin : (s w : List ℕ) (c : Cursor) (k : ℕ) → c ≡ begin → length s ≤ BYTES → WORDS ≤ length w → k ≤ 256 → Ahead s w begin → typeTable k s w TYPES ≡ declared (fieldsIn s) → Surveying s w w c false k
 unfolding Shut
 surveying-begin s w c k e b r h a t = record {
   found = record {
@@ -225,7 +228,7 @@ surveying-begin s w c k e b r h a t = record {
     interning = interning-begin s w k c e t;
     knowing = knowing-begin s w k c e;
     registering = registering-begin s w c e;
-    kept = kept-same 520 w;
+    kept = kept-same TYPES w;
   };
   ahead = rw e a;
   few = h;
@@ -240,28 +243,28 @@ opened v = v .found
 
 module _ (s w₀ w : List ℕ) (c : Cursor) (late : Bool) (k : ℕ) (v : Surveying s w₀ w c late k) (m : Met) (told : visitIn (c .left) c s ≡ visitOf s m) where
   -- no field is left: the totals are put
-  pub surveying-done : (w₁ w₂ : List ℕ) (c′ : Cursor) (u : Bool) (j : ℕ) → m .what ≡ W.Done → w₁ ≡ set w 5896 k → w₂ ≡ sets w₁ 5897 (c .seen .counts) → Reaches s w₀ (H.Told Y.Done) c′ u j w₂
+  pub surveying-done : (w₁ w₂ : List ℕ) (c′ : Cursor) (u : Bool) (j : ℕ) → m .what ≡ W.Done → w₁ ≡ set w TOTAL k → w₂ ≡ sets w₁ NAMED (c .seen .counts) → Reaches s w₀ (H.Told Y.Done) c′ u j w₂
   unfolding Reaches Surveys typesAfterOrder typesIn _>>=_
   surveying-done w₁ w₂ c′ u j is d e =
       let all = interning-done s c m told w k is (opened v .interning) in
       let o = ordering-done s c late (opened v .order) m told is in
-      let a : Kept 5896 w w₁ = rw d (kept-set 5896 5896 k w (omega arith)) in
-      let far : 16384 ≤ length w₁ = omega (arith, a .long, v .room) in
-      let g : Registering s w₁ c = registering-above s w w₁ c (λ i l. rw d (getD-set-other w 5896 i k 0 (λ z. omega arith))) (opened v .registering) in
-      let b : Kept 5897 w₁ w₂ = counted-kept s w₁ c g far w₂ e in
-      let both : Kept 5896 w w₂ = kept-then a (kept-less 5896 5897 (omega arith) b) in
-      let word : getD w₂ 5896 0 ≡ k = kept-word b 5896 (omega arith) ∙ rw d (getD-set-same w 5896 k 0 (omega (arith, v .room))) in
+      let a : Kept TOTAL w w₁ = rw d (kept-set TOTAL TOTAL k w (omega arith)) in
+      let far : WORDS ≤ length w₁ = omega (arith, a .long, v .room) in
+      let g : Registering s w₁ c = registering-above s w w₁ c (λ i l. rw d (getD-set-other w TOTAL i k 0 (λ z. omega arith))) (opened v .registering) in
+      let b : Kept NAMED w₁ w₂ = counted-kept s w₁ c g far w₂ e in
+      let both : Kept TOTAL w w₂ = kept-then a (kept-less TOTAL NAMED (omega arith) b) in
+      let word : getD w₂ TOTAL 0 ≡ k = kept-word b TOTAL (omega arith) ∙ rw d (getD-set-same w TOTAL k 0 (omega (arith, v .room))) in
       let few : min k 256 ≡ k = omega (arith, v .few) in
-      let table : typeTable k s w₂ 520 ≡ typeTable k s w 520 = table-kept k s 520 5896 (omega (arith, v .few)) both in
+      let table : typeTable k s w₂ TYPES ≡ typeTable k s w TYPES = table-kept k s TYPES TOTAL (omega (arith, v .few)) both in
       record {
         all = rw (o, word, few, table) all;
-        recalled = rw (word, few, table) (recalled-kept 5896 (typeTable k s w 520) (uses (fieldsIn s)) (omega arith) both
-            (known-recalled w (typeTable k s w 520) (uses (fieldsIn s)) (knowing-done s c m told w k is (opened v .knowing))));
+        recalled = rw (word, few, table) (recalled-kept TOTAL (typeTable k s w TYPES) (uses (fieldsIn s)) (omega arith) both
+            (known-recalled w (typeTable k s w TYPES) (uses (fieldsIn s)) (knowing-done s c m told w k is (opened v .knowing))));
         few = rw word (v .few);
         items = g .items;
         says = registering-done s w₁ c g m told is;
         tables = counted-tables s w₁ c g far w₂ e;
-        kept = kept-then (opened v .kept) (kept-less 520 5896 (omega arith) both);
+        kept = kept-then (opened v .kept) (kept-less TYPES TOTAL (omega arith) both);
       }
 
   module _ (f : Field) (here : ℕ) (is : m .what ≡ W.Field f here) where
@@ -269,7 +272,7 @@ module _ (s w₀ w : List ℕ) (c : Cursor) (late : Bool) (k : ℕ) (v : Surveyi
     surveying-skips = field-skips s c m told f here is w (v .ahead)
 
     module _ (x : Standing) (d : x ≡ standing f) (t : Lateness) (e : lateness late x ≡ fineOf t) where
-      pub surveying-late : (c′ : Cursor) (u : Bool) (j : ℕ) → t ≡ L.Late → Reaches s w₀ (H.Told (Y.Refused 11 (c .rec))) c′ u j w
+      pub surveying-late : (c′ : Cursor) (u : Bool) (j : ℕ) → t ≡ L.Late → Reaches s w₀ (H.Told (Y.Refused (refusal 11 (c .rec)))) c′ u j w
       unfolding Reaches
       surveying-late c′ u j y = falls-late s w₀ 11 (c .rec) w (ordering-late s c late (opened v .order) m told f here is x d (isLate late x) refl (is-late late x t e y)) (v .long)
 
@@ -286,14 +289,14 @@ module _ (s w₀ w : List ℕ) (c : Cursor) (late : Bool) (k : ℕ) (v : Surveyi
       unfolding Handles
       handled = y .used
 
-      far : 16384 ≤ length w₁
+      far : WORDS ≤ length w₁
       far = omega (arith, y .used .kept .long, v .room)
 
       registers : Registering s w₁ c
       registers = registering-above s w w₁ c (used-above s c m told f here is w k (U.Types k′) w₁ handled k′ refl) (opened v .registering)
 
-      both : Kept 520 w w₂
-      both = kept-then (y .used .kept) (kept-less 520 5904 (omega arith) (y .put .kept))
+      both : Kept TYPES w w₂
+      both = kept-then (y .used .kept) (kept-less TYPES NAMES (omega arith) (y .put .kept))
 
       goes-ahead : Ahead s w₂ (m .next)
       goes-ahead = ahead-kept s w w₂ (m .next) both (visit-ahead s c m told f here is w (v .ahead))
@@ -301,8 +304,8 @@ module _ (s w₀ w : List ℕ) (c : Cursor) (late : Bool) (k : ℕ) (v : Surveyi
       interns : Interning s w₂ (m .next) k′
       interns = interning-kept s w₁ w₂ (m .next) k′ (y .used .few) (y .put .kept) (interning-again s c m told f here is w k (U.Types k′) w₁ handled k′ refl (opened v .interning))
 
-      stops : (n p : ℕ) → b ≡ R.Refused n p → register sameBytes [] (fieldsIn s) ≡ refused n p
-      stops n p e = registering-stops s c m told f here is w₁ registers b w₂ (y .put) far n p e
+      stops : (p : Refusal) → b ≡ R.Refused p → register sameBytes [] (fieldsIn s) ≡ refusedBy p
+      stops p e = registering-stops s c m told f here is w₁ registers b w₂ (y .put) far p e
 
       goes-on : (u : Bool) → b ≡ R.Done → Ordering s (m .next) u → Surveying s w₀ w₂ (m .next) u k′
       unfolding Shut
@@ -328,40 +331,40 @@ module _ (s w₀ w : List ℕ) (c : Cursor) (late : Bool) (k : ℕ) (v : Surveyi
       surveying-again k′ u e o = goes-on k′ R.Done w₂ (rw e at took) u refl o
 
 -- a use was refused
-module _ (q : Took) (n p : ℕ) (e : q ≡ T.Use n p) (s w : List ℕ) (c : Cursor) (f : Field) (here k : ℕ) (w₁ : List ℕ) (took : Takes s w c f here k q w₁)
+module _ (q : Took) (p : Refusal) (e : q ≡ T.Use p) (s w : List ℕ) (c : Cursor) (f : Field) (here k : ℕ) (w₁ : List ℕ) (took : Takes s w c f here k q w₁)
     (m : Met) (is : m .what ≡ W.Field f here) (told : visitIn (c .left) c s ≡ visitOf s m) (w₀ : List ℕ) (late : Bool) (v : Surveying s w₀ w c late k) where
-  used : Handles (c .rec) (endAfter (fieldBody (fieldOf s f)) (c .rec) s here) s (usesField (c .rec) (fieldOf s f) s here) w k (U.Refused n p) w₁
+  used : Handles (c .rec) (endAfter (fieldBody (fieldOf s f)) (c .rec) s here) s (usesField (c .rec) (fieldOf s f) s here) w k (U.Refused p) w₁
   unfolding Handles Takes
   used = rw e at took
 
-  kept-on : Kept 520 w w₁
-  kept-on = refused-kept s c m told f here is w k (U.Refused n p) w₁ used n p refl
+  kept-on : Kept TYPES w w₁
+  kept-on = refused-kept s c m told f here is w k (U.Refused p) w₁ used p refl
 
-  pub surveying-refused : (u : Bool) (j : ℕ) → Ordering s (m .next) u → Reaches s w₀ (H.Use n p) (m .next) u j w₁
+  pub surveying-refused : (u : Bool) (j : ℕ) → Ordering s (m .next) u → Reaches s w₀ (H.Use p) (m .next) u j w₁
   unfolding Reaches
   surveying-refused u j o = record {
     ahead = ahead-kept s w w₁ (m .next) kept-on (visit-ahead s c m told f here is w (v .ahead));
     order = o .same;
-    says = types-fall s n p (interning-refused s c m told f here is w k (U.Refused n p) w₁ used (opened v .interning) n p refl);
+    says = types-fall s p (interning-refused s c m told f here is w k (U.Refused p) w₁ used (opened v .interning) p refl);
     kept = kept-then (opened v .kept) kept-on;
   }
 
 -- a name was there already
-module _ (q : Took) (n p k′ : ℕ) (e : q ≡ T.Name n p k′) (s w : List ℕ) (c : Cursor) (f : Field) (here k : ℕ) (w₁ : List ℕ) (took : Takes s w c f here k q w₁)
+module _ (q : Took) (p : Refusal) (k′ : ℕ) (e : q ≡ T.Name p k′) (s w : List ℕ) (c : Cursor) (f : Field) (here k : ℕ) (w₁ : List ℕ) (took : Takes s w c f here k q w₁)
     (m : Met) (is : m .what ≡ W.Field f here) (told : visitIn (c .left) c s ≡ visitOf s m) (w₀ : List ℕ) (late : Bool) (v : Surveying s w₀ w c late k) where
-  named : Both s w c f here k k′ (R.Refused n p) w₁
+  named : Both s w c f here k k′ (R.Refused p) w₁
   unfolding Takes
   named = rw e at took
 
-  pub surveying-taken : (u : Bool) → Ordering s (m .next) u → Reaches s w₀ (H.Name n p) (m .next) u k′ w₁
+  pub surveying-taken : (u : Bool) → Ordering s (m .next) u → Reaches s w₀ (H.Name p) (m .next) u k′ w₁
   unfolding Reaches
   surveying-taken u o = record {
-    ahead = goes-ahead s w₀ w c late k v m told f here is k′ (R.Refused n p) w₁ named;
+    ahead = goes-ahead s w₀ w c late k v m told f here is k′ (R.Refused p) w₁ named;
     order = o .same;
     few = named .used .few;
-    types = interns s w₀ w c late k v m told f here is k′ (R.Refused n p) w₁ named .same;
-    says = stops s w₀ w c late k v m told f here is k′ (R.Refused n p) w₁ named n p refl;
-    kept = kept-then (opened v .kept) (both s w₀ w c late k v m told f here is k′ (R.Refused n p) w₁ named);
+    types = interns s w₀ w c late k v m told f here is k′ (R.Refused p) w₁ named .same;
+    says = stops s w₀ w c late k v m told f here is k′ (R.Refused p) w₁ named p refl;
+    kept = kept-then (opened v .kept) (both s w₀ w c late k v m told f here is k′ (R.Refused p) w₁ named);
   }
 
 -- ## What is told then
@@ -371,8 +374,8 @@ module _ (s w : List ℕ) (q : How) (c : Cursor) (late : Bool) (k : ℕ) (w₁ :
   unfolding Reaches
   told-so a e = rw e at told
 
-  module _ (n p : ℕ) (e : q ≡ H.Use n p) where
-    use-refused : UseRefused s w c late n p w₁
+  module _ (p : Refusal) (e : q ≡ H.Use p) where
+    use-refused : UseRefused s w c late p w₁
     unfolding Reaches
     use-refused = rw e at told
 
@@ -382,18 +385,18 @@ module _ (s w : List ℕ) (q : How) (c : Cursor) (late : Bool) (k : ℕ) (w₁ :
     pub use-order : importOrder (fieldsIn s) ≡ importsFrom late (fieldsAhead c s)
     use-order = use-refused .order
 
-    pub use-says : typesThenNames (fieldsIn s) ≡ refused n p
+    pub use-says : typesThenNames (fieldsIn s) ≡ refusedBy p
     use-says = use-refused .says
 
     pub use-told : (a : Surveyed) (w₂ : List ℕ) → Surveys s w₁ a w₂ → Surveys s w a w₂
     use-told a w₂ y = surveys-since s w w₁ a w₂ (use-refused .kept) y
 
-  module _ (n p : ℕ) (e : q ≡ H.Name n p) where
-    name-refused : NameRefused s w c late k n p w₁
+  module _ (p : Refusal) (e : q ≡ H.Name p) where
+    name-refused : NameRefused s w c late k p w₁
     unfolding Reaches
     name-refused = rw e at told
 
-    pub name-room : 16384 ≤ length w → 16384 ≤ length w₁
+    pub name-room : WORDS ≤ length w → WORDS ≤ length w₁
     name-room h = omega (arith, name-refused .kept .long)
 
     pub name-few : k ≤ 256
@@ -405,10 +408,10 @@ module _ (s w : List ℕ) (q : How) (c : Cursor) (late : Bool) (k : ℕ) (w₁ :
     pub name-order : importOrder (fieldsIn s) ≡ importsFrom late (fieldsAhead c s)
     name-order = name-refused .order
 
-    pub name-types : allTypes (fieldsIn s) ≡ intern (typeTable k s w₁ 520) (uses (fieldsAhead c s))
+    pub name-types : allTypes (fieldsIn s) ≡ intern (typeTable k s w₁ TYPES) (uses (fieldsAhead c s))
     name-types = name-refused .types
 
-    pub name-says : register sameBytes [] (fieldsIn s) ≡ refused n p
+    pub name-says : register sameBytes [] (fieldsIn s) ≡ refusedBy p
     name-says = name-refused .says
 
     pub name-told : (a : Surveyed) (w₂ : List ℕ) → Surveys s w₁ a w₂ → Surveys s w a w₂

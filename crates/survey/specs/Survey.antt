@@ -11,20 +11,23 @@ use Rattle.definition.specs.Read.{fieldBody}
 use Rattle.definition.specs.Deinline.{Numbered, importsFrom, importOrder}
 use Rattle.definition.specs.Types.{uses, intern, allTypes}
 use Rattle.definition.specs.Names.{Items, register}
-use Rattle.fields.specs.Views.{fieldOf}
-use Rattle.fields.specs.declared.field.Field.{Field}
-use Rattle.space.specs.Kept.{Kept}
-use Rattle.signatures.specs.Table.{typeTable, typesIn, Recalled}
+use Rattle.syntax.specs.Refusals.{refusedBy}
+use Rattle.syntax.specs.declared.Refusal.{Refusal}
+use Rattle.area.specs.Layout.{TOTAL, TYPES}
+use Rattle.syntax.specs.Fields.{fieldOf}
+use Rattle.syntax.specs.declared.Field.{Field}
+use Rattle.area.specs.Kept.{Kept}
+use Rattle.type_table.specs.Table.{typeTable, typesIn, Recalled}
 use Rattle.walk.specs.Walk.{fieldsAhead, fieldsIn, Ahead}
 use Rattle.walk.specs.declared.Cursor.{Cursor}
-use Rattle.order.specs.Order.{isLate, lateAfter}
-use Rattle.order.specs.declared.Standing.{Standing}
-use Rattle.uses.specs.Uses.{usesField, endAfter, Handled, Stopped}
-use Rattle.uses.specs.declared.Used.{Used}
-use Rattle.uses.specs.declared.Used.the-variants as U
-use Rattle.names.specs.Register.{brought, Puts, Tables}
-use Rattle.names.specs.declared.register.Registered.{Registered}
-use Rattle.names.specs.declared.register.Registered.the-variants as R
+use Rattle.import_order.specs.Order.{isLate, lateAfter}
+use Rattle.import_order.specs.declared.Standing.{Standing}
+use Rattle.interning.specs.Uses.{usesField, endAfter, Handled, Stopped}
+use Rattle.interning.specs.declared.uses.Used.{Used}
+use Rattle.interning.specs.declared.uses.Used.the-variants as U
+use Rattle.registration.specs.Register.{brought, Puts, Tables}
+use Rattle.registration.specs.declared.register.Registered.{Registered}
+use Rattle.registration.specs.declared.register.Registered.the-variants as R
 use Rattle.survey.specs.declared.late.Lateness.{Lateness}
 use Rattle.survey.specs.declared.late.Lateness.the-variants as L
 use Rattle.survey.specs.declared.How.{How}
@@ -42,20 +45,20 @@ typesAfterOrder fs = importOrder fs >>= λ _. allTypes fs
 pub record Stands (s w w′ : List ℕ) : Type 0 where
   pub all : typesAfterOrder (fieldsIn s) ≡ ok (typesIn s w′)
   pub recalled : Recalled w′ (typesIn s w′) (uses (fieldsIn s))
-  pub few : getD w′ 5896 0 ≤ 256
+  pub few : getD w′ TOTAL 0 ≤ 256
   pub items : Items Identifier
   pub says : register sameBytes [] (fieldsIn s) ≡ ok items
   pub tables : Tables s w′ items
-  pub kept : Kept 520 w w′
+  pub kept : Kept TYPES w w′
 
 -- the order, the types or, after them, the names were refused
-pub record Falls (s w : List ℕ) (n q : ℕ) (w′ : List ℕ) : Type 0 where
-  pub says : (typesAfterOrder (fieldsIn s) >>= λ _. register sameBytes [] (fieldsIn s)) ≡ refused n q
+pub record Falls (s w : List ℕ) (q : Refusal) (w′ : List ℕ) : Type 0 where
+  pub says : (typesAfterOrder (fieldsIn s) >>= λ _. register sameBytes [] (fieldsIn s)) ≡ refusedBy q
   pub long : length w′ ≡ length w
 
 unfoldable pub Surveys : Bytes → List ℕ → Surveyed → List ℕ → Type 0
 Surveys s w Y.Done w′ = Stands s w w′
-Surveys s w (Y.Refused n q) w′ = Falls s w n q w′
+Surveys s w (Y.Refused q) w′ = Falls s w q w′
 
 -- ## The order of imports
 
@@ -77,8 +80,8 @@ pub record Both (s w : List ℕ) (c : Cursor) (f : Field) (here k k′ : ℕ) (b
 
 unfoldable pub Takes : Bytes → List ℕ → Cursor → Field → ℕ → ℕ → Took → List ℕ → Type 0
 Takes s w c f here k (T.Types k′) w′ = Both s w c f here k k′ R.Done w′
-Takes s w c f here k (T.Use n q) w′ = Stopped s (usesField (c .rec) (fieldOf s f) s here) w k n q w′
-Takes s w c f here k (T.Name n q k′) w′ = Both s w c f here k k′ (R.Refused n q) w′
+Takes s w c f here k (T.Use q) w′ = Stopped s (usesField (c .rec) (fieldOf s f) s here) w k q w′
+Takes s w c f here k (T.Name q k′) w′ = Both s w c f here k k′ (R.Refused q) w′
 
 -- ## Where something was refused
 
@@ -87,31 +90,31 @@ unfoldable pub typesThenNames : Numbered Identifier → Answer (Items Identifier
 typesThenNames fs = allTypes fs >>= λ _. register sameBytes [] fs
 
 -- a use was refused before a field
-pub record UseRefused (s w : List ℕ) (c : Cursor) (late : Bool) (n q : ℕ) (w′ : List ℕ) : Type 0 where
+pub record UseRefused (s w : List ℕ) (c : Cursor) (late : Bool) (q : Refusal) (w′ : List ℕ) : Type 0 where
   pub ahead : Ahead s w′ c
   pub order : importOrder (fieldsIn s) ≡ importsFrom late (fieldsAhead c s)
-  pub says : typesThenNames (fieldsIn s) ≡ refused n q
-  pub kept : Kept 520 w w′
+  pub says : typesThenNames (fieldsIn s) ≡ refusedBy q
+  pub kept : Kept TYPES w w′
 
 -- a name was
-pub record NameRefused (s w : List ℕ) (c : Cursor) (late : Bool) (k n q : ℕ) (w′ : List ℕ) : Type 0 where
+pub record NameRefused (s w : List ℕ) (c : Cursor) (late : Bool) (k : ℕ) (q : Refusal) (w′ : List ℕ) : Type 0 where
   pub ahead : Ahead s w′ c
   pub order : importOrder (fieldsIn s) ≡ importsFrom late (fieldsAhead c s)
   pub few : k ≤ 256
-  pub types : allTypes (fieldsIn s) ≡ intern (typeTable k s w′ 520) (uses (fieldsAhead c s))
-  pub says : register sameBytes [] (fieldsIn s) ≡ refused n q
-  pub kept : Kept 520 w w′
+  pub types : allTypes (fieldsIn s) ≡ intern (typeTable k s w′ TYPES) (uses (fieldsAhead c s))
+  pub says : register sameBytes [] (fieldsIn s) ≡ refusedBy q
+  pub kept : Kept TYPES w w′
 
 unfoldable pub Reaches : Bytes → List ℕ → How → Cursor → Bool → ℕ → List ℕ → Type 0
 Reaches s w (H.Told a) c late k w′ = Surveys s w a w′
-Reaches s w (H.Use n q) c late k w′ = UseRefused s w c late n q w′
-Reaches s w (H.Name n q) c late k w′ = NameRefused s w c late k n q w′
+Reaches s w (H.Use q) c late k w′ = UseRefused s w c late q w′
+Reaches s w (H.Name q) c late k w′ = NameRefused s w c late k q w′
 
 -- what all types come to
 abbrev pub typed : Bytes → Used → List ℕ → Answer (List FuncType)
-typed s (U.Types k) w = ok (typeTable k s w 520)
-typed s (U.Refused n q) w = refused n q
+typed s (U.Types k) w = ok (typeTable k s w TYPES)
+typed s (U.Refused q) w = refusedBy q
 
 pub record Ends (s w : List ℕ) (r : Used) (w′ : List ℕ) : Type 0 where
   pub says : allTypes (fieldsIn s) ≡ typed s r w′
-  pub kept : Kept 520 w w′
+  pub kept : Kept TYPES w w′

@@ -1,5 +1,5 @@
 // The order of imports, field after field.
-use order::Standing;
+use import_order::Standing;
 ghost use mathlib.Core.Path.{_≡_};
 ghost use Rattle.survey.specs.Survey.{lateness, fineOf};
 
@@ -12,8 +12,8 @@ pub enum Lateness {
 pub fn late_after(late: bool, x: Standing) -> Lateness
     ensures { λ r. ⌜ lateness late x ≡ fineOf r ⌝ }
 {
-    if order::is_late(late, x) {
+    if import_order::is_late(late, x) {
         return Lateness::Late;
     }
-    Lateness::Fine(order::late_after(late, x))
+    Lateness::Fine(import_order::late_after(late, x))
 }

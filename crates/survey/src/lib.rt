@@ -2,38 +2,41 @@
 pub mod late;
 pub mod refused;
 
-use fields::Field;
+use interning::Used;
 use late::Lateness;
 use late::late_after;
-use names::Registered;
 use refused::late_first;
 use refused::types_first;
-use uses::Used;
+use registration::Registered;
+use syntax::Field;
+use syntax::Refusal;
 use walk::Cursor;
 use walk::What;
 ghost use mathlib.Core.Path.{_≡_};
 ghost use Prim.Native.Nat.{_+_, _≤_, _<_};
 ghost use lib.ListN.{length, set};
+ghost use Rattle.area.specs.Layout.{TOTAL, TYPES, WORDS};
+ghost use Rattle.area.specs.Lent.{Lent};
 ghost use Rattle.definition.specs.Read as Read;
 ghost use Rattle.definition.specs.Types as Types;
-ghost use Rattle.fields.specs.Views.{fieldOf};
-ghost use Rattle.signatures.specs.Table.{typeTable};
+ghost use Rattle.syntax.specs.Fields.{fieldOf};
+ghost use Rattle.type_table.specs.Table.{typeTable};
 ghost use Rattle.walk.specs.Walk.{bodyIn, Ahead, begin, fieldsIn};
-ghost use Rattle.uses.specs.Uses.{Skips};
-ghost use Rattle.names.specs.Register.{brought, Fit};
+ghost use Rattle.interning.specs.Uses.{Skips};
+ghost use Rattle.registration.specs.Register.{brought, Fit};
 ghost use Rattle.survey.specs.Survey.{Takes, Reaches, Surveys};
 
 // A refusal's number and record, if there is one.
 pub enum Surveyed {
     Done,
-    Refused(u8, u32),
+    Refused(Refusal),
 }
 
 // What is told, or the number and the record of a use's or a name's refusal, before which an earlier rule may come.
 enum How {
     Told(Surveyed),
-    Use(u8, u32),
-    Name(u8, u32),
+    Use(Refusal),
+    Name(Refusal),
 }
 
 // How a walk ended; where it would go on, whether imports are too late there, and how many types there are.
@@ -47,35 +50,35 @@ struct Ended {
 // How many types there are after a field, or the number and the record of a use's refusal, or those of a name's and the types.
 enum Took {
     Types(u32),
-    Use(u8, u32),
-    Name(u8, u32, u32),
+    Use(Refusal),
+    Name(Refusal, u32),
 }
 
 // The uses of a field, and then its items.
 fn take_field(s: &[u8], work: &mut [u32], c: Cursor, f: Field, here: usize, count: u32) -> Took
-    requires { ⌜ (length (now s) ≤ 65536) × (16384 ≤ length (now work)) × (count ≤ 256) × (c .rec < 4096) × Skips (now work) (c .own) (Types.bodyUses (c .rec + 1) (bodyIn (Read.fieldBody (fieldOf (now s) f)) (c .rec + 1) (now s) here)) × Fit (c .seen) (brought f) ⌝ }
+    requires { ⌜ Lent (now s) (now work) × (count ≤ 256) × (c .rec < 4096) × Skips (now work) (c .own) (Types.bodyUses (c .rec + 1) (bodyIn (Read.fieldBody (fieldOf (now s) f)) (c .rec + 1) (now s) here)) × Fit (c .seen) (brought f) ⌝ }
     ensures { λ r. ⌜ Takes (now (s .entry)) (now (work .entry)) c f here count r (now (work .exit)) ⌝ }
 {
-    match types::use_field(s, work, count, f, c.own, here, c.rec) {
-        Used::Types(k) => match names::register_field(s, work, c.seen, f, c.rec) {
+    match interning::use_field(s, work, count, f, c.own, here, c.rec) {
+        Used::Types(k) => match registration::register_field(s, work, c.seen, f, c.rec) {
             Registered::Done => Took::Types(k),
-            Registered::Refused(n, r) => Took::Name(n, r, k),
+            Registered::Refused(r) => Took::Name(r, k),
         },
-        Used::Refused(n, r) => Took::Use(n, r),
+        Used::Refused(r) => Took::Use(r),
     }
 }
 
 // How many types there are.
 fn put_total(work: &mut [u32], n: u32)
-    requires { ⌜ 16384 ≤ length (now work) ⌝ }
-    ensures { λ _. ⌜ now (work .exit) ≡ set (now (work .entry)) 5896 n ⌝ }
+    requires { ⌜ WORDS ≤ length (now work) ⌝ }
+    ensures { λ _. ⌜ now (work .exit) ≡ set (now (work .entry)) TOTAL n ⌝ }
 {
-    work[5896] = n;
+    work[area::TOTAL] = n;
 }
 
 // The walk, up to its end or to the first refusal.
 fn survey_fields(s: &[u8], work: &mut [u32], declared: u32) -> Ended
-    requires { ⌜ (length (now s) ≤ 65536) × (16384 ≤ length (now work)) × (declared ≤ 256) × Ahead (now s) (now work) begin × (typeTable declared (now s) (now work) 520 ≡ Types.declared (fieldsIn (now s))) ⌝ }
+    requires { ⌜ Lent (now s) (now work) × (declared ≤ 256) × Ahead (now s) (now work) begin × (typeTable declared (now s) (now work) TYPES ≡ Types.declared (fieldsIn (now s))) ⌝ }
     ensures { λ r. ⌜ Reaches (now (s .entry)) (now (work .entry)) (r .how) (r .next) (r .late) (r .types) (now (work .exit)) ⌝ }
 {
     let mut c = walk::start();
@@ -86,13 +89,16 @@ fn survey_fields(s: &[u8], work: &mut [u32], declared: u32) -> Ended
         let what = m.what;
         match what {
             What::Field(f, here) => {
-                match late_after(late, order::field_standing(f)) {
+                match late_after(late, import_order::field_standing(f)) {
                     Lateness::Fine(l) => {
                         late = l;
                     }
                     Lateness::Late => {
                         return Ended {
-                            how: How::Told(Surveyed::Refused(11, c.rec)),
+                            how: How::Told(Surveyed::Refused(Refusal {
+                                number: 11,
+                                rec: c.rec,
+                            })),
                             next: c,
                             late,
                             types: count,
@@ -104,19 +110,19 @@ fn survey_fields(s: &[u8], work: &mut [u32], declared: u32) -> Ended
                         count = k;
                         c = m.next;
                     }
-                    Took::Use(n, r) => {
+                    Took::Use(r) => {
                         let next = m.next;
                         return Ended {
-                            how: How::Use(n, r),
+                            how: How::Use(r),
                             next,
                             late,
                             types: count,
                         };
                     }
-                    Took::Name(n, r, k) => {
+                    Took::Name(r, k) => {
                         let next = m.next;
                         return Ended {
-                            how: How::Name(n, r),
+                            how: How::Name(r),
                             next,
                             late,
                             types: k,
@@ -126,7 +132,7 @@ fn survey_fields(s: &[u8], work: &mut [u32], declared: u32) -> Ended
             }
             What::Done => {
                 put_total(work, count);
-                names::put_counts(work, c.seen);
+                registration::put_counts(work, c.seen);
                 return Ended {
                     how: How::Told(Surveyed::Done),
                     next: c,
@@ -142,14 +148,14 @@ fn survey_fields(s: &[u8], work: &mut [u32], declared: u32) -> Ended
 // that has a use without an index that use's number. The order of imports comes first over the whole stream, then the types, then the
 // names: where one of the later rules refuses, the fields ahead are asked for an earlier one.
 pub fn survey_all(s: &[u8], work: &mut [u32], declared: u32) -> Surveyed
-    requires { ⌜ (length (now s) ≤ 65536) × (16384 ≤ length (now work)) × (declared ≤ 256) × Ahead (now s) (now work) begin × (typeTable declared (now s) (now work) 520 ≡ Types.declared (fieldsIn (now s))) ⌝ }
+    requires { ⌜ Lent (now s) (now work) × (declared ≤ 256) × Ahead (now s) (now work) begin × (typeTable declared (now s) (now work) TYPES ≡ Types.declared (fieldsIn (now s))) ⌝ }
     ensures { λ r. ⌜ Surveys (now (s .entry)) (now (work .entry)) r (now (work .exit)) ⌝ }
 {
     let x = survey_fields(s, work, declared);
     let how = x.how;
     match how {
         How::Told(a) => a,
-        How::Use(n, r) => late_first(s, work, x.next, x.late, n, r),
-        How::Name(n, r) => types_first(s, work, x.next, x.late, x.types, n, r),
+        How::Use(r) => late_first(s, work, x.next, x.late, r),
+        How::Name(r) => types_first(s, work, x.next, x.late, x.types, r),
     }
 }

@@ -2,24 +2,27 @@
 use crate::Surveyed;
 use crate::late::Lateness;
 use crate::late::late_after;
-use uses::Used;
+use interning::Used;
+use syntax::Refusal;
 use walk::Cursor;
 use walk::What;
 ghost use mathlib.Core.Path.{_≡_};
 ghost use mathlib.Core.List.{[]};
 ghost use Prim.Native.Nat.{_≤_};
-ghost use lib.ListN.{length};
-ghost use Rattle.definition.specs.Basic.{refused, sameBytes};
+ghost use Rattle.area.specs.Layout.{TYPES};
+ghost use Rattle.area.specs.Lent.{Lent};
+ghost use Rattle.definition.specs.Basic.{sameBytes};
+ghost use Rattle.syntax.specs.Refusals.{refusedBy};
 ghost use Rattle.definition.specs.Deinline.{importsFrom, importOrder};
 ghost use Rattle.definition.specs.Types as Types;
 ghost use Rattle.definition.specs.Names.{register};
-ghost use Rattle.signatures.specs.Table.{typeTable};
+ghost use Rattle.type_table.specs.Table.{typeTable};
 ghost use Rattle.walk.specs.Walk.{Ahead, fieldsAhead, fieldsIn};
 ghost use Rattle.survey.specs.Survey.{Surveys, typesThenNames, Ends};
 
 // A refusal of types or names, unless an import ahead comes too late.
-pub fn late_first(s: &[u8], work: &[u32], from: Cursor, past: bool, n: u8, r: u32) -> Surveyed
-    requires { ⌜ Ahead (now s) (now work) from × (importOrder (fieldsIn (now s)) ≡ importsFrom past (fieldsAhead from (now s))) × (typesThenNames (fieldsIn (now s)) ≡ refused n r) ⌝ }
+pub fn late_first(s: &[u8], work: &[u32], from: Cursor, past: bool, r: Refusal) -> Surveyed
+    requires { ⌜ Ahead (now s) (now work) from × (importOrder (fieldsIn (now s)) ≡ importsFrom past (fieldsAhead from (now s))) × (typesThenNames (fieldsIn (now s)) ≡ refusedBy r) ⌝ }
     ensures { λ a. ⌜ Surveys (now (s .entry)) (now (work .entry)) a (now (work .entry)) ⌝ }
 {
     let mut c = from;
@@ -29,18 +32,21 @@ pub fn late_first(s: &[u8], work: &[u32], from: Cursor, past: bool, n: u8, r: u3
         let what = m.what;
         match what {
             What::Field(f, _) => {
-                match late_after(late, order::field_standing(f)) {
+                match late_after(late, import_order::field_standing(f)) {
                     Lateness::Fine(l) => {
                         late = l;
                     }
                     Lateness::Late => {
-                        return Surveyed::Refused(11, c.rec);
+                        return Surveyed::Refused(Refusal {
+                            number: 11,
+                            rec: c.rec,
+                        });
                     }
                 }
                 c = m.next;
             }
             What::Done => {
-                return Surveyed::Refused(n, r);
+                return Surveyed::Refused(r);
             }
         }
     }
@@ -48,7 +54,7 @@ pub fn late_first(s: &[u8], work: &[u32], from: Cursor, past: bool, n: u8, r: u3
 
 // The uses of the fields ahead.
 fn use_ahead(s: &[u8], work: &mut [u32], from: Cursor, types: u32) -> Used
-    requires { ⌜ (length (now s) ≤ 65536) × (16384 ≤ length (now work)) × (types ≤ 256) × Ahead (now s) (now work) from × (Types.allTypes (fieldsIn (now s)) ≡ Types.intern (typeTable types (now s) (now work) 520) (Types.uses (fieldsAhead from (now s)))) ⌝ }
+    requires { ⌜ Lent (now s) (now work) × (types ≤ 256) × Ahead (now s) (now work) from × (Types.allTypes (fieldsIn (now s)) ≡ Types.intern (typeTable types (now s) (now work) TYPES) (Types.uses (fieldsAhead from (now s)))) ⌝ }
     ensures { λ r. ⌜ Ends (now (s .entry)) (now (work .entry)) r (now (work .exit)) ⌝ }
 {
     let mut c = from;
@@ -58,12 +64,12 @@ fn use_ahead(s: &[u8], work: &mut [u32], from: Cursor, types: u32) -> Used
         let what = m.what;
         match what {
             What::Field(f, here) => {
-                match types::use_field(s, work, count, f, c.own, here, c.rec) {
+                match interning::use_field(s, work, count, f, c.own, here, c.rec) {
                     Used::Types(k) => {
                         count = k;
                     }
-                    Used::Refused(n, r) => {
-                        return Used::Refused(n, r);
+                    Used::Refused(r) => {
+                        return Used::Refused(r);
                     }
                 }
                 c = m.next;
@@ -82,14 +88,13 @@ pub fn types_first(
     c: Cursor,
     late: bool,
     count: u32,
-    n: u8,
-    r: u32,
+    r: Refusal,
 ) -> Surveyed
-    requires { ⌜ (length (now s) ≤ 65536) × (16384 ≤ length (now work)) × (count ≤ 256) × Ahead (now s) (now work) c × (importOrder (fieldsIn (now s)) ≡ importsFrom late (fieldsAhead c (now s))) × (Types.allTypes (fieldsIn (now s)) ≡ Types.intern (typeTable count (now s) (now work) 520) (Types.uses (fieldsAhead c (now s)))) × (register sameBytes [] (fieldsIn (now s)) ≡ refused n r) ⌝ }
+    requires { ⌜ Lent (now s) (now work) × (count ≤ 256) × Ahead (now s) (now work) c × (importOrder (fieldsIn (now s)) ≡ importsFrom late (fieldsAhead c (now s))) × (Types.allTypes (fieldsIn (now s)) ≡ Types.intern (typeTable count (now s) (now work) TYPES) (Types.uses (fieldsAhead c (now s)))) × (register sameBytes [] (fieldsIn (now s)) ≡ refusedBy r) ⌝ }
     ensures { λ a. ⌜ Surveys (now (s .entry)) (now (work .entry)) a (now (work .exit)) ⌝ }
 {
     match use_ahead(s, work, c, count) {
-        Used::Types(_) => late_first(s, work, c, late, n, r),
-        Used::Refused(k, q) => late_first(s, work, c, late, k, q),
+        Used::Types(_) => late_first(s, work, c, late, r),
+        Used::Refused(q) => late_first(s, work, c, late, q),
     }
 }

@@ -18,13 +18,14 @@ use Rattle.laws.specs.Steps.{stops}
 use Rattle.laws.proofs.Backwards.{came, passed}
 use Rattle.laws.proofs.Groups.{groups-fault, u32-within}
 use Rattle.laws.proofs.OneSpelling.{u32-byte}
-use Rattle.leb.specs.Views.{u32At}
-use Rattle.leb.specs.declared.read.U32.{U32}
-use Rattle.leb.specs.declared.read.U32.the-variants as U32
-use Rattle.token.specs.Views.{byteAt, part, given}
+use Rattle.syntax.specs.Numbers.{u32At}
+use Rattle.syntax.specs.declared.U32.{U32}
+use Rattle.syntax.specs.declared.U32.the-variants as U32
+use Rattle.syntax.specs.Tokens.{byteAt, part}
+use Rattle.token.specs.Readers.{given}
 use Rattle.token.specs.Known.{Gets}
-use Rattle.token.specs.declared.byte.ByteAt.{ByteAt}
-use Rattle.token.specs.declared.byte.ByteAt.the-variants as B
+use Rattle.syntax.specs.declared.ByteAt.{ByteAt}
+use Rattle.syntax.specs.declared.ByteAt.the-variants as B
 use Rattle.token.proofs.Runs.{Single, id-single, string-single, many-part}
 
 -- ## One reader after another

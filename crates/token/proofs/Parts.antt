@@ -5,7 +5,7 @@ use Prim.Native.Nat.{ℕ, _+_, _-_, _≤_}
 use native.Mathlib.Omega.{arith}
 use lib.ListN.{length, take, drop, length-drop, drop-of-length-le}
 use lib.Seq.{take-all, drop-length}
-use Rattle.token.specs.Views.{part}
+use Rattle.syntax.specs.Tokens.{part}
 
 -- past the stream's end there is nothing
 pub part-none : (s : List ℕ) (at len n : ℕ) → length s ≤ at → take n (drop (length s) s) ≡ part s at len

@@ -18,9 +18,9 @@ use Rattle.laws.specs.Steps.{stops}
 use Rattle.laws.proofs.Readers.{byte-in, byte-out, many-got, many-fault, many-zero}
 use Rattle.laws.proofs.Backwards.{came, passed}
 use Rattle.laws.proofs.Exits.{between-in, between-low, between-high}
-use Rattle.token.specs.Views.{part, skip}
-use Rattle.token.specs.declared.byte.Skip.{Skip}
-use Rattle.token.specs.declared.byte.Skip.the-variants as S
+use Rattle.syntax.specs.Tokens.{part, skip}
+use Rattle.syntax.specs.declared.Skip.{Skip}
+use Rattle.syntax.specs.declared.Skip.the-variants as S
 
 -- ## One byte of a class
 

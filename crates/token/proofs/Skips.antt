@@ -9,14 +9,15 @@ use Rattle.definition.specs.Syntax.{Bytes}
 use Rattle.definition.specs.Reader.{Step, got, fault, onward, require, byte, many}
 use Rattle.definition.specs.Token.{u32, upTo, idByte, identifier, identifier₁, numberIndex, namedIndex, present, optional}
 use Rattle.laws.specs.Steps.{stops}
-use Rattle.leb.specs.Views.{u32At}
-use Rattle.leb.specs.declared.read.U32.{U32}
-use Rattle.leb.specs.declared.read.U32.the-variants as U32
-use Rattle.token.specs.Views.{byteAt, skip, nameLength, given}
-use Rattle.token.specs.declared.byte.ByteAt.{ByteAt}
-use Rattle.token.specs.declared.byte.ByteAt.the-variants as B
-use Rattle.token.specs.declared.byte.Skip.{Skip}
-use Rattle.token.specs.declared.byte.Skip.the-variants as S
+use Rattle.syntax.specs.Numbers.{u32At}
+use Rattle.syntax.specs.declared.U32.{U32}
+use Rattle.syntax.specs.declared.U32.the-variants as U32
+use Rattle.syntax.specs.Tokens.{byteAt, skip}
+use Rattle.token.specs.Readers.{nameLength, given}
+use Rattle.syntax.specs.declared.ByteAt.{ByteAt}
+use Rattle.syntax.specs.declared.ByteAt.the-variants as B
+use Rattle.syntax.specs.declared.Skip.{Skip}
+use Rattle.syntax.specs.declared.Skip.the-variants as S
 
 -- a value that is only made of another stops where that one does
 pub stops-made : {A B : Type 0} (f : A → B) (m : Step A) → stops (onward (λ a next. got (f a) next) m) ≡ stops m

@@ -5,20 +5,20 @@ use mathlib.Core.Option.{Option}
 use Rattle.definition.specs.Syntax as Syntax
 use Rattle.definition.specs.Syntax.{Bytes, Identifier}
 use Rattle.definition.specs.Reader.{Step, got, fault, onward}
-use Rattle.leb.specs.Views.{u32At, u64At}
-use Rattle.leb.specs.declared.read.U32.{U32}
-use Rattle.leb.specs.declared.read.U32.the-variants as U32
-use Rattle.leb.specs.declared.read.U64.{U64}
-use Rattle.leb.specs.declared.read.U64.the-variants as U64
-use Rattle.token.specs.Views.{byteAt, partOf, partAt, idOf, idAt, indexOf, indexAt}
-use Rattle.token.specs.declared.byte.ByteAt.{ByteAt}
-use Rattle.token.specs.declared.byte.ByteAt.the-variants as B
-use Rattle.token.specs.declared.text.Part.{Part}
-use Rattle.token.specs.declared.text.PartAt.{PartAt}
-use Rattle.token.specs.declared.text.PartAt.the-variants as P
-use Rattle.token.specs.declared.index.Index.{Index}
-use Rattle.token.specs.declared.index.IndexAt.{IndexAt}
-use Rattle.token.specs.declared.index.IndexAt.the-variants as XA
+use Rattle.syntax.specs.Numbers.{u32At, u64At}
+use Rattle.syntax.specs.declared.U32.{U32}
+use Rattle.syntax.specs.declared.U32.the-variants as U32
+use Rattle.syntax.specs.declared.U64.{U64}
+use Rattle.syntax.specs.declared.U64.the-variants as U64
+use Rattle.syntax.specs.Tokens.{byteAt, partOf, partAt, idOf, idAt, indexOf, indexAt}
+use Rattle.syntax.specs.declared.ByteAt.{ByteAt}
+use Rattle.syntax.specs.declared.ByteAt.the-variants as B
+use Rattle.syntax.specs.declared.Part.{Part}
+use Rattle.syntax.specs.declared.PartAt.{PartAt}
+use Rattle.syntax.specs.declared.PartAt.the-variants as P
+use Rattle.syntax.specs.declared.Index.{Index}
+use Rattle.syntax.specs.declared.IndexAt.{IndexAt}
+use Rattle.syntax.specs.declared.IndexAt.the-variants as XA
 
 module _ {C : Type 0} (x : Step C) where
   module _ (k : ℕ → ℕ → Step C) (m : Step ℕ) where

@@ -1,20 +1,11 @@
 // Single bytes, and runs of bytes of a class.
+use syntax::ByteAt;
+use syntax::Skip;
 ghost use mathlib.Core.Path.{_≡_};
 ghost use Rattle.definition.specs.Reader as Reader;
 ghost use Rattle.definition.specs.Token as Token;
 ghost use Rattle.laws.specs.Steps.{stops};
-ghost use Rattle.token.specs.Views.{byteAt, skip};
-
-pub enum ByteAt {
-    Got(u8, usize),
-    Fault(u8),
-}
-
-// Where a run ends that was only passed over, or a refusal's number.
-pub enum Skip {
-    Past(usize),
-    Fault(u8),
-}
+ghost use Rattle.syntax.specs.Tokens.{byteAt, skip};
 
 pub fn read_byte(s: &[u8], at: usize) -> ByteAt
     ensures { λ r. ⌜ Reader.byte (now (s .entry)) at ≡ byteAt r ⌝ }

@@ -1,35 +1,16 @@
 // Indices: absent, a number, or an identifier.
-use crate::byte::ByteAt;
-use crate::byte::Skip;
-use crate::text::Part;
-use crate::text::PartAt;
-use leb::U32;
+use syntax::ByteAt;
+use syntax::Index;
+use syntax::IndexAt;
+use syntax::Part;
+use syntax::PartAt;
+use syntax::Skip;
+use syntax::U32;
 ghost use mathlib.Core.Path.{_≡_};
 ghost use Rattle.definition.specs.Token as Token;
 ghost use Rattle.laws.specs.Steps.{stops};
-ghost use Rattle.token.specs.Views.{indexAt, given, skip};
-
-// The index spaces of a module.
-pub enum Space {
-    Funcs,
-    Tables,
-    Mems,
-    Globals,
-    Types,
-    Elems,
-    Datas,
-}
-
-pub enum Index {
-    Absent,
-    Number(u32),
-    Named(Part),
-}
-
-pub enum IndexAt {
-    Got(Index, usize),
-    Fault(u8),
-}
+ghost use Rattle.syntax.specs.Tokens.{indexAt, skip};
+ghost use Rattle.token.specs.Readers.{given};
 
 pub fn number_index(s: &[u8], at: usize) -> IndexAt
     ensures { λ r. ⌜ Token.numberIndex (now (s .entry)) at ≡ indexAt (now (s .entry)) r ⌝ }

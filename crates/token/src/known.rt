@@ -1,16 +1,17 @@
 // Readers of what is known to be readable: of a name or a string only the length is looked at. That of a name is at most 64,
 // and so it is a byte: a number has one spelling.
-use crate::byte::ByteAt;
-use crate::byte::Skip;
-use crate::index::Index;
-use crate::index::IndexAt;
-use crate::text::Part;
-use crate::text::PartAt;
-use leb::U32;
+use syntax::ByteAt;
+use syntax::Index;
+use syntax::IndexAt;
+use syntax::Part;
+use syntax::PartAt;
+use syntax::Skip;
+use syntax::U32;
 ghost use mathlib.Core.Path.{_≡_};
 ghost use Rattle.definition.specs.Token as Token;
 ghost use Rattle.laws.specs.Steps.{stops};
-ghost use Rattle.token.specs.Views.{partAt, idAt, indexAt, given, skip};
+ghost use Rattle.syntax.specs.Tokens.{partAt, idAt, indexAt, skip};
+ghost use Rattle.token.specs.Readers.{given};
 ghost use Rattle.token.specs.Known.{Gets};
 
 // An identifier; none where its length is 0.

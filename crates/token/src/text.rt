@@ -1,23 +1,15 @@
 // Identifiers, strings and data: parts of the stream.
-use crate::byte::Skip;
-use leb::U32;
+use syntax::Part;
+use syntax::PartAt;
+use syntax::Skip;
+use syntax::U32;
 ghost use mathlib.Core.Path.{_≡_};
 ghost use Rattle.definition.specs.Reader as Reader;
 ghost use Rattle.definition.specs.Token as Token;
 ghost use Rattle.laws.specs.Steps.{stops};
-ghost use Rattle.leb.specs.Views.{u32At};
-ghost use Rattle.token.specs.Views.{partOf, partAt, idAt, nameLength, skip};
-
-// A part of the stream: where its first byte stands, and how many there are.
-pub struct Part {
-    pub at: usize,
-    pub len: u32,
-}
-
-pub enum PartAt {
-    Got(Part, usize),
-    Fault(u8),
-}
+ghost use Rattle.syntax.specs.Numbers.{u32At};
+ghost use Rattle.syntax.specs.Tokens.{partOf, partAt, idAt, skip};
+ghost use Rattle.token.specs.Readers.{nameLength};
 
 // The bytes themselves. Where the stream is too short for them, those that are there.
 pub fn bytes_of(s: &[u8], p: Part) -> &[u8]

@@ -13,30 +13,30 @@ use Rattle.laws.specs.Steps.{stops}
 use Rattle.laws.proofs.Backwards.{came, passed}
 use Rattle.laws.proofs.Groups.{u32-within}
 use Rattle.laws.proofs.Passing.{Passing, pass-begin, pass-again}
-use Rattle.leb.specs.Views.{u32At}
-use Rattle.leb.specs.declared.read.U32.{U32}
-use Rattle.leb.specs.declared.read.U32.the-variants as U32
+use Rattle.syntax.specs.Numbers.{u32At}
+use Rattle.syntax.specs.declared.U32.{U32}
+use Rattle.syntax.specs.declared.U32.the-variants as U32
 use Rattle.token.specs.Known.{Gets}
-use Rattle.token.specs.Views.{skip, part, idOf, idAt, indexAt}
-use Rattle.token.specs.declared.byte.Skip.{Skip}
-use Rattle.token.specs.declared.byte.Skip.the-variants as S
-use Rattle.token.specs.declared.text.Part.{Part}
-use Rattle.token.specs.declared.text.PartAt.{PartAt}
-use Rattle.token.specs.declared.text.PartAt.the-variants as P
-use Rattle.token.specs.declared.index.Index.{Index}
-use Rattle.token.specs.declared.index.IndexAt.{IndexAt}
-use Rattle.token.specs.declared.index.IndexAt.the-variants as XA
+use Rattle.syntax.specs.Tokens.{skip, part, idOf, idAt, indexAt}
+use Rattle.syntax.specs.declared.Skip.{Skip}
+use Rattle.syntax.specs.declared.Skip.the-variants as S
+use Rattle.syntax.specs.declared.Part.{Part}
+use Rattle.syntax.specs.declared.PartAt.{PartAt}
+use Rattle.syntax.specs.declared.PartAt.the-variants as P
+use Rattle.syntax.specs.declared.Index.{Index}
+use Rattle.syntax.specs.declared.IndexAt.{IndexAt}
+use Rattle.syntax.specs.declared.IndexAt.the-variants as XA
 use Rattle.token.proofs.Runs.{Single, class-single}
 use Rattle.token.proofs.Skips.{gave}
 use Rattle.token.proofs.Gets.{gets-first, gets-rest, length-is, length-then, run-known, run-fits}
 use Rattle.typeuse.specs.Known.{Readable, ReadableList, ReadableUse}
-use Rattle.typeuse.specs.Views.{elements, listAt}
-use Rattle.typeuse.specs.declared.List as Code
-use Rattle.typeuse.specs.declared.ListAt.{ListAt}
-use Rattle.typeuse.specs.declared.ListAt.the-variants as LA
-use Rattle.typeuse.specs.declared.TypeUse.{TypeUse}
-use Rattle.typeuse.specs.declared.UseAt.{UseAt}
-use Rattle.typeuse.specs.declared.UseAt.the-variants as UA
+use Rattle.syntax.specs.TypeUses.{elements, listAt}
+use Rattle.syntax.specs.declared.List as Code
+use Rattle.syntax.specs.declared.ListAt.{ListAt}
+use Rattle.syntax.specs.declared.ListAt.the-variants as LA
+use Rattle.syntax.specs.declared.TypeUse.{TypeUse}
+use Rattle.syntax.specs.declared.UseAt.{UseAt}
+use Rattle.syntax.specs.declared.UseAt.the-variants as UA
 use Rattle.typeuse.proofs.Lists.{elements-are}
 
 -- ## So many of a thing

@@ -6,10 +6,10 @@ use native.Mathlib.Omega.{arith}
 use Rattle.definition.specs.Syntax.{Bytes}
 use Rattle.definition.specs.Reader.{Step, got, fault, Reader, onward, many}
 use Rattle.laws.specs.Steps.{stops}
-use Rattle.token.specs.Views.{skip}
-use Rattle.token.specs.declared.byte.Skip.{Skip}
-use Rattle.token.specs.declared.byte.Skip.the-variants as S
-use Rattle.typeuse.specs.Views.{onStep, elements}
+use Rattle.syntax.specs.Tokens.{skip}
+use Rattle.syntax.specs.declared.Skip.{Skip}
+use Rattle.syntax.specs.declared.Skip.the-variants as S
+use Rattle.syntax.specs.TypeUses.{onStep, elements}
 
 -- where many are read, the elements are they
 pub elements-are : {A : Type 0} (p : Reader A) (n : ℕ) (s : Bytes) (at : ℕ) (xs : List A) (q : ℕ) → many n p s at ≡ got xs q → elements p s at n ≡ xs

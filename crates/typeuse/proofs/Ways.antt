@@ -7,27 +7,27 @@ use Rattle.definition.specs.Syntax.{Bytes, Identifier}
 use Rattle.definition.specs.Reader.{Step, got, fault, Reader, onward}
 use Rattle.definition.specs.Token as Token
 use Rattle.laws.specs.Steps.{stops}
-use Rattle.token.specs.Views.{byteAt, partAt, skip}
-use Rattle.token.specs.declared.byte.ByteAt.{ByteAt}
-use Rattle.token.specs.declared.byte.ByteAt.the-variants as B
-use Rattle.token.specs.declared.byte.Skip.{Skip}
-use Rattle.token.specs.declared.byte.Skip.the-variants as S
-use Rattle.token.specs.declared.text.Part.{Part}
-use Rattle.token.specs.declared.text.PartAt.{PartAt}
-use Rattle.token.specs.declared.text.PartAt.the-variants as P
+use Rattle.syntax.specs.Tokens.{byteAt, partAt, skip}
+use Rattle.syntax.specs.declared.ByteAt.{ByteAt}
+use Rattle.syntax.specs.declared.ByteAt.the-variants as B
+use Rattle.syntax.specs.declared.Skip.{Skip}
+use Rattle.syntax.specs.declared.Skip.the-variants as S
+use Rattle.syntax.specs.declared.Part.{Part}
+use Rattle.syntax.specs.declared.PartAt.{PartAt}
+use Rattle.syntax.specs.declared.PartAt.the-variants as P
 use Rattle.token.proofs.Skips.{stops-made, stops-then, stops-not}
-use Rattle.typeuse.specs.Views.{localOf, localAt, listOf, listAt, useOf, useAt, elem}
-use Rattle.typeuse.specs.declared.Local.{Local}
-use Rattle.typeuse.specs.declared.LocalAt.{LocalAt}
-use Rattle.typeuse.specs.declared.LocalAt.the-variants as OA
-use Rattle.typeuse.specs.declared.Elem.{Elem}
-use Rattle.typeuse.specs.declared.Elem.the-variants as E
-use Rattle.typeuse.specs.declared.List as Code
-use Rattle.typeuse.specs.declared.ListAt.{ListAt}
-use Rattle.typeuse.specs.declared.ListAt.the-variants as LA
-use Rattle.typeuse.specs.declared.TypeUse.{TypeUse}
-use Rattle.typeuse.specs.declared.UseAt.{UseAt}
-use Rattle.typeuse.specs.declared.UseAt.the-variants as UA
+use Rattle.syntax.specs.TypeUses.{localOf, localAt, listOf, listAt, useOf, useAt, elem}
+use Rattle.syntax.specs.declared.Local.{Local}
+use Rattle.syntax.specs.declared.LocalAt.{LocalAt}
+use Rattle.syntax.specs.declared.LocalAt.the-variants as OA
+use Rattle.syntax.specs.declared.Elem.{Elem}
+use Rattle.syntax.specs.declared.Elem.the-variants as E
+use Rattle.syntax.specs.declared.List as Code
+use Rattle.syntax.specs.declared.ListAt.{ListAt}
+use Rattle.syntax.specs.declared.ListAt.the-variants as LA
+use Rattle.syntax.specs.declared.TypeUse.{TypeUse}
+use Rattle.syntax.specs.declared.UseAt.{UseAt}
+use Rattle.syntax.specs.declared.UseAt.the-variants as UA
 
 module _ {C : Type 0} (x : Step C) (s : Bytes) where
   pub local-got : (k : Syntax.Local Identifier → ℕ → Step C) (m : Step (Syntax.Local Identifier)) (r : LocalAt) (a : Local) (n : ℕ) → m ≡ localAt s r → r ≡ OA.Got a n → k (localOf s a) n ≡ x → onward k m ≡ x

@@ -3,11 +3,11 @@ use Rattle.definition.specs.Syntax.{Bytes}
 use Rattle.definition.specs.Reader.{many}
 use Rattle.definition.specs.Token.{param}
 use Rattle.token.specs.Known.{Gets}
-use Rattle.typeuse.specs.declared.List as Code
-use Rattle.typeuse.specs.declared.ListAt.{ListAt}
-use Rattle.typeuse.specs.declared.ListAt.the-variants as LA
-use Rattle.typeuse.specs.declared.UseAt.{UseAt}
-use Rattle.typeuse.specs.declared.UseAt.the-variants as UA
+use Rattle.syntax.specs.declared.List as Code
+use Rattle.syntax.specs.declared.ListAt.{ListAt}
+use Rattle.syntax.specs.declared.ListAt.the-variants as LA
+use Rattle.syntax.specs.declared.UseAt.{UseAt}
+use Rattle.syntax.specs.declared.UseAt.the-variants as UA
 
 -- all parameters or locals of a list can be read
 abbrev pub Readable : Bytes → Code.List → Type 0

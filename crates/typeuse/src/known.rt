@@ -1,23 +1,23 @@
 // Lists and type uses that are known to be readable: of their names and strings only the lengths are looked at.
-use crate::List;
-use crate::ListAt;
-use crate::Local;
-use crate::LocalAt;
-use crate::TypeUse;
-use crate::UseAt;
-use leb::U32;
-use token::ByteAt;
-use token::IndexAt;
-use token::PartAt;
-use token::Skip;
+use syntax::ByteAt;
+use syntax::IndexAt;
+use syntax::List;
+use syntax::ListAt;
+use syntax::Local;
+use syntax::LocalAt;
+use syntax::PartAt;
+use syntax::Skip;
+use syntax::TypeUse;
+use syntax::U32;
+use syntax::UseAt;
 ghost use mathlib.Core.Path.{_≡_};
 ghost use Rattle.definition.specs.Reader as Reader;
 ghost use Rattle.definition.specs.Token as Token;
 ghost use Rattle.laws.specs.Steps.{stops};
 ghost use Rattle.token.specs.Known.{Gets};
-ghost use Rattle.token.specs.Views.{skip};
+ghost use Rattle.syntax.specs.Tokens.{skip};
 ghost use Rattle.typeuse.specs.Known.{ReadableList, ReadableUse};
-ghost use Rattle.typeuse.specs.Views.{localAt, listAt, useAt};
+ghost use Rattle.syntax.specs.TypeUses.{localAt, listAt, useAt};
 
 // A parameter or a local.
 pub fn known_local(s: &[u8], at: usize) -> LocalAt

@@ -6,30 +6,26 @@ pub use known::known_local_list;
 pub use known::known_strings;
 pub use known::known_type_list;
 pub use known::known_type_use;
-use leb::U32;
-use token::ByteAt;
-use token::Index;
-use token::IndexAt;
-use token::Part;
-use token::PartAt;
-use token::Skip;
+use syntax::ByteAt;
+use syntax::Elem;
+use syntax::Index;
+use syntax::IndexAt;
+use syntax::List;
+use syntax::ListAt;
+use syntax::Local;
+use syntax::LocalAt;
+use syntax::Part;
+use syntax::PartAt;
+use syntax::Skip;
+use syntax::TypeUse;
+use syntax::U32;
+use syntax::UseAt;
 ghost use mathlib.Core.Path.{_≡_};
 ghost use Rattle.definition.specs.Reader as Reader;
 ghost use Rattle.definition.specs.Token as Token;
 ghost use Rattle.laws.specs.Steps.{stops};
-ghost use Rattle.token.specs.Views.{skip};
-ghost use Rattle.typeuse.specs.Views.{localAt, elem, listAt, useAt};
-
-// A parameter or a local.
-pub struct Local {
-    pub id: Part,
-    pub value: u8,
-}
-
-pub enum LocalAt {
-    Got(Local, usize),
-    Fault(u8),
-}
+ghost use Rattle.syntax.specs.Tokens.{skip};
+ghost use Rattle.syntax.specs.TypeUses.{localAt, elem, listAt, useAt};
 
 pub fn read_local(s: &[u8], at: usize) -> LocalAt
     ensures { λ r. ⌜ Token.param (now (s .entry)) at ≡ localAt (now (s .entry)) r ⌝ }
@@ -41,14 +37,6 @@ pub fn read_local(s: &[u8], at: usize) -> LocalAt
         },
         PartAt::Fault(e) => LocalAt::Fault(e),
     }
-}
-
-// What a list is of.
-pub enum Elem {
-    Local,
-    Type,
-    String,
-    Index,
 }
 
 fn pass_type(s: &[u8], at: usize) -> Skip
@@ -102,17 +90,6 @@ fn pass_many(s: &[u8], at: usize, n: u32, what: Elem) -> Skip
     Skip::Past(here)
 }
 
-// A list: where its first element stands, and how many there are.
-pub struct List {
-    pub at: usize,
-    pub count: u32,
-}
-
-pub enum ListAt {
-    Got(List, usize),
-    Fault(u8),
-}
-
 pub fn read_list(s: &[u8], at: usize, ceiling: u32, what: Elem) -> ListAt
     ensures { λ r. ⌜ Token.counted ceiling (elem what) (now (s .entry)) at ≡ listAt (elem what) (now (s .entry)) r ⌝ }
 {
@@ -123,17 +100,6 @@ pub fn read_list(s: &[u8], at: usize, ceiling: u32, what: Elem) -> ListAt
         },
         U32::Fault(e) => ListAt::Fault(e),
     }
-}
-
-pub struct TypeUse {
-    pub index: Index,
-    pub params: List,
-    pub results: List,
-}
-
-pub enum UseAt {
-    Got(TypeUse, usize),
-    Fault(u8),
 }
 
 pub fn read_type_use(s: &[u8], at: usize) -> UseAt

@@ -18,23 +18,25 @@ use Rattle.definition.specs.Instructions.{bodyRec}
 use Rattle.definition.specs.Records.{fieldRec}
 use Rattle.definition.specs.Spaces.{brings, sourceSpace, segments}
 use Rattle.definition.specs.Read.{openAfter, fieldBody, sourceBody, ownBody, isStart}
-use Rattle.sources.specs.Views.{roomOf, sourceOf, noneSeen}
-use Rattle.sources.specs.declared.seen.Seen.{Seen}
-use Rattle.sources.specs.declared.source.Own.the-variants as O
-use Rattle.sources.specs.declared.source.Source.{Source}
-use Rattle.sources.specs.declared.source.Source.the-variants as S
-use Rattle.known.specs.Known.{ReadableHead, ReadableField}
-use Rattle.fields.specs.Views.{fieldOf, fieldAt}
-use Rattle.fields.specs.declared.field.Field.{Field}
-use Rattle.fields.specs.declared.field.Field.the-variants as F
-use Rattle.fields.specs.declared.field.FieldAt.{FieldAt}
-use Rattle.fields.specs.declared.field.FieldAt.the-variants as FA
-use Rattle.records.specs.Uses.{anyUse, endWord}
-use Rattle.records.specs.Places.{bodyOf}
+use Rattle.area.specs.Layout.{MARK, TYPES}
+use Rattle.syntax.specs.Items.{roomOf, sourceOf, noneSeen}
+use Rattle.syntax.specs.declared.Seen.{Seen}
+use Rattle.syntax.specs.declared.Own.the-variants as O
+use Rattle.syntax.specs.declared.Source.{Source}
+use Rattle.syntax.specs.declared.Source.the-variants as S
+use Rattle.reread.specs.Known.{ReadableHead, ReadableField}
+use Rattle.syntax.specs.Fields.{fieldOf, fieldAt}
+use Rattle.syntax.specs.declared.Field.{Field}
+use Rattle.syntax.specs.declared.Field.the-variants as F
+use Rattle.syntax.specs.declared.FieldAt.{FieldAt}
+use Rattle.syntax.specs.declared.FieldAt.the-variants as FA
+use Rattle.next_record.specs.Uses.{anyUse, endWord}
+use Rattle.next_record.specs.Places.{bodyOf}
 use Rattle.counting.specs.Counting.{oneMore, sourceBrings, fieldSeen}
-use Rattle.records.specs.Answers.{fieldDepth}
+use Rattle.next_record.specs.Answers.{fieldDepth}
 use Rattle.counting.proofs.Counts.{extern-brings, own-brings}
-use Rattle.walk.specs.Walk.{begin, onVisit, onBody, afterBody, bodyIn, afterField, counting, seenWith, cursorAfter, visitAt, visitIn, endOf, endHere, endsFrom, Ahead, endRecord, endIn, usesIn, stopIn, cursorIn}
+use Rattle.walk.specs.Walk.{begin, onVisit, afterBody, bodyIn, afterField, counting, seenWith, cursorAfter, visitAt, visitIn, endOf, endHere, endsFrom, Ahead, endRecord, endIn, usesIn, stopIn, cursorIn}
+use Rattle.instr.specs.Bodies.{onBody}
 use Rattle.walk.specs.declared.Cursor.{Cursor}
 use Rattle.walk.specs.declared.Stop.{Stop}
 
@@ -48,7 +50,7 @@ pub end-is : (w : List ℕ) (n a x r : ℕ) → a ≡ getD w (8 + 2 * n) 0 → x
 unfolding endIn
 end-is w n a x r e d g = rw (e, g, d)
 
-pub uses-is : (w : List ℕ) (n r : ℕ) → r ≡ getD w (8 + 2 * n + 1) 0 → leb 8192 r ≡ usesIn w n
+pub uses-is : (w : List ℕ) (n r : ℕ) → r ≡ getD w (8 + 2 * n + 1) 0 → leb MARK r ≡ usesIn w n
 unfolding usesIn
 uses-is w n r e = rw e
 
@@ -127,19 +129,19 @@ body-is s (F.Data i m d) = refl
 -- ## The two words of a body's end
 
 -- the first two words from a place on
-pub end-words : (w : List ℕ) (n a x : ℕ) (more : List ℕ) → drop (8 + 2 * n) (take 520 w) ≡ a ∷ x ∷ more → (getD w (8 + 2 * n) 0 ≡ a) × (getD w (8 + 2 * n + 1) 0 ≡ x)
+pub end-words : (w : List ℕ) (n a x : ℕ) (more : List ℕ) → drop (8 + 2 * n) (take TYPES w) ≡ a ∷ x ∷ more → (getD w (8 + 2 * n) 0 ≡ a) × (getD w (8 + 2 * n + 1) 0 ≡ x)
 end-words w n a x more e =
-    let l : 2 ≤ length (drop (8 + 2 * n) (take 520 w)) = rw e (omega arith) in
-    let m : 8 + 2 * n + 1 < 520 = omega (arith, length-drop (8 + 2 * n) (take 520 w), length-take 520 w) in (
-      sym (getD-take 520 w (8 + 2 * n) 0 (omega arith)) ∙ rw add-zero at (sym (getD-drop (8 + 2 * n) (take 520 w) 0 0)) ∙ ap (λ (l : List ℕ). getD l 0 0) e,
-      sym (getD-take 520 w (8 + 2 * n + 1) 0 m) ∙ sym (getD-drop (8 + 2 * n) (take 520 w) 1 0) ∙ ap (λ (l : List ℕ). getD l 1 0) e,
+    let l : 2 ≤ length (drop (8 + 2 * n) (take TYPES w)) = rw e (omega arith) in
+    let m : 8 + 2 * n + 1 < TYPES = omega (arith, length-drop (8 + 2 * n) (take TYPES w), length-take TYPES w) in (
+      sym (getD-take TYPES w (8 + 2 * n) 0 (omega arith)) ∙ rw add-zero at (sym (getD-drop (8 + 2 * n) (take TYPES w) 0 0)) ∙ ap (λ (l : List ℕ). getD l 0 0) e,
+      sym (getD-take TYPES w (8 + 2 * n + 1) 0 m) ∙ sym (getD-drop (8 + 2 * n) (take TYPES w) 1 0) ∙ ap (λ (l : List ℕ). getD l 1 0) e,
     )
 
 -- the second word's record
 end-record : (r : ℕ) (u : Bool) → r ≤ 4096 → endRecord (endWord r u) ≡ r
 unfolding endRecord endWord
-end-record r true h = let l : 8192 ≤ r + 8192 = omega arith in rw (le-leb _ _ l) (omega arith)
-end-record r false h = let l : r < 8192 = omega arith in rw (lt-leb _ _ l)
+end-record r true h = let l : MARK ≤ r + MARK = omega arith in rw (le-leb _ _ l) (omega arith)
+end-record r false h = let l : r < MARK = omega arith in rw (lt-leb _ _ l)
 
 -- the record after a body is one of those that were left
 after-few : (left k r : ℕ) (s : Bytes) (here : ℕ) → afterBody left k r s here .rec ≤ left + r

@@ -1,5 +1,2 @@
 pub mod Cursors
 pub mod Steps
-pub mod Join
-pub mod Begin
-pub mod Counted

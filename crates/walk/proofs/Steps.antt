@@ -18,21 +18,22 @@ use Rattle.definition.specs.Types.{isShort, instrUses, usedAt, bodyUses}
 use Rattle.definition.specs.Read.{fieldBody}
 use Rattle.definition.specs.Token.{string, param}
 use Rattle.token.specs.Known.{Gets}
-use Rattle.token.specs.Views.{idOf}
-use Rattle.token.specs.declared.text.Part.{Part}
-use Rattle.typeuse.specs.Views.{listOf, useOf}
-use Rattle.typeuse.specs.declared.List as Code
-use Rattle.typeuse.specs.declared.TypeUse as Use
-use Rattle.sources.specs.Views.{roomOf}
-use Rattle.sources.specs.declared.source.Own.the-variants as O
-use Rattle.sources.specs.declared.source.Source.the-variants as S
-use Rattle.known.specs.Known.{ReadableHead}
-use Rattle.fields.specs.Views.{fieldOf}
-use Rattle.fields.specs.declared.field.Field.{Field}
-use Rattle.fields.specs.declared.field.Field.the-variants as F
-use Rattle.known.proofs.Gives.{func-few}
-use Rattle.records.specs.Uses.{mayUse, anyUse, endWord}
-use Rattle.space.specs.Kept.{Kept}
+use Rattle.area.specs.Layout.{MARK, TYPES}
+use Rattle.syntax.specs.Tokens.{idOf}
+use Rattle.syntax.specs.declared.Part.{Part}
+use Rattle.syntax.specs.TypeUses.{listOf, useOf}
+use Rattle.syntax.specs.declared.List as Code
+use Rattle.syntax.specs.declared.TypeUse as Use
+use Rattle.syntax.specs.Items.{roomOf}
+use Rattle.syntax.specs.declared.Own.the-variants as O
+use Rattle.syntax.specs.declared.Source.the-variants as S
+use Rattle.reread.specs.Known.{ReadableHead}
+use Rattle.syntax.specs.Fields.{fieldOf}
+use Rattle.syntax.specs.declared.Field.{Field}
+use Rattle.syntax.specs.declared.Field.the-variants as F
+use Rattle.reread.proofs.Gives.{func-few}
+use Rattle.next_record.specs.Uses.{mayUse, anyUse, endWord}
+use Rattle.area.specs.Kept.{Kept}
 use Rattle.walk.specs.Walk.{onVisit, bodyIn, bodies, cursorAfter, wholeField, onField, sound, Visited, visitStep, visitAt, visitIn, visitOf, ReadableMet, metOf, fieldsHere, fieldsFrom, fieldsAhead, endOf, endHere, endsFrom, Ahead, usesIn}
 use Rattle.walk.specs.declared.Cursor.{Cursor}
 use Rattle.walk.specs.declared.Met.{Met}
@@ -106,9 +107,9 @@ visit-sound s w c v l few inside = go (c .left) l (v .sound)
 -- ## Bodies that use no type
 
 -- a word without the mark
-unmarked : (r : ℕ) (u : Bool) → leb 8192 (endWord r u) ≡ false → u ≡ false
+unmarked : (r : ℕ) (u : Bool) → leb MARK (endWord r u) ≡ false → u ≡ false
 unfolding endWord
-unmarked r true e = let l = leb-false 8192 (r + 8192) e in absurd (omega arith)
+unmarked r true e = let l = leb-false MARK (r + MARK) e in absurd (omega arith)
 unmarked r false e = refl
 
 no-use : (x : Instr Identifier) → mayUse x ≡ false → instrUses x ≡ []
@@ -215,7 +216,7 @@ module _ (s : Bytes) (c : Cursor) (r : Met) (told : visitIn (c .left) c s ≡ vi
         go (some k) d g =
             let x = end-words w (c .own) (r .next .at) (endWord (r .next .rec) (anyUse body)) (endsFrom (r .next .left) (r .next) s ++ v .ends .rest)
             (v .ends .is ∙ ap (λ z. z ++ v .ends .rest) g) in
-            unused body (c .rec + 1) (unmarked (r .next .rec) (anyUse body) (ap (leb 8192) (sym (x .1)) ∙ e))
+            unused body (c .rec + 1) (unmarked (r .next .rec) (anyUse body) (ap (leb MARK) (sym (x .1)) ∙ e))
 
     -- its body, and what is ahead of the next cursor
     sound-parts : (w : List ℕ) → Ahead s w c → (wholeField (fieldBody (fieldOf s f)) (c .rec + 1) s here ≡ true) × (sound (r .next .left) (r .next) s ≡ true)
@@ -246,7 +247,7 @@ module _ (s : Bytes) (c : Cursor) (r : Met) (told : visitIn (c .left) c s ≡ vi
         go none e o =
             let same : 8 + 2 * r .next .own ≡ 8 + 2 * c .own = omega arith in
             record {
-              ends = record { rest = v .ends .rest; is = ap (λ n. drop n (take 520 w)) same ∙ v .ends .is ∙ ap (λ z. z ++ v .ends .rest) e };
+              ends = record { rest = v .ends .rest; is = ap (λ n. drop n (take TYPES w)) same ∙ v .ends .is ∙ ap (λ z. z ++ v .ends .rest) e };
               few = omega (arith, o, left-less, at-met .0, v .few);
               sound = sound-parts w v .1;
             }
@@ -255,7 +256,7 @@ module _ (s : Bytes) (c : Cursor) (r : Met) (told : visitIn (c .left) c s ≡ vi
             record {
               ends = record {
                 rest = v .ends .rest;
-                is = ap (λ n. drop n (take 520 w)) two ∙ sym (drop-drop 2 (8 + 2 * c .own) (take 520 w)) ∙ ap (drop 2) (v .ends .is ∙ ap (λ z. z ++ v .ends .rest) e);
+                is = ap (λ n. drop n (take TYPES w)) two ∙ sym (drop-drop 2 (8 + 2 * c .own) (take TYPES w)) ∙ ap (drop 2) (v .ends .is ∙ ap (λ z. z ++ v .ends .rest) e);
               };
               few = omega (arith, o, left-less, at-met .0, v .few);
               sound = sound-parts w v .1;
@@ -268,5 +269,5 @@ visit-readable s r f here is v = subst (ReadableMet s) is v
 -- ## The work area
 
 -- what is written beyond the ends of bodies leaves them
-pub ahead-kept : (s : Bytes) (w w′ : List ℕ) (c : Cursor) → Kept 520 w w′ → Ahead s w c → Ahead s w′ c
+pub ahead-kept : (s : Bytes) (w w′ : List ℕ) (c : Cursor) → Kept TYPES w w′ → Ahead s w c → Ahead s w′ c
 ahead-kept s w w′ c k v = let e = k .low in record { ends = record { rest = v .ends .rest; is = rw e (v .ends .is) }; few = v .few; sound = v .sound }

@@ -8,21 +8,23 @@ use lib.Dec.{leb}
 use lib.ListN.{length, take, drop, getD}
 use Rattle.definition.specs.Basic.{if_then_else_}
 use Rattle.definition.specs.Syntax as Syntax
-use Rattle.definition.specs.Syntax.{Bytes, Identifier, Space, FieldRec, Rec, field, instr, bodyEnd}
+use Rattle.definition.specs.Syntax.{Bytes, Identifier, Space, FieldRec, field}
 use Rattle.definition.specs.Reader.{Step, got, fault}
 use Rattle.definition.specs.Instructions.{bodyRec}
 use Rattle.definition.specs.Records.{fieldRec}
 use Rattle.definition.specs.Spaces.{brings}
 use Rattle.definition.specs.Read.{openAfter, fieldBody, isStart}
 use Rattle.definition.specs.Deinline.{Numbered, fieldsOf}
-use Rattle.sources.specs.Views.{countOf, roomOf, noneSeen}
-use Rattle.sources.specs.declared.seen.Seen.{Seen}
-use Rattle.known.specs.Known.{ReadableHead}
-use Rattle.fields.specs.Views.{fieldOf}
-use Rattle.fields.specs.declared.field.Field.{Field}
-use Rattle.records.specs.Uses.{anyUse, endWord}
+use Rattle.area.specs.Layout.{MARK, TYPES}
+use Rattle.syntax.specs.Items.{countOf, roomOf, noneSeen}
+use Rattle.syntax.specs.declared.Seen.{Seen}
+use Rattle.reread.specs.Known.{ReadableHead}
+use Rattle.syntax.specs.Fields.{fieldOf}
+use Rattle.syntax.specs.declared.Field.{Field}
+use Rattle.next_record.specs.Uses.{anyUse, endWord}
 use Rattle.counting.specs.Counting.{oneMore, fieldSeen}
-use Rattle.records.specs.Answers.{fieldDepth}
+use Rattle.next_record.specs.Answers.{fieldDepth}
+use Rattle.instr.specs.Bodies.{onBody, bodyFrom, wholeBody}
 use Rattle.walk.specs.declared.Cursor.{Cursor}
 use Rattle.walk.specs.declared.Stop.{Stop}
 use Rattle.walk.specs.declared.Met.{Met}
@@ -31,29 +33,12 @@ use Rattle.walk.specs.declared.What.the-variants as W
 
 -- ## Bodies
 
--- an instruction, or the end of a body, or nothing that was read
-abbrev pub onBody : {B : Type 0} → Step (Rec Identifier) → (Syntax.Instr Identifier → ℕ → B) → (ℕ → B) → B → B
-onBody (got (field f) next) more end z = z
-onBody (got (instr x) next) more end z = more x next
-onBody (got bodyEnd next) more end z = end next
-onBody (fault n) more end z = z
-
--- the instructions of a body from a place on, `left` records at most, where `k` blocks are open
-unfoldable pub bodyFrom : ℕ → ℕ → Bytes → ℕ → List (Syntax.Instr Identifier)
-bodyFrom zero k s here = []
-bodyFrom (suc left) k s here = onBody (bodyRec k s here) (λ x next. x ∷ bodyFrom left (openAfter x k) s next) (λ next. []) []
-
 -- where the body ends
 unfoldable pub afterBody : ℕ → ℕ → ℕ → Bytes → ℕ → Stop
 afterBody zero k r s here = record { at = here; rec = r }
 afterBody (suc left) k r s here =
     onBody (bodyRec k s here) (λ x next. afterBody left (openAfter x k) (r + 1) s next) (λ next. record { at = next; rec = r + 1 })
     (record { at = here; rec = r })
-
--- does a body read to its end, without a fault?
-unfoldable pub wholeBody : ℕ → ℕ → Bytes → ℕ → Bool
-wholeBody zero k s here = false
-wholeBody (suc left) k s here = onBody (bodyRec k s here) (λ x next. wholeBody left (openAfter x k) s next) (λ next. true) false
 
 -- the body of a field that has one; `r` is the record of its first instruction
 abbrev pub bodyIn : Option ℕ → ℕ → Bytes → ℕ → List (Syntax.Instr Identifier)
@@ -188,13 +173,13 @@ pub record Begins (xs ys : List ℕ) : Type 0 where
 
 -- the words 8 to 519 of the work area hold the ends that are still ahead, and nothing ahead is a fault
 pub record Ahead (s : Bytes) (w : List ℕ) (c : Cursor) : Type 0 where
-  pub ends : Begins (endsFrom (c .left) c s) (drop (8 + 2 * c .own) (take 520 w))
+  pub ends : Begins (endsFrom (c .left) c s) (drop (8 + 2 * c .own) (take TYPES w))
   pub few : c .own + c .left ≤ 4096
   pub sound : sound (c .left) c s ≡ true
 
 -- the record in the second word of an end
 unfoldable pub endRecord : ℕ → ℕ
-endRecord x = if leb 8192 x then x - 8192 else x
+endRecord x = if leb MARK x then x - MARK else x
 
 -- the n-th body's end, as the work area has it
 unfoldable pub endIn : List ℕ → ℕ → Stop
@@ -202,7 +187,7 @@ endIn w n = record { at = getD w (8 + 2 * n) 0; rec = endRecord (getD w (8 + 2 *
 
 -- may the n-th body use a type?
 unfoldable pub usesIn : List ℕ → ℕ → Bool
-usesIn w n = leb 8192 (getD w (8 + 2 * n + 1) 0)
+usesIn w n = leb MARK (getD w (8 + 2 * n + 1) 0)
 
 -- where the walk goes on by the work area; `depth` is 1 for an own function, else 0
 abbrev pub stopIn : ℕ → List ℕ → Cursor → ℕ → Stop

@@ -1,7 +1,7 @@
 // A walk over the fields of a stream, one field record at a time. Bodies are jumped over, by the ends that the reading pass left.
-use fields::Field;
-use fields::FieldAt;
-use sources::Seen;
+use syntax::Field;
+use syntax::FieldAt;
+use syntax::Seen;
 ghost use mathlib.Core.Path.{_≡_};
 ghost use Prim.Native.Nat.{_+_, _≤_, _<_};
 ghost use Rattle.walk.specs.Walk.{Ahead, visitIn, visitOf, ReadableMet, begin, endRecord, endIn, usesIn, stopIn, cursorIn};
@@ -51,8 +51,8 @@ pub fn start() -> Cursor
 fn end_record(x: u32) -> u32
     ensures { λ r. ⌜ r ≡ endRecord x ⌝ }
 {
-    if 8192 <= x {
-        return x - 8192;
+    if area::MARK <= x {
+        return x - area::MARK;
     }
     x
 }
@@ -62,8 +62,8 @@ fn body_end(work: &[u32], n: u32) -> Stop
     ensures { λ r. ⌜ r ≡ endIn (now (work .entry)) n ⌝ }
 {
     let i = 8 + 2 * (n as usize);
-    let at = space::word(work, i);
-    let rec = end_record(space::word(work, i + 1));
+    let at = area::word(work, i);
+    let rec = end_record(area::word(work, i + 1));
     Stop {
         at: at as usize,
         rec,
@@ -75,7 +75,7 @@ pub fn body_uses(work: &[u32], n: u32) -> bool
     ensures { λ r. ⌜ r ≡ usesIn (now (work .entry)) n ⌝ }
 {
     let i = 8 + 2 * (n as usize);
-    8192 <= space::word(work, i + 1)
+    area::MARK <= area::word(work, i + 1)
 }
 
 // Where the walk goes on after a field whose head ends at `here`: after the body of an own function, or right there.
@@ -96,7 +96,7 @@ fn next_cursor(work: &[u32], c: Cursor, f: Field, here: usize) -> Cursor
     requires { ⌜ (c .rec < 4096) × (1 ≤ c .left) × (c .own + c .left ≤ 4096) ⌝ }
     ensures { λ r. ⌜ r ≡ cursorIn (now (work .entry)) c f here ⌝ }
 {
-    let depth = records::field_depth(f);
+    let depth = next_record::field_depth(f);
     let stop = next_stop(work, c, depth, here);
     let seen = counting::with_field(c.seen, f);
     Cursor {
@@ -131,7 +131,7 @@ pub fn visit(s: &[u8], work: &[u32], c: Cursor) -> Met
             next: c,
         };
     }
-    match known::known_field(s, c.at, c.seen) {
+    match reread::known_field(s, c.at, c.seen) {
         FieldAt::Got(f, here) => {
             let next = next_cursor(work, c, f, here);
             Met {

@@ -9,10 +9,10 @@ use Rattle.definition.specs.Binary.{module′}
 use Rattle.definition.specs.Assemble.{fitting, say, outputAfter}
 use Rattle.emit.specs.Put.{Put, past}
 use Rattle.emit.proofs.Laws.{put-room, put-then, put-is}
-use Rattle.parts.specs.Tally.{tallies, noTally}
-use Rattle.parts.specs.declared.tally.Tally.{Tally}
+use Rattle.kept.specs.Tally.{tallies, noTally}
+use Rattle.kept.specs.declared.tally.Tally.{Tally}
 use Rattle.module.specs.Length.{moduleLen}
-use Rattle.section_entries.specs.Write.{Writes, Writable, allEntries, moduleItems}
+use Rattle.sections.specs.Write.{Writes, Writable, allEntries, moduleItems}
 use Rattle.module.proofs.Lengths.{past-past, past-measured}
 use Rattle.module.proofs.Sections.{module-len-is, writable-same}
 use Rattle.name_section.specs.Section.{NameTally, nameLen, namesIn}

@@ -1,11 +1,11 @@
 // The writers: a module, with its name section or without, where it has room.
+use kept::Tally;
 use module::module_len;
-use parts::Tally;
 ghost use mathlib.Core.Path.{_≡_};
 ghost use mathlib.Core.List.{_++_};
 ghost use Rattle.definition.specs.Binary as Binary;
-ghost use Rattle.parts.specs.Tally.{tallies, noTally};
-ghost use Rattle.section_entries.specs.Write.{Writable, Held, allEntries, moduleItems};
+ghost use Rattle.kept.specs.Tally.{tallies, noTally};
+ghost use Rattle.sections.specs.Write.{Writable, Held, allEntries, moduleItems};
 ghost use Rattle.name_section.specs.Section.{namesIn};
 ghost use Rattle.writers.specs.Does.{noRoom, Does};
 

@@ -30,5 +30,4 @@ returns-3 c = search (ways, answers, use-answers, plain-answers) depth 12
 
 pub alignment-spec : {M : Type 1} → statement M
 alignment-spec =
-    tie.close
-    (tie.spec read-byte-requires enum-known-b returns returns-2 enum-known-e returns-3)
+    tie.close (tie.spec read-byte-requires enum-known-b returns returns-2 enum-known-e returns-3)

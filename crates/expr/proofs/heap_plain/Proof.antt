@@ -26,5 +26,4 @@ returns-2 c = search (ways, answers, use-answers, plain-answers) depth 14
 
 pub heap-plain-spec : {M : Type 1} → statement M
 heap-plain-spec =
-    tie.close
-    (tie.spec ref-type-requires enum-known-t returns enum-known-e returns-2)
+    tie.close (tie.spec ref-type-requires enum-known-t returns enum-known-e returns-2)

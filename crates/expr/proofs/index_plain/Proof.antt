@@ -1,5 +1,5 @@
 use Rattle.expr.proofs.Ways.{index-operand, plain-answers}
-use Rattle.expr.specs.Views.{indexed}
+use Rattle.expr.specs.Readers.{indexed}
 use Rattle.laws.proofs.Ways.{ways}
 use Rattle.token.proofs.Ways.{answers}
 use Rattle.typeuse.proofs.Ways.{use-answers}

@@ -26,5 +26,4 @@ returns-2 c = search (ways, answers, use-answers, plain-answers) depth 14
 
 pub mem-plain-spec : {M : Type 1} → statement M
 mem-plain-spec =
-    tie.close
-    (tie.spec read-optional-requires enum-known-x returns enum-known-e returns-2)
+    tie.close (tie.spec read-optional-requires enum-known-x returns enum-known-e returns-2)

@@ -1,5 +1,5 @@
 use Rattle.expr.proofs.Ways.{plain-answers}
-use Rattle.expr.specs.Views.{rawOf}
+use Rattle.expr.specs.Readers.{rawOf}
 use Rattle.laws.proofs.Ways.{ways}
 use Rattle.token.proofs.Ways.{answers}
 use Rattle.typeuse.proofs.Ways.{use-answers}

@@ -18,8 +18,8 @@ enum-known-b c = search needs
 put-requires : tie.Need-put-requires
 put-requires c κs = search needs
 
-enum-known-n : tie.Need-enum-known-n
-enum-known-n c = search needs
+enum-known-q : tie.Need-enum-known-q
+enum-known-q c = search needs
 
 same-length : tie.Need-same-length
 same-length c = search needs
@@ -48,7 +48,7 @@ emit-code-spec =
     emit-body-requires
     enum-known-b
     put-requires
-    enum-known-n
+    enum-known-q
     same-length
     same-length-2
     returns

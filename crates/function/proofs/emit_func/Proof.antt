@@ -12,8 +12,8 @@ enum-known-n c = search needs
 emit-typed-requires : tie.Need-emit-typed-requires
 emit-typed-requires c κs = search needs
 
-enum-known-e : tie.Need-enum-known-e
-enum-known-e c = search needs
+enum-known-q : tie.Need-enum-known-q
+enum-known-q c = search needs
 
 same-length : tie.Need-same-length
 same-length c = search needs
@@ -37,7 +37,7 @@ emit-func-spec =
     type-no-requires
     enum-known-n
     emit-typed-requires
-    enum-known-e
+    enum-known-q
     same-length
     same-length-2
     returns

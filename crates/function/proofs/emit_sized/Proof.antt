@@ -55,10 +55,10 @@ returns-3 : tie.Need-returns-3
 returns-3 c = search sized-moved
 
 emit-again-requires : tie.Need-emit-again-requires
-emit-again-requires c κs = (search needs, search (sized-long, needs), search needs, search needs, search (sized-resolvable, needs), search needs)
+emit-again-requires c κs = (search (sized-long, needs), search needs, search needs, search (sized-resolvable, needs), search needs)
 
-enum-known-n : tie.Need-enum-known-n
-enum-known-n c = search needs
+enum-known-q : tie.Need-enum-known-q
+enum-known-q c = search needs
 
 same-length-6 : tie.Need-same-length-6
 same-length-6 c = search needs
@@ -100,7 +100,7 @@ emit-sized-spec =
     same-length-5
     returns-3
     emit-again-requires
-    enum-known-n
+    enum-known-q
     same-length-6
     same-length-7
     returns-4

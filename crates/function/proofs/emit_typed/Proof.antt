@@ -10,10 +10,10 @@ enum-known-l : tie.Need-enum-known-l
 enum-known-l c = search needs
 
 emit-sized-requires : tie.Need-emit-sized-requires
-emit-sized-requires c κs = (search needs, search typed-long, search typed-few, search needs, search typed-resolvable, search needs)
+emit-sized-requires c κs = (search (typed-long, needs), search typed-few, search needs, search typed-resolvable, search needs)
 
-enum-known-e : tie.Need-enum-known-e
-enum-known-e c = search needs
+enum-known-q : tie.Need-enum-known-q
+enum-known-q c = search needs
 
 same-length : tie.Need-same-length
 same-length c = search needs
@@ -37,7 +37,7 @@ emit-typed-spec =
     set-locals-requires
     enum-known-l
     emit-sized-requires
-    enum-known-e
+    enum-known-q
     same-length
     same-length-2
     returns

@@ -18,8 +18,8 @@ tally-requires c κs = search needs
 tally-requires-2 : tie.Need-tally-requires-2
 tally-requires-2 c κs = search needs
 
-enum-known-n-2 : tie.Need-enum-known-n-2
-enum-known-n-2 c = search needs
+enum-known-q : tie.Need-enum-known-q
+enum-known-q c = search needs
 
 same-length : tie.Need-same-length
 same-length c = search needs
@@ -42,7 +42,7 @@ measure-sized-spec =
     group-count-requires
     tally-requires
     tally-requires-2
-    enum-known-n-2
+    enum-known-q
     same-length
     returns
     same-length-2

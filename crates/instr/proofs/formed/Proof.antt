@@ -80,26 +80,4 @@ returns-7 c = search (form-is, ways, answers, use-answers, plain-answers, instr-
 
 pub formed-spec : {M : Type 1} → statement M
 formed-spec =
-    tie.close
-    (tie.spec
-    opcode-form-requires
-    enum-told
-    returns
-    enum-told-2
-    opens-requires
-    returns-2
-    enum-told-3
-    elses-requires
-    returns-3
-    enum-told-4
-    ends-requires
-    returns-4
-    enum-told-5
-    indirect-requires
-    returns-5
-    enum-known-what
-    read-plain-requires
-    enum-known-p
-    returns-6
-    enum-known-e
-    returns-7)
+    tie.close (tie.spec opcode-form-requires enum-told returns enum-told-2 opens-requires returns-2 enum-told-3 elses-requires returns-3 enum-told-4 ends-requires returns-4 enum-told-5 indirect-requires returns-5 enum-known-what read-plain-requires enum-known-p returns-6 enum-known-e returns-7)

@@ -1,4 +1,4 @@
-use Rattle.instr.specs.Views.{highForm}
+use Rattle.instr.specs.Readers.{highForm}
 use Rattle.laws.proofs.Exits.{exits}
 use Rattle.instr.proofs.high_form.Statement.{statement}
 use Rattle.instr.proofs.high_form.Tie as tie

@@ -40,14 +40,4 @@ returns-3 c = search (ways, answers, use-answers, plain-answers, instr-answers) 
 
 pub indirect-spec : {M : Type 1} → statement M
 indirect-spec =
-    tie.close
-    (tie.spec
-    read-optional-requires
-    enum-known-x
-    read-type-use-requires
-    enum-known-t
-    returns
-    enum-known-e
-    returns-2
-    enum-known-e-2
-    returns-3)
+    tie.close (tie.spec read-optional-requires enum-known-x read-type-use-requires enum-known-t returns enum-known-e returns-2 enum-known-e-2 returns-3)

@@ -1,4 +1,4 @@
-use Rattle.instr.specs.Views.{lowForm}
+use Rattle.instr.specs.Readers.{lowForm}
 use Rattle.laws.proofs.Exits.{exits}
 use Rattle.instr.proofs.low_form.Statement.{statement}
 use Rattle.instr.proofs.low_form.Tie as tie

@@ -1,4 +1,4 @@
-use Rattle.instr.specs.Views.{middleForm}
+use Rattle.instr.specs.Readers.{middleForm}
 use Rattle.laws.proofs.Exits.{exits}
 use Rattle.instr.proofs.middle_form.Statement.{statement}
 use Rattle.instr.proofs.middle_form.Tie as tie

@@ -44,15 +44,4 @@ returns-4 c = search (ways, answers, use-answers, plain-answers, instr-answers) 
 
 pub opens-spec : {M : Type 1} → statement M
 opens-spec =
-    tie.close
-    (tie.spec
-    returns
-    read-identifier-requires
-    enum-known-label
-    read-type-use-requires
-    enum-known-t
-    returns-2
-    enum-known-e
-    returns-3
-    enum-known-e-2
-    returns-4)
+    tie.close (tie.spec returns read-identifier-requires enum-known-label read-type-use-requires enum-known-t returns-2 enum-known-e returns-3 enum-known-e-2 returns-4)

@@ -48,16 +48,4 @@ returns-5 c = search (ways, answers, use-answers, plain-answers, instr-answers) 
 
 pub read-body-spec : {M : Type 1} → statement M
 read-body-spec =
-    tie.close
-    (tie.spec
-    read-byte-requires
-    enum-known-b
-    returns
-    returns-2
-    formed-requires
-    enum-known-i
-    returns-3
-    enum-known-e
-    returns-4
-    enum-known-e-2
-    returns-5)
+    tie.close (tie.spec read-byte-requires enum-known-b returns returns-2 formed-requires enum-known-i returns-3 enum-known-e returns-4 enum-known-e-2 returns-5)

@@ -7,7 +7,7 @@ declare-all-requires : tie.Need-declare-all-requires
 declare-all-requires c κs = search needs
 
 intern-requires : tie.Need-intern-requires
-intern-requires c κs = (search needs, search declared-long, search needs, search declared-ahead, search needs)
+intern-requires c κs = (search (declared-long, needs), search needs, search declared-ahead, search needs)
 
 same-length : tie.Need-same-length
 same-length c = search needs

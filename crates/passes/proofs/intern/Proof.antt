@@ -10,10 +10,10 @@ enum-told : tie.Need-enum-told
 enum-told c = search needs
 
 resolve-requires : tie.Need-resolve-requires
-resolve-requires c κs = (search needs, search survey-long, search survey-ahead, search survey-recalled, search table-count)
+resolve-requires c κs = (search (survey-long, needs), search survey-ahead, search survey-recalled, search table-count)
 
-enum-known-n : tie.Need-enum-known-n
-enum-known-n c = search needs
+enum-known-q : tie.Need-enum-known-q
+enum-known-q c = search needs
 
 refuse-requires : tie.Need-refuse-requires
 refuse-requires c κs = search needs
@@ -40,7 +40,7 @@ intern-spec =
     survey-all-requires
     enum-told
     resolve-requires
-    enum-known-n
+    enum-known-q
     refuse-requires
     same-length
     same-length-2

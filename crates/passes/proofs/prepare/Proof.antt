@@ -1,6 +1,6 @@
 use Rattle.passes.proofs.Whole.{prepare-done, prepare-not}
-use Rattle.walk.proofs.Begin.{reads-short, reads-long, reads-ahead}
-use Rattle.walk.proofs.Counted.{reads-declared}
+use Rattle.passes.proofs.Begin.{reads-short, reads-long, reads-ahead}
+use Rattle.passes.proofs.Counted.{reads-declared}
 use borrow.Author.Needs.{needs}
 use Rattle.passes.proofs.prepare.Statement.{statement}
 use Rattle.passes.proofs.prepare.Tie as tie
@@ -12,10 +12,10 @@ enum-known-count : tie.Need-enum-known-count
 enum-known-count c = search needs
 
 declare-requires : tie.Need-declare-requires
-declare-requires c κs = (search reads-short, search reads-long, search reads-ahead, search reads-declared)
+declare-requires c κs = (search (reads-short, reads-long), search reads-ahead, search reads-declared)
 
-enum-known-n : tie.Need-enum-known-n
-enum-known-n c = search needs
+enum-known-q : tie.Need-enum-known-q
+enum-known-q c = search needs
 
 refuse-requires : tie.Need-refuse-requires
 refuse-requires c κs = search needs
@@ -42,7 +42,7 @@ prepare-spec =
     read-all-requires
     enum-known-count
     declare-requires
-    enum-known-n
+    enum-known-q
     refuse-requires
     same-length
     same-length-2

@@ -19,7 +19,7 @@ enum-known-how-3 : tie.Need-enum-known-how-3
 enum-known-how-3 c = search needs
 
 types-first-requires : tie.Need-types-first-requires
-types-first-requires c κs = (search needs, search name-room, search name-few, search name-ahead, search name-order, search name-types, search name-says)
+types-first-requires c κs = (search (name-room, needs), search name-few, search name-ahead, search name-order, search name-types, search name-says)
 
 same-length : tie.Need-same-length
 same-length c = search needs

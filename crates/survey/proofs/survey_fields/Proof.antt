@@ -1,6 +1,6 @@
 use borrow.Author.Needs.{needs}
 use Rattle.walk.proofs.Steps.{visit-less, visit-few}
-use Rattle.names.proofs.Passing.{registering-fit}
+use Rattle.survey.proofs.Registering.{registering-fit}
 use Rattle.survey.proofs.Surveying.{Surveying, surveying-begin, surveying-done, surveying-skips, surveying-late, surveying-order, surveying-again, surveying-refused, surveying-taken}
 use Rattle.survey.proofs.survey_fields.Statement.{statement}
 use Rattle.survey.proofs.survey_fields.Tie as tie
@@ -42,7 +42,7 @@ returns : tie.Need-returns Inv-loop μ-loop
 returns c = search surveying-late
 
 take-field-requires : tie.Need-take-field-requires Inv-loop μ-loop
-take-field-requires c κs = (search needs, search needs, search needs, search visit-few, search surveying-skips, search registering-fit)
+take-field-requires c κs = (search needs, search needs, search visit-few, search surveying-skips, search registering-fit)
 
 enum-known-k : tie.Need-enum-known-k Inv-loop μ-loop
 enum-known-k c = search needs
@@ -53,8 +53,8 @@ loop-less c = search visit-less
 loop-again : tie.Need-loop-again Inv-loop μ-loop
 loop-again c = search (surveying-again, surveying-order)
 
-enum-known-n : tie.Need-enum-known-n Inv-loop μ-loop
-enum-known-n c = search needs
+enum-known-r : tie.Need-enum-known-r Inv-loop μ-loop
+enum-known-r c = search needs
 
 same-length-2 : tie.Need-same-length-2 Inv-loop μ-loop
 same-length-2 c = search needs
@@ -62,8 +62,8 @@ same-length-2 c = search needs
 returns-2 : tie.Need-returns-2 Inv-loop μ-loop
 returns-2 c = search (surveying-refused, surveying-order)
 
-enum-known-n-2 : tie.Need-enum-known-n-2 Inv-loop μ-loop
-enum-known-n-2 c = search needs
+enum-known-r-2 : tie.Need-enum-known-r-2 Inv-loop μ-loop
+enum-known-r-2 c = search needs
 
 same-length-3 : tie.Need-same-length-3 Inv-loop μ-loop
 same-length-3 c = search needs
@@ -106,10 +106,10 @@ survey-fields-spec =
     enum-known-k
     loop-less
     loop-again
-    enum-known-n
+    enum-known-r
     same-length-2
     returns-2
-    enum-known-n-2
+    enum-known-r-2
     same-length-3
     returns-3
     enum-told-2

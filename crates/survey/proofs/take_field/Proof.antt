@@ -15,11 +15,11 @@ register-field-requires c κs = search needs
 enum-told : tie.Need-enum-told
 enum-told c = search needs
 
-enum-known-n : tie.Need-enum-known-n
-enum-known-n c = search needs
+enum-known-r : tie.Need-enum-known-r
+enum-known-r c = search needs
 
-enum-known-n-2 : tie.Need-enum-known-n-2
-enum-known-n-2 c = search needs
+enum-known-r-2 : tie.Need-enum-known-r-2
+enum-known-r-2 c = search needs
 
 same-length : tie.Need-same-length
 same-length c = search needs
@@ -47,8 +47,8 @@ take-field-spec =
     enum-known-k
     register-field-requires
     enum-told
-    enum-known-n
-    enum-known-n-2
+    enum-known-r
+    enum-known-r-2
     same-length
     returns
     same-length-2

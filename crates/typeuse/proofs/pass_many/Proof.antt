@@ -1,6 +1,6 @@
 use Rattle.laws.proofs.Passing.{Passing, pass-begin, passes}
 use Rattle.typeuse.proofs.Ways.{skip-past, skip-stops}
-use Rattle.typeuse.specs.Views.{elem}
+use Rattle.syntax.specs.TypeUses.{elem}
 use borrow.Author.Needs.{needs}
 use Rattle.typeuse.proofs.pass_many.Statement.{statement}
 use Rattle.typeuse.proofs.pass_many.Tie as tie

@@ -12,8 +12,8 @@ enum-told c = search needs
 put-requires : tie.Need-put-requires
 put-requires c κs = search needs
 
-enum-known-n : tie.Need-enum-known-n
-enum-known-n c = search needs
+enum-known-q : tie.Need-enum-known-q
+enum-known-q c = search needs
 
 same-length : tie.Need-same-length
 same-length c = search needs
@@ -27,4 +27,4 @@ returns-2 c = search (closing-to, closing-not) depth 12
 pub emit-closing-spec : {M : Type 1} → statement M
 emit-closing-spec =
     tie.close
-    (tie.spec closes-requires enum-told put-requires enum-known-n same-length returns returns-2)
+    (tie.spec closes-requires enum-told put-requires enum-known-q same-length returns returns-2)

@@ -21,11 +21,11 @@ put-requires c κs = search needs
 put-indirect-requires : tie.Need-put-indirect-requires
 put-indirect-requires c κs = search needs
 
-enum-known-n-2 : tie.Need-enum-known-n-2
-enum-known-n-2 c = search needs
+enum-known-q : tie.Need-enum-known-q
+enum-known-q c = search needs
 
-enum-known-n-3 : tie.Need-enum-known-n-3
-enum-known-n-3 c = search needs
+enum-known-q-2 : tie.Need-enum-known-q-2
+enum-known-q-2 c = search needs
 
 same-length : tie.Need-same-length
 same-length c = search needs
@@ -49,8 +49,8 @@ emit-indirect-spec =
     enum-known-n
     put-requires
     put-indirect-requires
-    enum-known-n-2
-    enum-known-n-3
+    enum-known-q
+    enum-known-q-2
     same-length
     returns
     returns-2

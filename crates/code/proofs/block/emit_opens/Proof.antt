@@ -15,8 +15,8 @@ put-requires c κs = search needs
 put-block-type-requires : tie.Need-put-block-type-requires
 put-block-type-requires c κs = search needs
 
-enum-known-n : tie.Need-enum-known-n
-enum-known-n c = search needs
+enum-known-q : tie.Need-enum-known-q
+enum-known-q c = search needs
 
 same-length : tie.Need-same-length
 same-length c = search needs
@@ -35,7 +35,7 @@ emit-opens-spec =
     enum-known-b
     put-requires
     put-block-type-requires
-    enum-known-n
+    enum-known-q
     same-length
     returns
     returns-2)

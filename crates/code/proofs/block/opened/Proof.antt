@@ -12,11 +12,11 @@ enum-known-o c = search needs
 open-block-requires : tie.Need-open-block-requires
 open-block-requires c κs = search needs
 
-add-t23 : tie.Need-add-t23
-add-t23 c = search needs
+add-t22 : tie.Need-add-t22
+add-t22 c = search needs
 
-enum-known-n : tie.Need-enum-known-n
-enum-known-n c = search needs
+enum-known-q : tie.Need-enum-known-q
+enum-known-q c = search needs
 
 same-length : tie.Need-same-length
 same-length c = search needs
@@ -43,8 +43,8 @@ opened-spec =
     emit-opens-requires
     enum-known-o
     open-block-requires
-    add-t23
-    enum-known-n
+    add-t22
+    enum-known-q
     same-length
     same-length-2
     returns

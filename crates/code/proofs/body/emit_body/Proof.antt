@@ -40,8 +40,8 @@ same-length-2 c = search (going-work, going-out, needs)
 returns : tie.Need-returns Inv-loop μ-loop
 returns c = search (goings) depth 12
 
-enum-known-n : tie.Need-enum-known-n Inv-loop μ-loop
-enum-known-n c = search needs
+enum-known-q : tie.Need-enum-known-q Inv-loop μ-loop
+enum-known-q c = search needs
 
 same-length-3 : tie.Need-same-length-3 Inv-loop μ-loop
 same-length-3 c = search (going-work, going-out, needs)
@@ -77,7 +77,7 @@ emit-body-spec =
     same-length
     same-length-2
     returns
-    enum-known-n
+    enum-known-q
     same-length-3
     same-length-4
     returns-2

@@ -20,5 +20,4 @@ returns-2 c = search (byte-past, byte-stops)
 
 pub pass-heap-spec : {M : Type 1} → statement M
 pass-heap-spec =
-    tie.close
-    (tie.spec ref-type-requires enum-known-next returns enum-known-e returns-2)
+    tie.close (tie.spec ref-type-requires enum-known-next returns enum-known-e returns-2)

@@ -20,5 +20,4 @@ returns-2 c = search (u64-past, u64-stops)
 
 pub pass-u64-spec : {M : Type 1} → statement M
 pass-u64-spec =
-    tie.close
-    (tie.spec read-u64-requires enum-known-next returns enum-known-e returns-2)
+    tie.close (tie.spec read-u64-requires enum-known-next returns enum-known-e returns-2)

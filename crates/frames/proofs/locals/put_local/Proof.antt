@@ -21,8 +21,8 @@ add-put-name c = search needs
 put-name-requires : tie.Need-put-name-requires
 put-name-requires c κs = search (one-entry, needs)
 
-add-t15 : tie.Need-add-t15
-add-t15 c = search needs
+add-t16 : tie.Need-add-t16
+add-t16 c = search needs
 
 same-length-2 : tie.Need-same-length-2
 same-length-2 c = search needs
@@ -40,6 +40,6 @@ put-local-spec =
     mul-put-name
     add-put-name
     put-name-requires
-    add-t15
+    add-t16
     same-length-2
     returns-2)

@@ -33,8 +33,8 @@ loop-less c = search needs
 loop-again : tie.Need-loop-again Inv-loop μ-loop
 loop-again c = search (puttings) depth 12
 
-enum-known-n : tie.Need-enum-known-n Inv-loop μ-loop
-enum-known-n c = search needs
+enum-known-q : tie.Need-enum-known-q Inv-loop μ-loop
+enum-known-q c = search needs
 
 same-length : tie.Need-same-length Inv-loop μ-loop
 same-length c = search (putting-long, needs)
@@ -71,7 +71,7 @@ put-locals-spec =
     sub-left
     loop-less
     loop-again
-    enum-known-n
+    enum-known-q
     same-length
     returns
     enum-told

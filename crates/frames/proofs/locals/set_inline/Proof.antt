@@ -15,11 +15,11 @@ put-locals-requires-2 c κs = search (inline-room, inline-area, needs)
 enum-known-count : tie.Need-enum-known-count
 enum-known-count c = search needs
 
-enum-known-n-2 : tie.Need-enum-known-n-2
-enum-known-n-2 c = search needs
+enum-known-q : tie.Need-enum-known-q
+enum-known-q c = search needs
 
-enum-known-n-3 : tie.Need-enum-known-n-3
-enum-known-n-3 c = search needs
+enum-known-q-2 : tie.Need-enum-known-q-2
+enum-known-q-2 c = search needs
 
 same-length : tie.Need-same-length
 same-length c = search needs
@@ -47,8 +47,8 @@ set-inline-spec =
     enum-known-n
     put-locals-requires-2
     enum-known-count
-    enum-known-n-2
-    enum-known-n-3
+    enum-known-q
+    enum-known-q-2
     same-length
     returns
     same-length-2

@@ -12,8 +12,8 @@ put-locals-requires c κs = search needs
 enum-known-count : tie.Need-enum-known-count
 enum-known-count c = search needs
 
-enum-known-n : tie.Need-enum-known-n
-enum-known-n c = search needs
+enum-known-q : tie.Need-enum-known-q
+enum-known-q c = search needs
 
 same-length : tie.Need-same-length
 same-length c = search needs
@@ -34,7 +34,7 @@ set-nameless-spec =
     param-count-requires
     put-locals-requires
     enum-known-count
-    enum-known-n
+    enum-known-q
     same-length
     returns
     same-length-2

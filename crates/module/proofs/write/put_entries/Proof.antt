@@ -1,5 +1,5 @@
 use borrow.Author.Needs.{needs}
-use Rattle.parts.proofs.Keeping.{part-order, part-within}
+use Rattle.kept.proofs.Keeping.{part-order, part-within}
 use Rattle.module.proofs.Kept.{part-end, part-put}
 use Rattle.module.proofs.write.put_entries.Statement.{statement}
 use Rattle.module.proofs.write.put_entries.Tie as tie

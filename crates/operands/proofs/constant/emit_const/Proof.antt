@@ -12,8 +12,8 @@ enum-known-o c = search needs
 put-requires : tie.Need-put-requires
 put-requires c κs = search needs
 
-enum-known-n : tie.Need-enum-known-n
-enum-known-n c = search needs
+enum-known-r : tie.Need-enum-known-r
+enum-known-r c = search needs
 
 same-length : tie.Need-same-length
 same-length c = search needs
@@ -34,7 +34,7 @@ emit-const-spec =
     emit-plain-requires
     enum-known-o
     put-requires
-    enum-known-n
+    enum-known-r
     same-length
     returns
     same-length-2

@@ -12,8 +12,8 @@ enum-known-d c = search needs
 put-depth-requires : tie.Need-put-depth-requires
 put-depth-requires c κs = search needs
 
-enum-known-n : tie.Need-enum-known-n
-enum-known-n c = search needs
+enum-known-r : tie.Need-enum-known-r
+enum-known-r c = search needs
 
 same-length : tie.Need-same-length
 same-length c = search needs
@@ -31,7 +31,7 @@ emit-depth-spec =
     depth-no-requires
     enum-known-d
     put-depth-requires
-    enum-known-n
+    enum-known-r
     same-length
     returns
     returns-2)

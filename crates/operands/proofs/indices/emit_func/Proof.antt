@@ -15,8 +15,8 @@ cast-put-u c = search needs
 put-u-requires : tie.Need-put-u-requires
 put-u-requires c κs = search needs
 
-enum-known-n-2 : tie.Need-enum-known-n-2
-enum-known-n-2 c = search needs
+enum-known-r : tie.Need-enum-known-r
+enum-known-r c = search needs
 
 same-length : tie.Need-same-length
 same-length c = search needs
@@ -35,7 +35,7 @@ emit-func-spec =
     enum-known-n
     cast-put-u
     put-u-requires
-    enum-known-n-2
+    enum-known-r
     same-length
     returns
     returns-2)

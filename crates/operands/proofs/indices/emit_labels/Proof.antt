@@ -12,8 +12,8 @@ enum-known-a c = search needs
 emit-depth-requires : tie.Need-emit-depth-requires
 emit-depth-requires c κs = search needs
 
-enum-known-n : tie.Need-enum-known-n
-enum-known-n c = search needs
+enum-known-r : tie.Need-enum-known-r
+enum-known-r c = search needs
 
 same-length : tie.Need-same-length
 same-length c = search needs
@@ -34,7 +34,7 @@ emit-labels-spec =
     emit-label-list-requires
     enum-known-a
     emit-depth-requires
-    enum-known-n
+    enum-known-r
     same-length
     returns
     same-length-2

@@ -12,8 +12,8 @@ enum-known-m c = search needs
 put-memarg-requires : tie.Need-put-memarg-requires
 put-memarg-requires c κs = search needs
 
-enum-known-n : tie.Need-enum-known-n
-enum-known-n c = search needs
+enum-known-q : tie.Need-enum-known-q
+enum-known-q c = search needs
 
 same-length : tie.Need-same-length
 same-length c = search needs
@@ -31,7 +31,7 @@ emit-access-spec =
     item-no-requires
     enum-known-m
     put-memarg-requires
-    enum-known-n
+    enum-known-q
     same-length
     returns
     returns-2)

@@ -15,8 +15,8 @@ cast-put-u c = search needs
 put-u-requires : tie.Need-put-u-requires
 put-u-requires c κs = search needs
 
-enum-known-n-2 : tie.Need-enum-known-n-2
-enum-known-n-2 c = search needs
+enum-known-q : tie.Need-enum-known-q
+enum-known-q c = search needs
 
 same-length : tie.Need-same-length
 same-length c = search needs
@@ -35,7 +35,7 @@ emit-item-spec =
     enum-known-n
     cast-put-u
     put-u-requires
-    enum-known-n-2
+    enum-known-q
     same-length
     returns
     returns-2)

@@ -12,8 +12,8 @@ enum-known-n c = search needs
 put-local-requires : tie.Need-put-local-requires
 put-local-requires c κs = search needs
 
-enum-known-n-2 : tie.Need-enum-known-n-2
-enum-known-n-2 c = search needs
+enum-known-q : tie.Need-enum-known-q
+enum-known-q c = search needs
 
 same-length : tie.Need-same-length
 same-length c = search needs
@@ -31,7 +31,7 @@ emit-local-spec =
     local-no-requires
     enum-known-n
     put-local-requires
-    enum-known-n-2
+    enum-known-q
     same-length
     returns
     returns-2)

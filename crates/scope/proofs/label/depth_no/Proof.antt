@@ -9,8 +9,8 @@ depth-of-requires c κs = search (label-table, needs)
 enum-known-n : tie.Need-enum-known-n
 enum-known-n c = search needs
 
-enum-known-n-2 : tie.Need-enum-known-n-2
-enum-known-n-2 c = search needs
+enum-known-r : tie.Need-enum-known-r
+enum-known-r c = search needs
 
 returns : tie.Need-returns
 returns c = search (depths) depth 12
@@ -19,5 +19,4 @@ returns-2 : tie.Need-returns-2
 returns-2 c = search (depths) depth 12
 
 pub depth-no-spec : {M : Type 1} → statement M
-depth-no-spec =
-    tie.close (tie.spec depth-of-requires enum-known-n enum-known-n-2 returns returns-2)
+depth-no-spec = tie.close (tie.spec depth-of-requires enum-known-n enum-known-r returns returns-2)

@@ -18,8 +18,8 @@ type-no-requires c κs = search (block-uses, needs)
 enum-known-n : tie.Need-enum-known-n
 enum-known-n c = search needs
 
-enum-known-n-2 : tie.Need-enum-known-n-2
-enum-known-n-2 c = search needs
+enum-known-r : tie.Need-enum-known-r
+enum-known-r c = search needs
 
 returns-2 : tie.Need-returns-2
 returns-2 c = search (blocks) depth 12
@@ -36,6 +36,6 @@ block-type-spec =
     returns
     type-no-requires
     enum-known-n
-    enum-known-n-2
+    enum-known-r
     returns-2
     returns-3)

@@ -30,8 +30,8 @@ enum-known-n c = search needs
 checked-requires-2 : tie.Need-checked-requires-2
 checked-requires-2 c κs = search needs
 
-enum-known-n-2 : tie.Need-enum-known-n-2
-enum-known-n-2 c = search needs
+enum-known-r : tie.Need-enum-known-r
+enum-known-r c = search needs
 
 returns : tie.Need-returns
 returns c = search (uses) depth 12
@@ -58,7 +58,7 @@ type-no-spec =
     item-no-requires
     enum-known-n
     checked-requires-2
-    enum-known-n-2
+    enum-known-r
     returns
     returns-2
     returns-3

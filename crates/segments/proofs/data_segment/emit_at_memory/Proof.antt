@@ -12,8 +12,8 @@ enum-known-m c = search needs
 emit-on-memory-requires : tie.Need-emit-on-memory-requires
 emit-on-memory-requires c κs = search needs
 
-enum-known-n : tie.Need-enum-known-n
-enum-known-n c = search needs
+enum-known-r : tie.Need-enum-known-r
+enum-known-r c = search needs
 
 same-length : tie.Need-same-length
 same-length c = search needs
@@ -31,7 +31,7 @@ emit-at-memory-spec =
     item-no-requires
     enum-known-m
     emit-on-memory-requires
-    enum-known-n
+    enum-known-r
     same-length
     returns
     returns-2)

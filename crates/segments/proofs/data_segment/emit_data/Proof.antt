@@ -12,8 +12,8 @@ enum-known-a c = search needs
 put-name-requires : tie.Need-put-name-requires
 put-name-requires c κs = search needs
 
-enum-known-n : tie.Need-enum-known-n
-enum-known-n c = search needs
+enum-known-r : tie.Need-enum-known-r
+enum-known-r c = search needs
 
 same-length : tie.Need-same-length
 same-length c = search needs
@@ -34,7 +34,7 @@ emit-data-spec =
     emit-data-mode-requires
     enum-known-a
     put-name-requires
-    enum-known-n
+    enum-known-r
     same-length
     returns
     same-length-2

@@ -18,8 +18,8 @@ enum-known-n c = search needs
 emit-with-table-requires : tie.Need-emit-with-table-requires
 emit-with-table-requires c κs = search needs
 
-enum-known-n-2 : tie.Need-enum-known-n-2
-enum-known-n-2 c = search needs
+enum-known-r : tie.Need-enum-known-r
+enum-known-r c = search needs
 
 same-length : tie.Need-same-length
 same-length c = search needs
@@ -45,7 +45,7 @@ emit-at-table-spec =
     emit-without-table-requires
     enum-known-n
     emit-with-table-requires
-    enum-known-n-2
+    enum-known-r
     same-length
     returns
     same-length-2

@@ -12,8 +12,8 @@ enum-known-a c = search needs
 emit-funcs-requires : tie.Need-emit-funcs-requires
 emit-funcs-requires c κs = search needs
 
-enum-known-n : tie.Need-enum-known-n
-enum-known-n c = search needs
+enum-known-r : tie.Need-enum-known-r
+enum-known-r c = search needs
 
 same-length : tie.Need-same-length
 same-length c = search needs
@@ -34,7 +34,7 @@ emit-elem-spec =
     emit-elem-mode-requires
     enum-known-a
     emit-funcs-requires
-    enum-known-n
+    enum-known-r
     same-length
     returns
     same-length-2

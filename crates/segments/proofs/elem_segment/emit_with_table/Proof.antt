@@ -15,8 +15,8 @@ enum-known-b c = search needs
 put-requires : tie.Need-put-requires
 put-requires c κs = search needs
 
-enum-known-m : tie.Need-enum-known-m
-enum-known-m c = search needs
+enum-known-r : tie.Need-enum-known-r
+enum-known-r c = search needs
 
 same-length : tie.Need-same-length
 same-length c = search needs
@@ -38,7 +38,7 @@ emit-with-table-spec =
     emit-const-requires
     enum-known-b
     put-requires
-    enum-known-m
+    enum-known-r
     same-length
     returns
     same-length-2

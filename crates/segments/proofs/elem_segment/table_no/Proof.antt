@@ -18,8 +18,8 @@ item-no-requires c κs = search needs
 enum-known-n : tie.Need-enum-known-n
 enum-known-n c = search needs
 
-enum-known-n-2 : tie.Need-enum-known-n-2
-enum-known-n-2 c = search needs
+enum-known-r : tie.Need-enum-known-r
+enum-known-r c = search needs
 
 returns : tie.Need-returns
 returns c = search (table-nos) depth 12
@@ -42,7 +42,7 @@ table-no-spec =
     enum-known-x-2
     item-no-requires
     enum-known-n
-    enum-known-n-2
+    enum-known-r
     returns
     returns-2
     returns-3

@@ -28,5 +28,4 @@ returns-2 c = search (ways, answers, type-answers, use-answers, plain-answers, s
 
 pub func-extern-spec : {M : Type 1} → statement M
 func-extern-spec =
-    tie.close
-    (tie.spec read-type-use-requires enum-known-t returns enum-known-e returns-2)
+    tie.close (tie.spec read-type-use-requires enum-known-t returns enum-known-e returns-2)

@@ -41,17 +41,4 @@ returns-4 c = search (extern-matched) depth 4
 
 pub read-extern-spec : {M : Type 1} → statement M
 read-extern-spec =
-    tie.close
-    (tie.spec
-    enum-told
-    func-extern-requires
-    returns
-    enum-told-2
-    table-extern-requires
-    returns-2
-    enum-told-3
-    mem-extern-requires
-    returns-3
-    enum-told-4
-    global-extern-requires
-    returns-4)
+    tie.close (tie.spec enum-told func-extern-requires returns enum-told-2 table-extern-requires returns-2 enum-told-3 mem-extern-requires returns-3 enum-told-4 global-extern-requires returns-4)

@@ -41,14 +41,4 @@ returns-3 c = search (ways, answers, type-answers, use-answers, plain-answers, s
 
 pub read-import-name-spec : {M : Type 1} → statement M
 read-import-name-spec =
-    tie.close
-    (tie.spec
-    read-string-requires
-    enum-known-module
-    read-string-requires-2
-    enum-known-item
-    returns
-    enum-known-e
-    returns-2
-    enum-known-e-2
-    returns-3)
+    tie.close (tie.spec read-string-requires enum-known-module read-string-requires-2 enum-known-item returns enum-known-e returns-2 enum-known-e-2 returns-3)

@@ -41,14 +41,4 @@ returns-3 c = search (ways, answers, type-answers, use-answers, plain-answers, s
 
 pub import-form-spec : {M : Type 1} → statement M
 import-form-spec =
-    tie.close
-    (tie.spec
-    read-import-name-requires
-    enum-known-n
-    read-extern-requires
-    enum-known-x
-    returns
-    enum-known-e
-    returns-2
-    enum-known-e-2
-    returns-3)
+    tie.close (tie.spec read-import-name-requires enum-known-n read-extern-requires enum-known-x returns enum-known-e returns-2 enum-known-e-2 returns-3)

@@ -48,16 +48,4 @@ returns-4 c = search (ways, answers, type-answers, use-answers, plain-answers, s
 
 pub inline-mem-form-spec : {M : Type 1} → statement M
 inline-mem-form-spec =
-    tie.close
-    (tie.spec
-    has-room-requires
-    returns
-    flag64-requires
-    enum-known-is64
-    read-data-requires
-    enum-known-p
-    returns-2
-    enum-known-e
-    returns-3
-    enum-known-e-2
-    returns-4)
+    tie.close (tie.spec has-room-requires returns flag64-requires enum-known-is64 read-data-requires enum-known-p returns-2 enum-known-e returns-3 enum-known-e-2 returns-4)

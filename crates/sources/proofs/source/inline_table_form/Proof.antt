@@ -48,16 +48,4 @@ returns-4 c = search (ways, answers, type-answers, use-answers, plain-answers, s
 
 pub inline-table-form-spec : {M : Type 1} → statement M
 inline-table-form-spec =
-    tie.close
-    (tie.spec
-    has-room-requires
-    returns
-    flag64-requires
-    enum-known-is64
-    read-list-requires
-    enum-known-xs
-    returns-2
-    enum-known-e
-    returns-3
-    enum-known-e-2
-    returns-4)
+    tie.close (tie.spec has-room-requires returns flag64-requires enum-known-is64 read-list-requires enum-known-xs returns-2 enum-known-e returns-3 enum-known-e-2 returns-4)

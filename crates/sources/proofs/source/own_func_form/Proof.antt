@@ -41,14 +41,4 @@ returns-3 c = search (ways, answers, type-answers, use-answers, plain-answers, s
 
 pub own-func-form-spec : {M : Type 1} → statement M
 own-func-form-spec =
-    tie.close
-    (tie.spec
-    read-type-use-requires
-    enum-known-t
-    read-list-requires
-    enum-known-locals
-    returns
-    enum-known-e
-    returns-2
-    enum-known-e-2
-    returns-3)
+    tie.close (tie.spec read-type-use-requires enum-known-t read-list-requires enum-known-locals returns enum-known-e returns-2 enum-known-e-2 returns-3)

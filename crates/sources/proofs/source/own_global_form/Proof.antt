@@ -41,14 +41,4 @@ returns-3 c = search (ways, answers, type-answers, use-answers, plain-answers, s
 
 pub own-global-form-spec : {M : Type 1} → statement M
 own-global-form-spec =
-    tie.close
-    (tie.spec
-    read-global-type-requires
-    enum-known-t
-    read-const-requires
-    enum-known-c
-    returns
-    enum-known-e
-    returns-2
-    enum-known-e-2
-    returns-3)
+    tie.close (tie.spec read-global-type-requires enum-known-t read-const-requires enum-known-c returns enum-known-e returns-2 enum-known-e-2 returns-3)

@@ -28,5 +28,4 @@ returns-2 c = search (ways, answers, type-answers, use-answers, plain-answers, s
 
 pub own-table-form-spec : {M : Type 1} → statement M
 own-table-form-spec =
-    tie.close
-    (tie.spec read-table-type-requires enum-known-t returns enum-known-e returns-2)
+    tie.close (tie.spec read-table-type-requires enum-known-t returns enum-known-e returns-2)

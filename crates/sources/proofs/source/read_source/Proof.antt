@@ -41,17 +41,4 @@ returns-4 c = search (source-matched) depth 4
 
 pub read-source-spec : {M : Type 1} → statement M
 read-source-spec =
-    tie.close
-    (tie.spec
-    enum-told
-    func-source-requires
-    returns
-    enum-told-2
-    table-source-requires
-    returns-2
-    enum-told-3
-    mem-source-requires
-    returns-3
-    enum-told-4
-    global-source-requires
-    returns-4)
+    tie.close (tie.spec enum-told func-source-requires returns enum-told-2 table-source-requires returns-2 enum-told-3 mem-source-requires returns-3 enum-told-4 global-source-requires returns-4)

@@ -1,5 +1,5 @@
 use Rattle.laws.proofs.Exits.{exits}
-use Rattle.records.specs.Uses.{endWord}
+use Rattle.next_record.specs.Uses.{endWord}
 use borrow.Author.Needs.{needs}
 use Rattle.stream.proofs.pass.end_word.Statement.{statement}
 use Rattle.stream.proofs.pass.end_word.Tie as tie

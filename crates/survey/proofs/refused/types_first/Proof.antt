@@ -12,8 +12,8 @@ enum-told c = search needs
 late-first-requires : tie.Need-late-first-requires
 late-first-requires c κs = search (ends-ahead, ends-names, needs)
 
-enum-known-k : tie.Need-enum-known-k
-enum-known-k c = search needs
+enum-known-q : tie.Need-enum-known-q
+enum-known-q c = search needs
 
 late-first-requires-2 : tie.Need-late-first-requires-2
 late-first-requires-2 c κs = search (ends-ahead, ends-types, needs)
@@ -37,7 +37,7 @@ types-first-spec =
     use-ahead-requires
     enum-told
     late-first-requires
-    enum-known-k
+    enum-known-q
     late-first-requires-2
     same-length
     returns

@@ -25,8 +25,8 @@ use-field-requires c κs = search (visit-few, using-skips, needs)
 enum-known-k : tie.Need-enum-known-k Inv-loop μ-loop
 enum-known-k c = search needs
 
-enum-known-n : tie.Need-enum-known-n Inv-loop μ-loop
-enum-known-n c = search needs
+enum-known-r : tie.Need-enum-known-r Inv-loop μ-loop
+enum-known-r c = search needs
 
 same-length : tie.Need-same-length Inv-loop μ-loop
 same-length c = search needs
@@ -60,7 +60,7 @@ use-ahead-spec =
     enum-known-what
     use-field-requires
     enum-known-k
-    enum-known-n
+    enum-known-r
     same-length
     returns
     loop-less

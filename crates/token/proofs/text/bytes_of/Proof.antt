@@ -1,5 +1,5 @@
 use Rattle.token.proofs.Parts.{part-from, part-all, part-none}
-use Rattle.token.specs.Views.{part}
+use Rattle.syntax.specs.Tokens.{part}
 use borrow.Author.Needs.{needs}
 use Rattle.token.proofs.text.bytes_of.Statement.{statement}
 use Rattle.token.proofs.text.bytes_of.Tie as tie

@@ -1,6 +1,6 @@
 use Rattle.laws.proofs.Ways.{ways}
 use Rattle.token.proofs.Ways.{answers}
-use Rattle.token.specs.Views.{nameLength}
+use Rattle.token.specs.Readers.{nameLength}
 use borrow.Author.Needs.{needs}
 use Rattle.token.proofs.text.name_length.Statement.{statement}
 use Rattle.token.proofs.text.name_length.Tie as tie

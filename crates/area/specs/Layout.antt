@@ -1,0 +1,50 @@
+-- Where things stand in the work area: the same names as in src/lib.rt.
+use Prim.Native.Nat.{ℕ}
+use Rattle.definition.specs.Assemble.{longestStream, leastWork}
+
+-- how many words the work area has at least, and how many bytes a stream has at most
+abbrev pub WORDS : ℕ
+WORDS = leastWork
+
+abbrev pub BYTES : ℕ
+BYTES = longestStream
+
+-- the table of types, five words each
+abbrev pub TYPES : ℕ
+TYPES = 520
+
+-- for each record the number of the type of its use
+abbrev pub USES : ℕ
+USES = 1800
+
+-- how many types there are
+abbrev pub TOTAL : ℕ
+TOTAL = 5896
+
+-- how many names the table of each index space has
+abbrev pub NAMED : ℕ
+NAMED = 5897
+
+-- the tables of names
+abbrev pub NAMES : ℕ
+NAMES = 5904
+
+-- after the tables of names: not used yet
+abbrev pub UNUSED : ℕ
+UNUSED = 11280
+
+-- the function's parameters and locals
+abbrev pub LOCALS : ℕ
+LOCALS = 11536
+
+-- the labels of its open blocks, the outermost first
+abbrev pub LABELS : ℕ
+LABELS = 11920
+
+-- the words of one table of names
+abbrev pub TABLE : ℕ
+TABLE = 768
+
+-- added to the record after a body that may use a type
+abbrev pub MARK : ℕ
+MARK = 8192

@@ -1,0 +1,52 @@
+// The work area: where things stand in it, one word of it, and how it is cleared. docs/ARCHITECTURE.md has the layout as a table.
+ghost use mathlib.Core.Path.{_≡_};
+ghost use lib.ListN.{length, getD, replicate};
+
+// How many words it has at least, and how many bytes a stream has at most.
+pub const WORDS: usize = 16384;
+
+pub const BYTES: usize = 65536;
+
+// The table of types, five words each.
+pub const TYPES: usize = 520;
+// For each record the number of the type of its use.
+pub const USES: usize = 1800;
+// How many types there are.
+pub const TOTAL: usize = 5896;
+// How many names the table of each index space has.
+pub const NAMED: usize = 5897;
+// The tables of names.
+pub const NAMES: usize = 5904;
+// After the tables of names: not used yet.
+pub const UNUSED: usize = 11280;
+// The function's parameters and locals.
+pub const LOCALS: usize = 11536;
+// The labels of its open blocks, the outermost first.
+pub const LABELS: usize = 11920;
+
+// The words of one table of names.
+pub const TABLE: usize = 768;
+
+// Added to the record after a body that may use a type.
+pub const MARK: u32 = 8192;
+
+// The word at a place; past the end 0.
+pub fn word(work: &[u32], at: usize) -> u32
+    ensures { λ r. ⌜ r ≡ getD (now (work .entry)) at 0 ⌝ }
+{
+    if at < work.len() {
+        return work[at];
+    }
+    0
+}
+
+// Every word becomes 0.
+pub fn clear(work: &mut [u32])
+    ensures { λ _. ⌜ now (work .exit) ≡ replicate (length (now (work .entry))) 0 ⌝ }
+{
+    let mut i = 0;
+    while i < work.len() {
+        work[i] = 0;
+        i += 1;
+    }
+}

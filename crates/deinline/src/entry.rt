@@ -1,0 +1,191 @@
+// The entries of a field.
+use syntax::Entry;
+use syntax::Extern;
+use syntax::Field;
+use syntax::GlobalType;
+use syntax::ImportName;
+use syntax::Index;
+use syntax::Limits;
+use syntax::List;
+use syntax::Mode;
+use syntax::Own;
+use syntax::Part;
+use syntax::Plain;
+use syntax::Seen;
+use syntax::Source;
+use syntax::Space;
+use syntax::TableType;
+use syntax::TypeUse;
+ghost use mathlib.Core.Path.{_≡_};
+ghost use Rattle.deinline.specs.Entry.{sectionNo, exportsOf, firstOf, itemIn, secondOf, thirdOf, secondIn, thirdIn, threeOf, three};
+
+// The number of an entry's section; 0 where there is none.
+pub fn section_of(e: Entry) -> u8
+    ensures { λ r. ⌜ r ≡ sectionNo e ⌝ }
+{
+    match e {
+        Entry::Nothing => 0,
+        Entry::Type(_, _) => 1,
+        Entry::Import(_, _) => 2,
+        Entry::Func(_) => 3,
+        Entry::Table(_) => 4,
+        Entry::InlineTable(_, _) => 4,
+        Entry::Mem(_) => 5,
+        Entry::InlineMem(_, _) => 5,
+        Entry::Global(_, _) => 6,
+        Entry::Export(_, _, _) => 7,
+        Entry::Exports(_, _, _) => 7,
+        Entry::Start(_) => 8,
+        Entry::Elem(_, _) => 9,
+        Entry::InlineElem(_, _, _) => 9,
+        Entry::Code(_, _, _) => 10,
+        Entry::Data(_, _) => 11,
+        Entry::InlineData(_, _, _) => 11,
+    }
+}
+
+// The exports of the next item of a space: they have its number.
+fn exports_of(exports: List, k: Space, seen: Seen) -> Entry
+    ensures { λ r. ⌜ r ≡ exportsOf exports k seen ⌝ }
+{
+    Entry::Exports(exports, k, sources::seen::count_of(seen, k))
+}
+
+// A field's first entry, and for most the only one; what was seen before the field numbers its items.
+pub fn first_of(f: Field, seen: Seen) -> Entry
+    ensures { λ r. ⌜ r ≡ firstOf f seen ⌝ }
+{
+    match f {
+        Field::Type {
+            id: _,
+            params,
+            results,
+        } => Entry::Type(params, results),
+        Field::Import { name, id: _, what } => Entry::Import(name, what),
+        Field::Item {
+            id: _,
+            exports,
+            source,
+        } => exports_of(exports, counting::source_space(source), seen),
+        Field::Export { name, space, index } => Entry::Export(name, space, index),
+        Field::Start(x) => Entry::Start(x),
+        Field::Elem { id: _, mode, funcs } => Entry::Elem(mode, funcs),
+        Field::Data { id: _, mode, bytes } => Entry::Data(mode, bytes),
+    }
+}
+
+// An item has entries after its exports; other fields have one entry.
+pub enum ItemIn {
+    Item(Source),
+    Other,
+}
+
+pub fn item_in(f: Field) -> ItemIn
+    ensures { λ r. ⌜ r ≡ itemIn f ⌝ }
+{
+    match f {
+        Field::Type {
+            id: _,
+            params: _,
+            results: _,
+        } => ItemIn::Other,
+        Field::Import {
+            name: _,
+            id: _,
+            what: _,
+        } => ItemIn::Other,
+        Field::Item {
+            id: _,
+            exports: _,
+            source,
+        } => ItemIn::Item(source),
+        Field::Export {
+            name: _,
+            space: _,
+            index: _,
+        } => ItemIn::Other,
+        Field::Start(_) => ItemIn::Other,
+        Field::Elem {
+            id: _,
+            mode: _,
+            funcs: _,
+        } => ItemIn::Other,
+        Field::Data {
+            id: _,
+            mode: _,
+            bytes: _,
+        } => ItemIn::Other,
+    }
+}
+
+// An inline table or memory is two entries beside its exports: the segment, and the item with the same number.
+pub fn second_of(x: Source, seen: Seen) -> Entry
+    ensures { λ r. ⌜ r ≡ secondOf x seen ⌝ }
+{
+    match x {
+        Source::Own(o) => match o {
+            Own::Func(t, _) => Entry::Func(t),
+            Own::Table(t) => Entry::Table(t),
+            Own::Mem(l) => Entry::Mem(l),
+            Own::Global(t, c) => Entry::Global(t, c),
+        },
+        Source::Imported(n, e) => Entry::Import(n, e),
+        Source::TableOf(w, xs) => Entry::InlineElem(
+            w,
+            sources::seen::count_of(seen, Space::Tables),
+            xs,
+        ),
+        Source::MemOf(w, d) => Entry::InlineData(w, sources::seen::count_of(seen, Space::Mems), d),
+    }
+}
+
+// A function's body begins at `here`.
+pub fn third_of(x: Source, here: usize) -> Entry
+    ensures { λ r. ⌜ r ≡ thirdOf x here ⌝ }
+{
+    match x {
+        Source::Own(o) => match o {
+            Own::Func(t, ls) => Entry::Code(t, ls, here),
+            Own::Table(_) => Entry::Nothing,
+            Own::Mem(_) => Entry::Nothing,
+            Own::Global(_, _) => Entry::Nothing,
+        },
+        Source::Imported(_, _) => Entry::Nothing,
+        Source::TableOf(w, xs) => Entry::InlineTable(w, xs),
+        Source::MemOf(w, d) => Entry::InlineMem(w, d),
+    }
+}
+
+// The entries of a field, in the order in which the definition resolves them.
+pub struct Three {
+    pub first: Entry,
+    pub second: Entry,
+    pub third: Entry,
+}
+
+fn together(first: Entry, second: Entry, third: Entry) -> Three
+    ensures { λ r. ⌜ r ≡ threeOf first second third ⌝ }
+{
+    Three {
+        first,
+        second,
+        third,
+    }
+}
+
+// The first entry, and those of an item.
+fn with_item(first: Entry, i: ItemIn, seen: Seen, here: usize) -> Three
+    ensures { λ r. ⌜ r ≡ threeOf first (secondIn i seen) (thirdIn i here) ⌝ }
+{
+    match i {
+        ItemIn::Item(x) => together(first, second_of(x, seen), third_of(x, here)),
+        ItemIn::Other => together(first, Entry::Nothing, Entry::Nothing),
+    }
+}
+
+// The entries of a field whose head ends at `here`.
+pub fn entries_of(f: Field, seen: Seen, here: usize) -> Three
+    ensures { λ r. ⌜ r ≡ three f seen here ⌝ }
+{
+    with_item(first_of(f, seen), item_in(f), seen, here)
+}

@@ -1,0 +1,99 @@
+-- Laws of lists of value types.
+use Prim.Native.Nat.{ℕ, _-_, _*_, _^_, _≤_, _<_}
+use mathlib.Core.Path.{_≡_, refl, sym, _∙_, ap}
+use mathlib.Core.Bool.{Bool, true, false}
+use mathlib.Core.List.{List, [], _∷_, _++_, append-assoc, append-nil}
+use lib.ListN.{length}
+use native.Mathlib.Omega.{arith}
+use Rattle.definition.specs.Basic.{concatMap}
+use Rattle.definition.specs.Syntax.{Bytes}
+use Rattle.definition.specs.Token.{param, valType}
+use Rattle.definition.specs.Binary.{u, byte, vec, funcType}
+use Rattle.emit.specs.Put.{Put}
+use Rattle.emit.proofs.Laws.{put-none, put-then, put-cons, put-is}
+use Rattle.syntax.specs.Tokens.{byteAt}
+use Rattle.syntax.specs.declared.ByteAt.{ByteAt}
+use Rattle.syntax.specs.declared.ByteAt.the-variants as B
+use Rattle.syntax.specs.TypeUses.{localAt, elements, listOf}
+use Rattle.syntax.specs.declared.List as Code
+use Rattle.syntax.specs.declared.Local.{Local}
+use Rattle.syntax.specs.declared.LocalAt.{LocalAt}
+use Rattle.syntax.specs.declared.LocalAt.the-variants as L
+use Rattle.type_table.specs.Table.{typed, typesOf, signatureOf}
+use Rattle.type_table.specs.declared.entry.Signature.{Signature}
+use Rattle.type_table.proofs.Lists.{types-are}
+use Rattle.operands.proofs.Elements.{elements-none, elements-more, elements-fault}
+
+-- ## One value type
+
+module _ (s : Bytes) (at : ℕ) (named : Bool) where
+  module _ (q : LocalAt) (h : named ≡ true) (told : param s at ≡ localAt s q) where
+    pub after-id : (l : Local) (next : ℕ) → q ≡ L.Got l next → typed named s at ≡ byteAt (B.Got (l .value) next)
+    after-id l next d = rw (h, told, d)
+
+    pub no-id : (n : ℕ) → q ≡ L.Fault n → typed named s at ≡ byteAt (B.Fault n)
+    no-id n d = rw (h, told, d)
+
+  pub without-id : (q : ByteAt) → named ≡ false → valType s at ≡ byteAt q → typed named s at ≡ byteAt q
+  without-id q h told = rw (h, told)
+
+pub ruleset type-reads = (after-id, no-id, without-id)
+
+-- ## `put_each_type`
+
+-- some are put, and so many are left
+pub record Typing (s : Bytes) (named : Bool) (at count : ℕ) (old : List ℕ) (place o here left : ℕ) (out : List ℕ) : Type 0 where
+  pub done : Bytes
+  pub so-far : Put old place done o out
+  pub same : done ++ elements (typed named) s here left ≡ elements (typed named) s at count
+
+pub types-begin : (s : Bytes) (named : Bool) (at count : ℕ) (old : List ℕ) (place : ℕ) → length old * 1 < 2 ^ 63 → Typing s named at count old place place at count old
+types-begin s named at count old place h = record { done = []; so-far = put-none place (omega arith); same = refl }
+
+module _ {s : Bytes} {named : Bool} {at count : ℕ} {old : List ℕ} {place o here left : ℕ} {out : List ℕ} (v : Typing s named at count old place o here left out) where
+  -- the buffer keeps its length
+  pub types-long : length out ≡ length old
+  types-long = v .so-far .long
+
+  pub types-again : (q : ByteAt) → typed named s here ≡ byteAt q → (t next r : ℕ) (new : List ℕ) → 0 < left → q ≡ B.Got t next → Put out o (t ∷ []) r new → Typing s named at count old place r next (left - 1) new
+  types-again q told t next r new h d p = record {
+    done = v .done ++ (t ∷ []);
+    so-far = put-then (v .so-far) p;
+    same = append-assoc (v .done) (t ∷ []) (elements (typed named) s next (left - 1))
+        ∙ (let e : elements (typed named) s here left ≡ t ∷ elements (typed named) s next (left - 1) = elements-more (typed named) s here left t next h (told ∙ ap byteAt d) in rw e at (v .same));
+  }
+
+module _ (s : Bytes) (named : Bool) (l : Code.List) {old : List ℕ} {place o here left : ℕ} {out : List ℕ} (v : Typing s named (l .at) (l .count) old place o here left out) where
+  none-left : elements (typed named) s here left ≡ [] → Put old place (typesOf named s l) o out
+  none-left e = put-is (v .so-far) (sym (append-nil (v .done)) ∙ (rw e at (v .same)) ∙ sym (types-are named s l))
+
+  pub types-done : left ≤ 0 → Put old place (typesOf named s l) o out
+  types-done h = none-left (elements-none (typed named) s here left h)
+
+  pub types-fault : (q : ByteAt) (n : ℕ) → typed named s here ≡ byteAt q → q ≡ B.Fault n → Put old place (typesOf named s l) o out
+  types-fault q n told d = none-left (elements-fault (typed named) s here left n (told ∙ ap byteAt d))
+
+-- ## After their count
+
+-- a value type is one byte
+bytes-are : (ts : List ℕ) → concatMap byte ts ≡ ts
+unfolding concatMap byte
+bytes-are [] = refl
+bytes-are (t ∷ ts) = ap (λ xs. t ∷ xs) (bytes-are ts)
+
+pub put-counted : {a b c : List ℕ} {n at r q : ℕ} (ts : List ℕ) → n ≡ length ts → Put a at (u n) r b → Put b r ts q c → Put a at (vec byte ts) q c
+unfolding vec
+put-counted ts e x y = put-then (put-is x (ap u e)) (put-is y (sym (bytes-are ts)))
+
+-- ## Function types
+
+pub put-func : {a b c d : List ℕ} {at p q r : ℕ} (s : Bytes) (x : Signature) → Put a at (0x60 ∷ []) p b → Put b p (vec byte (typesOf (x .named) s (x .params))) q c → Put c q (vec byte (typesOf false s (x .results))) r d
+    → Put a at (funcType (signatureOf s x)) r d
+unfolding funcType signatureOf
+put-func s x f g h = put-then (put-cons f g) h
+
+-- no identifier stands before the parameters of a declared type
+pub put-declared : {a b : List ℕ} {at r : ℕ} (s : Bytes) (ps rs : Code.List) → Put a at (funcType (signatureOf s (record { named = false; params = ps; results = rs }))) r b
+    → Put a at (funcType (record { params = listOf valType s ps; results = listOf valType s rs })) r b
+unfolding signatureOf typesOf
+put-declared s ps rs p = p

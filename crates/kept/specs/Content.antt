@@ -1,0 +1,25 @@
+-- What is written of an answer's entries: those of one section.
+use Prim.Native.Nat.{ℕ}
+use mathlib.Core.Path.{_≡_}
+use mathlib.Core.List.{List, [], map}
+use Rattle.definition.specs.Basic.{Answer, ok, refused}
+use Rattle.definition.specs.Syntax.{Bytes, FuncType}
+use Rattle.definition.specs.Binary.{funcType, inSection, joined}
+use Rattle.deinline.specs.Entry.{Entries}
+
+-- entries that are not refused
+pub record Fine (a : Answer Entries) : Type 0 where
+  pub entries : Entries
+  pub is : a ≡ ok entries
+
+abbrev pub kept : Answer Entries → Entries
+kept (ok es) = es
+kept (refused n r) = []
+
+-- the bytes of section k among them
+unfoldable pub bytesIn : ℕ → Answer Entries → Bytes
+bytesIn k a = joined (inSection k (kept a))
+
+-- types as entries of section 1
+unfoldable pub typeEntries : List FuncType → Entries
+typeEntries ts = map (λ t. (1, funcType t)) ts

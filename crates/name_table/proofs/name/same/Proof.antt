@@ -1,0 +1,55 @@
+use Prim.Native.Nat.{_-_}
+use Rattle.name_table.proofs.Walk.{differ, Same, same-begin, same-differ, same-again, same-done}
+use borrow.Author.Needs.{needs}
+use lib.ListN.{length}
+use Rattle.name_table.proofs.name.same.Statement.{statement}
+use Rattle.name_table.proofs.name.same.Tie as tie
+
+abbrev Inv-loop : tie.InvT-loop
+Inv-loop a b i₀ i = Same a b i
+
+abbrev μ-loop : tie.MeasureT-loop
+μ-loop a b i₀ i = length a - i
+
+returns : tie.Need-returns Inv-loop μ-loop
+returns c = search differ
+
+loop-holds : tie.Need-loop-holds Inv-loop μ-loop
+loop-holds c = search same-begin
+
+shared-slice-read-if2 : tie.Need-shared-slice-read-if2 Inv-loop μ-loop
+shared-slice-read-if2 c = search needs
+
+shared-slice-read-if2-2 : tie.Need-shared-slice-read-if2-2 Inv-loop μ-loop
+shared-slice-read-if2-2 c = search needs
+
+returns-2 : tie.Need-returns-2 Inv-loop μ-loop
+returns-2 c = search same-differ
+
+add-i : tie.Need-add-i Inv-loop μ-loop
+add-i c = search needs
+
+loop-less : tie.Need-loop-less Inv-loop μ-loop
+loop-less c = search needs
+
+loop-again : tie.Need-loop-again Inv-loop μ-loop
+loop-again c = search same-again
+
+returns-3 : tie.Need-returns-3 Inv-loop μ-loop
+returns-3 c = search same-done
+
+pub same-spec : {M : Type 1} → statement M
+same-spec =
+    tie.close
+    (tie.spec
+    Inv-loop
+    μ-loop
+    returns
+    loop-holds
+    shared-slice-read-if2
+    shared-slice-read-if2-2
+    returns-2
+    add-i
+    loop-less
+    loop-again
+    returns-3)

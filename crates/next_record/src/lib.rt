@@ -1,0 +1,13 @@
+// One record at the running place: outside a body a field, inside one an instruction or the body's end.
+pub mod record;
+mod skim;
+mod thin;
+
+pub use record::Inside;
+pub use record::InsideAt;
+pub use record::Outside;
+pub use record::OutsideAt;
+pub use record::field_depth;
+pub use record::too_many;
+pub use thin::next_field;
+pub use thin::next_instr;

@@ -1,0 +1,182 @@
+// One record at the running place, and the place after it.
+use syntax::ByteAt;
+use syntax::Field;
+use syntax::FieldAt;
+use syntax::Form;
+use syntax::Own;
+use syntax::Place;
+use syntax::Seen;
+use syntax::Source;
+ghost use mathlib.Core.Path.{_≡_};
+ghost use Prim.Native.Nat.{_≤_, _<_};
+ghost use lib.ListN.{getD};
+ghost use Rattle.definition.specs.Basic.{if_then_else_};
+ghost use Rattle.definition.specs.Read as Read;
+ghost use Rattle.syntax.specs.Items.{roomOf};
+ghost use Rattle.next_record.specs.Places.{bodyOf, recordPast, fieldRecordAt, bodyRecordAt};
+ghost use Rattle.next_record.specs.Answers.{outsideAnswer, keptAt, insideAnswer, onPast, refusedHere, fieldDepth};
+
+// What stands outside a body: a field.
+pub enum Outside {
+    Field(Field),
+    Refused(u8),
+}
+
+// What was read outside a body, and the place after it. A refusal leaves the place where it was.
+pub struct OutsideAt {
+    pub what: Outside,
+    pub place: Place,
+}
+
+// What stands in a body. Of an instruction the pass keeps one thing only, so nothing larger is handed on.
+pub enum Inside {
+    // an instruction: may it use a type?
+    On(bool),
+    // the body's end
+    End,
+    Refused(u8),
+}
+
+// What was read in a body, and the place after it. A refusal leaves the place where it was.
+pub struct InsideAt {
+    pub what: Inside,
+    pub place: Place,
+}
+
+// An own function begins a body.
+pub fn field_depth(f: Field) -> u32
+    ensures { λ r. ⌜ r ≡ fieldDepth f ⌝ }
+{
+    match f {
+        Field::Item { source, .. } => match source {
+            Source::Own(o) => match o {
+                Own::Func(_, _) => {
+                    return 1;
+                }
+                _ => {
+                    return 0;
+                }
+            },
+            _ => {
+                return 0;
+            }
+        },
+        _ => {
+            return 0;
+        }
+    }
+}
+
+// May a record begin with this byte?
+fn begins(b: u8, depth: u32) -> bool
+    ensures { λ r. ⌜ r ≡ Read.beginsIn b (bodyOf depth) ⌝ }
+{
+    if depth < 1 {
+        if b < 0x01 {
+            return false;
+        }
+        return b <= 0x0A;
+    }
+    if b == 0xFF {
+        return true;
+    }
+    match instr::opcode_form(b) {
+        Form::NoOpcode => {
+            return false;
+        }
+        _ => {
+            return true;
+        }
+    }
+}
+
+fn byte_or_zero(s: &[u8], at: usize) -> u8
+    ensures { λ r. ⌜ r ≡ getD (now (s .entry)) at 0 ⌝ }
+{
+    if at < s.len() {
+        return s[at];
+    }
+    0
+}
+
+// The refusal of a record that is one too many: 7, and 4 where no record may begin so.
+pub fn too_many(s: &[u8], p: Place) -> u8
+    ensures { λ r. ⌜ r ≡ (if Read.beginsIn (getD (now (s .entry)) (p .at) 0) (bodyOf (p .depth)) then 7 else 4) ⌝ }
+{
+    let b = byte_or_zero(s, p.at);
+    if begins(b, p.depth) {
+        return 7;
+    }
+    4
+}
+
+// The place after a record.
+fn after_record(p: Place, at: usize, depth: u32) -> Place
+    requires { ⌜ p .rec < 4096 ⌝ }
+    ensures { λ r. ⌜ r ≡ recordPast p at depth ⌝ }
+{
+    Place {
+        at,
+        rec: p.rec + 1,
+        depth,
+    }
+}
+
+// A field's record, for which `seen` says what may still come.
+pub fn field_record(s: &[u8], p: Place, seen: Seen) -> OutsideAt
+    requires { ⌜ p .rec < 4096 ⌝ }
+    ensures { λ r. ⌜ fieldRecordAt (roomOf seen) p (now (s .entry)) ≡ outsideAnswer (now (s .entry)) (r .what) (r .place) ⌝ }
+{
+    let what;
+    match field_records::read_field(s, p.at, seen) {
+        FieldAt::Got(f, at) => {
+            let place = after_record(p, at, field_depth(f));
+            what = Outside::Field(f);
+            return OutsideAt { what, place };
+        }
+        FieldAt::Fault(n) => {
+            what = Outside::Refused(n);
+            return OutsideAt { what, place: p };
+        }
+    }
+}
+
+// An instruction was passed.
+pub fn on(p: Place, at: usize, depth: u32, uses: bool) -> InsideAt
+    requires { ⌜ p .rec < 4096 ⌝ }
+    ensures { λ r. ⌜ r ≡ onPast p at depth uses ⌝ }
+{
+    let place = after_record(p, at, depth);
+    let what = Inside::On(uses);
+    InsideAt { what, place }
+}
+
+pub fn refused(p: Place, n: u8) -> InsideAt
+    ensures { λ r. ⌜ r ≡ refusedHere p n ⌝ }
+{
+    let what = Inside::Refused(n);
+    InsideAt { what, place: p }
+}
+
+// A record of a body: the byte FF where no block is open, or an instruction.
+pub fn body_record(s: &[u8], p: Place) -> InsideAt
+    requires { ⌜ (p .rec < 4096) × (1 ≤ p .depth) ⌝ }
+    ensures { λ r. ⌜ keptAt (bodyRecordAt p (now (s .entry))) ≡ insideAnswer (r .what) (r .place) ⌝ }
+{
+    match token::read_byte(s, p.at) {
+        ByteAt::Got(b, at) => {
+            if b != 0xFF {
+                return crate::skim::pass_instr(s, p, at, b);
+            }
+            if 1 < p.depth {
+                return refused(p, 8);
+            }
+            let place = after_record(p, at, 0);
+            let what = Inside::End;
+            return InsideAt { what, place };
+        }
+        ByteAt::Fault(n) => {
+            return refused(p, n);
+        }
+    }
+}

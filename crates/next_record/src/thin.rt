@@ -1,0 +1,55 @@
+// Readers that take the place by reference and move it on; each calls the reader by value. Whatever lends a place is proved by hand, so the pass
+// uses `next_field` and `next_instr`, whose place is plain.
+use crate::record::Inside;
+use crate::record::InsideAt;
+use crate::record::Outside;
+use crate::record::OutsideAt;
+use crate::record::body_record;
+use crate::record::field_record;
+use syntax::Place;
+use syntax::Seen;
+ghost use mathlib.Core.Path.{_≡_};
+ghost use Prim.Native.Nat.{_≤_, _<_};
+ghost use Rattle.syntax.specs.Items.{roomOf};
+ghost use Rattle.next_record.specs.Places.{fieldRecordAt, bodyRecordAt};
+ghost use Rattle.next_record.specs.Answers.{outsideAnswer, keptAt, insideAnswer};
+
+// A field's record.
+fn read_field(s: &[u8], place: &mut Place, seen: Seen) -> Outside
+    requires { ⌜ now place .rec < 4096 ⌝ }
+    ensures { λ r. ⌜ fieldRecordAt (roomOf seen) (now (place .entry)) (now (s .entry)) ≡ outsideAnswer (now (s .entry)) r (now (place .exit)) ⌝ }
+{
+    let r = field_record(s, *place, seen);
+    *place = r.place;
+    r.what
+}
+
+// A record of a body.
+fn read_instr(s: &[u8], place: &mut Place) -> Inside
+    requires { ⌜ (now place .rec < 4096) × (1 ≤ now place .depth) ⌝ }
+    ensures { λ r. ⌜ keptAt (bodyRecordAt (now (place .entry)) (now (s .entry))) ≡ insideAnswer r (now (place .exit)) ⌝ }
+{
+    let r = body_record(s, *place);
+    *place = r.place;
+    r.what
+}
+
+// The field's record at a place.
+pub fn next_field(s: &[u8], p: Place, seen: Seen) -> OutsideAt
+    requires { ⌜ p .rec < 4096 ⌝ }
+    ensures { λ r. ⌜ fieldRecordAt (roomOf seen) p (now (s .entry)) ≡ outsideAnswer (now (s .entry)) (r .what) (r .place) ⌝ }
+{
+    let mut place = p;
+    let what = read_field(s, &mut place, seen);
+    OutsideAt { what, place }
+}
+
+// The record of a body at a place.
+pub fn next_instr(s: &[u8], p: Place) -> InsideAt
+    requires { ⌜ (p .rec < 4096) × (1 ≤ p .depth) ⌝ }
+    ensures { λ r. ⌜ keptAt (bodyRecordAt p (now (s .entry))) ≡ insideAnswer (r .what) (r .place) ⌝ }
+{
+    let mut place = p;
+    let what = read_instr(s, &mut place);
+    InsideAt { what, place }
+}

@@ -1,0 +1,515 @@
+-- On an accepted stream the fields of the walk are the definition's, and the ends of bodies are those that reading leaves.
+use mathlib.Core.Path.{_≡_, refl, ap, sym, _∙_}
+use Prim.Native.Nat.{ℕ, zero, suc, _+_, _-_, _*_, _≤_, _<_}
+use mathlib.Core.Bool.{Bool, true, false, _||_}
+use mathlib.Core.List.{List, [], _∷_, _++_, append-nil, append-assoc}
+use mathlib.Core.Option.{Option, none, some}
+use lib.Dec.{eqb, leb, ltb}
+use lib.ListN.{length, length-append}
+use borrow.Author.Tests.{lt-leb, le-leb, ltb-true}
+use native.Mathlib.Omega.{arith}
+use native.Mathlib.Decide.{decLe}
+use Rattle.definition.specs.Basic.{if_then_else_, Answer, ok, refused}
+use Rattle.definition.specs.Syntax as Syntax
+use Rattle.definition.specs.Syntax.{Bytes, Identifier, Space, funcs, Source, own, imported, tableOf, memOf, ownFunc, ownTable, ownMem, ownGlobal}
+use Rattle.definition.specs.Syntax.{FieldRec, typeR, importR, itemR, exportR, startR, elemR, dataR, Rec, field, instr, bodyEnd}
+use Rattle.definition.specs.Reader.{Step, got, fault, onward, require, give, byte, _>>=_, _>>_}
+use Rattle.definition.specs.Instructions.{formOf, formed, bodyRec}
+use Rattle.definition.specs.Records.{fieldRec}
+use Rattle.definition.specs.Spaces.{sourceSpace, externSpace, ownSpace, segments, brings, count}
+use Rattle.definition.specs.Read as Read
+use Rattle.definition.specs.Read.{room, seenAfter, bodyAfter, itemsAfter, startedAfter, fieldBody, sourceBody, ownBody, openAfter, instrBody, recordIn, oneRecord, atEnd, nothingSeen, records, read}
+use Rattle.definition.specs.Deinline.{fieldsOf, bodyOf, deinlineFrom, deinline}
+use Rattle.laws.proofs.Backwards.{came, passed}
+use Rattle.laws.proofs.Reading.{records-end, records-full, accepted-next, Next}
+use Rattle.syntax.specs.Items.{countOf, roomOf}
+use Rattle.syntax.specs.declared.Seen.{Seen}
+use Rattle.reread.proofs.Gives.{Roomy, RoomyField, roomy}
+use Rattle.next_record.specs.Uses.{mayUse, anyUse, endWord}
+use Rattle.stream.specs.Pass as Pass
+use Rattle.stream.specs.Pass.{Passed, pass}
+use Rattle.counting.specs.Counting.{oneMore}
+use Rattle.stream.proofs.Model.{pass-end, pass-got}
+use Rattle.counting.proofs.Counts.{Holds, Counts, holds-more, counts-none, room-same}
+use Rattle.walk.specs.Walk.{afterBody, bodyIn, afterField, bodies, counting, seenWith, begin, cursorAfter, wholeField, sound, Visited, visitAt, fieldsHere, fieldsFrom, fieldsAhead, fieldsIn, endOf, endHere, endsFrom}
+use Rattle.instr.specs.Bodies.{bodyFrom, wholeBody}
+use Rattle.walk.specs.declared.Cursor.{Cursor}
+use Rattle.walk.specs.declared.Stop.{Stop}
+use Rattle.walk.proofs.Steps.{sound-met}
+
+-- ## Records of a stream that is accepted
+
+module _ (r : ℕ) (seen : Read.Seen) (s : Bytes) (here : ℕ) (rs : List (Rec Identifier)) where
+  -- outside a body the stream may end, and then there are no more records
+  at-end : (left : ℕ) → length s ≤ here → records left r seen s here ≡ ok rs → seen .body ≡ none → rs ≡ []
+  at-end left h e b =
+      let d : _≡_ {A = Answer (List (Rec Identifier))} (ok []) (ok rs) = ap (atEnd r) (sym b) ∙ sym (records-end r seen s here left h) ∙ e in
+      cc
+
+  -- in a body it may not
+  not-in-body : (left k : ℕ) → length s ≤ here → records left r seen s here ≡ ok rs → seen .body ≡ some k → ⊥
+  not-in-body left k h e b =
+      let d : _≡_ {A = Answer (List (Rec Identifier))} (refused 2 r) (ok rs) = ap (atEnd r) (sym b) ∙ sym (records-end r seen s here left h) ∙ e in
+      let z : _≡_ {A = ℕ} 0 1 = cc in omega arith
+
+  -- one record more is one of those that are left
+  some-left : (left : ℕ) → here < length s → records left r seen s here ≡ ok rs → 0 < left
+  some-left zero h e =
+      let d = sym (records-full r seen s here zero h refl) ∙ e in
+      let z : _≡_ {A = ℕ} 0 1 = cc in absurd (omega arith)
+  some-left (suc n) h e = omega arith
+
+-- ## Bodies
+
+-- no field stands in a body
+pub no-field : (k : ℕ) (s : Bytes) (at : ℕ) (f : FieldRec Identifier) (q : ℕ) → bodyRec k s at ≡ got (field f) q → ⊥
+unfolding bodyRec
+no-field k s at f q e = let c = came (byte s at) e in go (eqb (c .value) 0xFF) (c .value) (c .next) (c .rest)
+  where
+    not-instr : (m : Step (Syntax.Instr Identifier)) → onward (λ y n. got (instr y) n) m ≡ got (field f) q → ⊥
+    not-instr (got y n) e = let z : _≡_ {A = ℕ} 0 1 = cc in omega arith
+    not-instr (fault j) e = let z : _≡_ {A = ℕ} 0 1 = cc in omega arith
+
+    go : (t : Bool) (b next : ℕ)
+        → (if t then (require 8 (eqb k 0) >> give bodyEnd) else (formed k b (formOf b) >>= λ x. give (instr x))) s next ≡ got (field f) q → ⊥
+    go true b next e = let p = passed _ 8 (eqb k 0) s next e in let d = p .1 in let z : _≡_ {A = ℕ} 0 1 = cc in omega arith
+    go false b next e = not-instr (formed k b (formOf b) s next) e
+
+-- what follows a body: the records outside it
+record After (left k r : ℕ) (seen : Read.Seen) (s : Bytes) (here : ℕ) (rs : List (Rec Identifier)) : Type 0 where
+  stop : Stop
+  stops : afterBody left k r s here ≡ stop
+  later : ℕ
+  seen′ : Read.Seen
+  rest : List (Rec Identifier)
+  goes-on : records later (stop .rec) seen′ s (stop .at) ≡ ok rest
+  outside : seen′ .body ≡ none
+  items : seen′ .items ≡ seen .items
+  started : seen′ .started ≡ seen .started
+  sum : later + stop .rec ≡ left + r
+  fewer : later < left
+  whole : wholeBody left k s here ≡ true
+  body : bodyFrom left k s here ≡ bodyOf rs
+  fields : (seen : List Space) → deinlineFrom r seen rs ≡ deinlineFrom (stop .rec) seen rest
+  passes : (used : Bool) (ends : List ℕ)
+      → pass left r seen used ends s here ≡ pass later (stop .rec) seen′ false (ends ++ (stop .at ∷ endWord (stop .rec) (used || anyUse (bodyFrom left k s here)) ∷ [])) s (stop .at)
+
+or-none : (u : Bool) → u ≡ u || false
+or-none true = refl
+or-none false = refl
+
+or-more : (t u v : Bool) → (t || u) || v ≡ t || (u || v)
+or-more true u v = refl
+or-more false u v = refl
+
+body-record : (k : ℕ) (seen : Read.Seen) (s : Bytes) (here : ℕ) (x : Rec Identifier) (next : ℕ) → seen .body ≡ some k → oneRecord seen s here ≡ got x next
+    → bodyRec k s here ≡ got x next
+unfolding oneRecord
+body-record k seen s here x next b e = ap (λ z. recordIn (room seen) z s here) (sym b) ∙ e
+
+body-after : (left k r : ℕ) (seen : Read.Seen) (s : Bytes) (here : ℕ) (rs : List (Rec Identifier)) → seen .body ≡ some k
+    → records left r seen s here ≡ ok rs → After left k r seen s here rs
+unfolding bodyFrom afterBody wholeBody bodyOf deinlineFrom seenAfter bodyAfter itemsAfter startedAfter anyUse
+body-after zero k r seen s here rs b e = go (decLe (length s) here)
+  where
+    go : Dec (length s ≤ here) → After zero k r seen s here rs
+    go (yes h) = absurd (not-in-body r seen s here rs zero k h e b)
+    go (no h) = let z = some-left r seen s here rs zero (omega arith) e in absurd (omega arith)
+body-after (suc n) k r seen s here rs b e = go (decLe (length s) here) (λ k′ seen′ next rest. body-after n k′ (r + 1) seen′ s next rest)
+  where
+    Again : Type 0
+    Again = (k′ : ℕ) (seen′ : Read.Seen) (next : ℕ) (rest : List (Rec Identifier)) → seen′ .body ≡ some k′ → records n (r + 1) seen′ s next ≡ ok rest
+        → After n k′ (r + 1) seen′ s next rest
+
+    on : here < length s → Again → (x : Rec Identifier) (next : ℕ) (rest : List (Rec Identifier)) → oneRecord seen s here ≡ got x next → rs ≡ x ∷ rest
+        → records n (r + 1) (seenAfter seen x) s next ≡ ok rest → After (suc n) k r seen s here rs
+    on h ih (field f) next rest e i g = absurd (no-field k s here f next (body-record k seen s here (field f) next b e))
+    on h ih (instr x) next rest e i g =
+        let d = body-record k seen s here (instr x) next b e in
+        let v = ih (openAfter x k) (seenAfter seen (instr x)) next rest (ap (instrBody x) b) g in
+        let m : suc n - 1 ≡ n = omega arith in
+        record {
+          stop = v .stop;
+          stops = rw d (v .stops);
+          later = v .later;
+          seen′ = v .seen′;
+          rest = v .rest;
+          goes-on = v .goes-on;
+          outside = v .outside;
+          items = v .items;
+          started = v .started;
+          sum = omega (arith, v .sum);
+          fewer = omega (arith, v .fewer);
+          whole = rw d (v .whole);
+          body = rw (d, i) (ap (λ z. x ∷ z) (v .body));
+          fields = λ seen. rw i (v .fields seen);
+          passes = λ used ends.
+              pass-got r seen used ends s here (suc n) (instr x) next h (omega arith) e
+              ∙ rw (m, append-nil, d, ← or-more used (mayUse x) (anyUse (bodyFrom n (openAfter x k) s next))) (v .passes (used || mayUse x) ends);
+        }
+    on h ih bodyEnd next rest e i g =
+        let d = body-record k seen s here bodyEnd next b e in
+        let m : suc n - 1 ≡ n = omega arith in
+        record {
+          stop = record { at = next; rec = r + 1 };
+          stops = rw d;
+          later = n;
+          seen′ = seenAfter {I = Identifier} seen bodyEnd;
+          rest = rest;
+          goes-on = g;
+          outside = refl;
+          items = refl;
+          started = refl;
+          sum = omega arith;
+          fewer = omega arith;
+          whole = rw d;
+          body = rw (d, i);
+          fields = λ seen. rw i;
+          passes = λ used ends. pass-got r seen used ends s here (suc n) bodyEnd next h (omega arith) e ∙ rw (m, d, ← or-none used);
+        }
+
+    go : Dec (length s ≤ here) → Again → After (suc n) k r seen s here rs
+    go (yes h) ih = absurd (not-in-body r seen s here rs (suc n) k h e b)
+    go (no h) ih =
+        let l : here < length s = omega arith in
+        let v = accepted-next n r seen s here rs l e in
+        on l ih (v .rec) (v .next) (v .rest) (v .reads) (v .is) (v .goes-on)
+
+-- ## Fields
+
+-- outside a body a field is read
+record Field-read (seen : Read.Seen) (s : Bytes) (here : ℕ) (x : Rec Identifier) (next : ℕ) : Type 0 where
+  rec : FieldRec Identifier
+  is : x ≡ field rec
+  reads : fieldRec (room seen) s here ≡ got rec next
+
+field-read : (seen : Read.Seen) (s : Bytes) (here : ℕ) (x : Rec Identifier) (next : ℕ) → seen .body ≡ none → oneRecord seen s here ≡ got x next
+    → Field-read seen s here x next
+unfolding oneRecord
+field-read seen s here x next b e =
+    let c = came (fieldRec (room seen) s here) (ap (λ z. recordIn (room seen) z s here) (sym b) ∙ e) in
+    let d = c .rest in
+    let i : field (c .value) ≡ x = cc in
+    let n : c .next ≡ next = cc in
+    record { rec = c .value; is = sym i; reads = c .first ∙ rw n }
+
+-- so no body follows
+no-body : (left r : ℕ) (seen : Read.Seen) (s : Bytes) (here : ℕ) (rs : List (Rec Identifier)) → seen .body ≡ none → records left r seen s here ≡ ok rs → bodyOf rs ≡ []
+unfolding bodyOf
+no-body left r seen s here rs b e = go left (decLe (length s) here) e
+  where
+    go : (left : ℕ) → Dec (length s ≤ here) → records left r seen s here ≡ ok rs → bodyOf rs ≡ []
+    go left (yes h) e = rw (at-end r seen s here rs left h e b)
+    go zero (no h) e = let z = some-left r seen s here rs zero (omega arith) e in absurd (omega arith)
+    go (suc n) (no h) e =
+        let v = accepted-next n r seen s here rs (omega arith) e in
+        let f = field-read seen s here (v .rec) (v .next) b (v .reads) in
+        let i : rs ≡ field (f .rec) ∷ v .rest = v .is ∙ ap (λ z. z ∷ v .rest) (f .is) in
+        rw i
+
+-- ## What a field brings
+
+brings-more : (items : List Space) (c : Seen) (ks : List Space) → Holds items (c .counts) → Holds (ks ++ items) (counting c ks .counts)
+unfolding counting oneMore
+brings-more items c [] h = h
+brings-more items c (k ∷ ks) h = holds-more k (brings-more items c ks h)
+
+counts-with : (d : Read.Seen) (c : Seen) (f : FieldRec Identifier) → Counts d c → Counts (seenAfter d (field f)) (seenWith c f)
+unfolding seenAfter itemsAfter startedAfter seenWith
+counts-with d c f h =
+    let e = h .started in
+    record { items = brings-more (d .items) c (brings f) (h .items); started = rw e }
+
+-- the number of an item that had room is not capped
+number-is : (d : Read.Seen) (c : Seen) (f : FieldRec Identifier) (b : List (Syntax.Instr Identifier)) → Counts d c → RoomyField (room d) f
+    → fieldsOf (countOf c) f b ≡ fieldsOf (λ k. count k (d .items)) f b
+unfolding fieldsOf room
+number-is d c (typeR i t) b h v = refl
+number-is d c (importR n i x) b h v = refl
+number-is d c (itemR i es x) b h v =
+    let l : count (sourceSpace x) (d .items) < 256 = ltb-true _ _ (v .space) in
+    let e : countOf c (sourceSpace x) ≡ count (sourceSpace x) (d .items) = h .items .each (sourceSpace x) ∙ omega arith in
+    rw e
+number-is d c (exportR n k x) b h v = refl
+number-is d c (startR x) b h v = refl
+number-is d c (elemR i m xs) b h v = refl
+number-is d c (dataR i m x) b h v = refl
+
+-- functions: 256 at most, and one more with each body
+record Funcs (items : List Space) (f : FieldRec Identifier) : Type 0 where
+  few : count funcs (brings f ++ items) ≤ 256
+  more : count funcs items + bodies (fieldBody f) ≤ count funcs (brings f ++ items)
+
+module _ (d : Read.Seen) (l : count funcs (d .items) ≤ 256) where
+  extern-funcs : (k : Space) → ltb (count k (d .items)) 256 ≡ true → (count funcs (k ∷ d .items) ≤ 256) × (count funcs (d .items) ≤ count funcs (k ∷ d .items))
+  unfolding count
+  extern-funcs Syntax.funcs v = let h : count funcs (d .items) < 256 = ltb-true _ _ v in (omega arith, omega arith)
+  extern-funcs Syntax.tables v = (omega arith, omega arith)
+  extern-funcs Syntax.mems v = (omega arith, omega arith)
+  extern-funcs Syntax.globals v = (omega arith, omega arith)
+  extern-funcs Syntax.types v = (omega arith, omega arith)
+  extern-funcs Syntax.elems v = (omega arith, omega arith)
+  extern-funcs Syntax.datas v = (omega arith, omega arith)
+
+  source-funcs : (i : Option Identifier) (es : List Bytes) (x : Source Identifier) → Roomy (room d) x → Funcs (d .items) (itemR i es x)
+  unfolding count brings fieldBody sourceBody ownBody sourceSpace ownSpace segments room
+  source-funcs i es (own (ownFunc t ls)) v = let h : count funcs (d .items) < 256 = ltb-true _ _ (v .space) in record { few = omega arith; more = omega arith }
+  source-funcs i es (own (ownTable t)) v = record { few = omega arith; more = omega arith }
+  source-funcs i es (own (ownMem m)) v = record { few = omega arith; more = omega arith }
+  source-funcs i es (own (ownGlobal t c)) v = record { few = omega arith; more = omega arith }
+  source-funcs i es (imported n x) v = let h = extern-funcs (externSpace x) (v .space) in record { few = h .0; more = omega (arith, h .1) }
+  source-funcs i es (tableOf w xs) v = record { few = omega arith; more = omega arith }
+  source-funcs i es (memOf w x) v = record { few = omega arith; more = omega arith }
+
+  field-funcs : (f : FieldRec Identifier) → RoomyField (room d) f → Funcs (d .items) f
+  unfolding count brings fieldBody room
+  field-funcs (typeR i t) v = record { few = omega arith; more = omega arith }
+  field-funcs (importR n i x) v = let h = extern-funcs (externSpace x) v in record { few = h .0; more = omega (arith, h .1) }
+  field-funcs (itemR i es x) v = source-funcs i es x v
+  field-funcs (exportR n k x) v = record { few = omega arith; more = omega arith }
+  field-funcs (startR x) v = record { few = omega arith; more = omega arith }
+  field-funcs (elemR i m xs) v = record { few = omega arith; more = omega arith }
+  field-funcs (dataR i m x) v = record { few = omega arith; more = omega arith }
+
+-- ## The join
+
+-- a cursor stands where the definition reads on, outside a body
+record Stands (c : Cursor) (s : Bytes) (left : ℕ) (seen : Read.Seen) (rs : List (Rec Identifier)) : Type 0 where
+  goes-on : records left (c .rec) seen s (c .at) ≡ ok rs
+  outside : seen .body ≡ none
+  counts : Counts seen (c .seen)
+  sum : left + c .rec ≡ 4096
+  funcs : count funcs (seen .items) ≤ 256
+
+-- after a field, the cursor that follows stands too
+record Onward (c : Cursor) (f : FieldRec Identifier) (s : Bytes) (next n : ℕ) (seen : Read.Seen) (rest : List (Rec Identifier)) : Type 0 where
+  later : ℕ
+  seen′ : Read.Seen
+  rest′ : List (Rec Identifier)
+  stands : Stands (cursorAfter c f s next) s later seen′ rest′
+  fewer : later ≤ n
+  whole : wholeField (fieldBody f) (c .rec + 1) s next ≡ true
+  body : bodyIn (fieldBody f) (c .rec + 1) s next ≡ bodyOf rest
+  fields : deinlineFrom (c .rec + 1) (brings f ++ seen .items) rest ≡ deinlineFrom (cursorAfter c f s next .rec) (seen′ .items) rest′
+  passes : (es : List ℕ) → pass n (c .rec + 1) (seenAfter seen (field f)) false es s next
+      ≡ pass later (cursorAfter c f s next .rec) seen′ false (es ++ endOf (fieldBody f) (cursorAfter c f s next) (bodyIn (fieldBody f) (c .rec + 1) s next)) s (cursorAfter c f s next .at)
+  more : count funcs (seen .items) + bodies (fieldBody f) ≤ count funcs (seen′ .items)
+
+module _ (c : Cursor) (f : FieldRec Identifier) (s : Bytes) (next n : ℕ) (seen : Read.Seen) (rest : List (Rec Identifier))
+    (v : Counts seen (c .seen)) (l : n + (c .rec + 1) ≡ 4096) (k : Funcs (seen .items) f) (g : records n (c .rec + 1) (seenAfter seen (field f)) s next ≡ ok rest) where
+  onward-none : fieldBody f ≡ none → Onward c f s next n seen rest
+  unfolding cursorAfter seenAfter bodyAfter itemsAfter
+  onward-none b =
+      let q : afterField (fieldBody f) (c .rec + 1) s next ≡ record { at = next; rec = c .rec + 1 } = ap (λ z. afterField z (c .rec + 1) s next) b in
+      record {
+        later = n;
+        seen′ = seenAfter seen (field f);
+        rest′ = rest;
+        stands = record {
+          goes-on = ap (λ (z : Stop). records n (z .rec) (seenAfter seen (field f)) s (z .at)) q ∙ g;
+          outside = b;
+          counts = counts-with seen (c .seen) f v;
+          sum = ap (λ (z : Stop). n + z .rec) q ∙ l;
+          funcs = k .few;
+        };
+        fewer = omega arith;
+        whole = ap (λ z. wholeField z (c .rec + 1) s next) b;
+        body = ap (λ z. bodyIn z (c .rec + 1) s next) b ∙ sym (no-body n (c .rec + 1) (seenAfter seen (field f)) s next rest b g);
+        fields = sym (ap (λ (z : Stop). deinlineFrom (z .rec) (brings f ++ seen .items) rest) q);
+        passes = λ es.
+            ap (λ z. pass n (c .rec + 1) (seenAfter seen (field f)) false z s next) (sym (append-nil es))
+            ∙ sym (ap (λ (z : Stop). pass n (z .rec) (seenAfter seen (field f)) false (es ++ []) s (z .at)) q)
+            ∙ ap (λ z. pass n (cursorAfter c f s next .rec) (seenAfter seen (field f)) false (es ++ endOf z (cursorAfter c f s next) (bodyIn z (c .rec + 1) s next)) s (cursorAfter c f s next .at)) (sym b);
+        more = k .more;
+      }
+
+  onward-some : (j : ℕ) → fieldBody f ≡ some j → After n j (c .rec + 1) (seenAfter seen (field f)) s next rest → Onward c f s next n seen rest
+  unfolding cursorAfter seenAfter bodyAfter itemsAfter startedAfter
+  onward-some j b a =
+      let m : 4096 - (c .rec + 1) ≡ n = omega arith in
+      let q : afterField (fieldBody f) (c .rec + 1) s next ≡ a .stop =
+      ap (λ z. afterField z (c .rec + 1) s next) b ∙ ap (λ z. afterBody z j (c .rec + 1) s next) m ∙ a .stops in
+      let w = counts-with seen (c .seen) f v in
+      let i = a .items in
+      record {
+        later = a .later;
+        seen′ = a .seen′;
+        rest′ = a .rest;
+        stands = record {
+          goes-on = ap (λ (z : Stop). records (a .later) (z .rec) (a .seen′) s (z .at)) q ∙ a .goes-on;
+          outside = a .outside;
+          counts = record { items = rw i (w .items); started = a .started ∙ w .started };
+          sum = ap (λ (z : Stop). a .later + z .rec) q ∙ a .sum ∙ l;
+          funcs = rw i (k .few);
+        };
+        fewer = omega (arith, a .fewer);
+        whole = ap (λ z. wholeField z (c .rec + 1) s next) b ∙ ap (λ z. wholeBody z j s next) m ∙ a .whole;
+        body = ap (λ z. bodyIn z (c .rec + 1) s next) b ∙ ap (λ z. bodyFrom z j s next) m ∙ a .body;
+        fields =
+            a .fields (brings f ++ seen .items)
+            ∙ sym (ap (λ (z : Stop). deinlineFrom (z .rec) (brings f ++ seen .items) (a .rest)) q)
+            ∙ ap (λ z. deinlineFrom (cursorAfter c f s next .rec) z (a .rest)) (sym i);
+        passes = λ es.
+            a .passes false es
+            ∙ sym (ap (λ (z : Stop). pass (a .later) (z .rec) (a .seen′) false (es ++ (z .at ∷ endWord (z .rec) (anyUse (bodyFrom n j s next)) ∷ [])) s (z .at)) q)
+            ∙ ap (λ i. pass (a .later) (cursorAfter c f s next .rec) (a .seen′) false (es ++ endOf (some j) (cursorAfter c f s next) (bodyFrom i j s next)) s (cursorAfter c f s next .at)) (sym m)
+            ∙ ap (λ z. pass (a .later) (cursorAfter c f s next .rec) (a .seen′) false (es ++ endOf z (cursorAfter c f s next) (bodyIn z (c .rec + 1) s next)) s (cursorAfter c f s next .at)) (sym b);
+        more = rw i (k .more);
+      }
+
+  in-body : (j : ℕ) → fieldBody f ≡ some j → After n j (c .rec + 1) (seenAfter seen (field f)) s next rest
+  unfolding seenAfter bodyAfter
+  in-body j b = body-after n j (c .rec + 1) (seenAfter seen (field f)) s next rest b g
+
+  onward-is : Onward c f s next n seen rest
+  onward-is = go (fieldBody f) refl
+    where
+      go : (b : Option ℕ) → fieldBody f ≡ b → Onward c f s next n seen rest
+      go none b = onward-none b
+      go (some j) b = onward-some j b (in-body j b)
+
+-- the fields and the ends from a cursor on, and how many ends there are; nothing is a fault
+record Joined (fuel : ℕ) (c : Cursor) (s : Bytes) (left : ℕ) (seen : Read.Seen) (rs : List (Rec Identifier)) : Type 0 where
+  fields : fieldsFrom fuel c s ≡ deinlineFrom (c .rec) (seen .items) rs
+  ends : (es : List ℕ) → pass left (c .rec) seen false es s (c .at) .ends ≡ es ++ endsFrom fuel c s
+  few : length (endsFrom fuel c s) + 2 * count funcs (seen .items) ≤ 512
+  sound : sound fuel c s ≡ true
+
+-- at the stream's end nothing is visited
+visit-nothing : (c : Cursor) (s : Bytes) → length s ≤ c .at → visitAt c s ≡ none
+unfolding visitAt
+visit-nothing c s h = rw (le-leb _ _ h) (go (leb 4096 (c .rec)))
+  where
+    go : (t : Bool) → _≡_ {A = Option Visited} (if t then none else none) none
+    go true = refl
+    go false = refl
+
+-- nor is anything a fault
+sound-nothing : (c : Cursor) (s : Bytes) (n : ℕ) → length s ≤ c .at → sound n c s ≡ true
+unfolding sound
+sound-nothing c s zero h = refl
+sound-nothing c s (suc n) h = rw (le-leb _ _ h) (go (leb 4096 (c .rec)))
+  where
+    go : (t : Bool) → (if t then true else true) ≡ true
+    go true = refl
+    go false = refl
+
+-- within it the field that the definition reads
+visit-read : (c : Cursor) (s : Bytes) (seen : Read.Seen) (f : FieldRec Identifier) (next : ℕ) → Counts seen (c .seen) → c .rec < 4096 → c .at < length s
+    → fieldRec (room seen) s (c .at) ≡ got f next → visitAt c s ≡ some (record { field = f; head-end = next; next = cursorAfter c f s next })
+unfolding visitAt
+visit-read c s seen f next v l h e =
+    let d : fieldRec (roomOf (c .seen)) s (c .at) ≡ got f next = rw (← room-same v) e in
+    rw (lt-leb _ _ l, lt-leb _ _ h, d)
+
+ends-long : (b : Option ℕ) (c : Cursor) (xs : List (Syntax.Instr Identifier)) → length (endOf b c xs) ≡ 2 * bodies b
+ends-long none c xs = refl
+ends-long (some k) c xs = refl
+
+-- nothing is left
+joined-end : (fuel : ℕ) (c : Cursor) (s : Bytes) (left : ℕ) (seen : Read.Seen) (rs : List (Rec Identifier)) → length s ≤ c .at
+    → Stands c s left seen rs → Joined fuel c s left seen rs
+unfolding fieldsFrom endsFrom deinlineFrom
+joined-end fuel c s left seen rs h v = go fuel
+  where
+    none-left : rs ≡ []
+    none-left = at-end (c .rec) seen s (c .at) rs left h (v .goes-on) (v .outside)
+
+    ends-same : (es : List ℕ) → pass left (c .rec) seen false es s (c .at) .ends ≡ es
+    ends-same es = ap (λ (z : Passed). z .ends) (pass-end (c .rec) seen false es s (c .at) left h)
+
+    go : (fuel : ℕ) → Joined fuel c s left seen rs
+    go zero = record { fields = rw none-left; ends = λ es. ends-same es ∙ sym (append-nil es); few = omega (arith, v .funcs); sound = sound-nothing c s zero h }
+    go (suc m) =
+        let d = visit-nothing c s h in
+        record { fields = rw (d, none-left); ends = λ es. ends-same es ∙ rw d (sym (append-nil es)); few = rw d (omega (arith, v .funcs)); sound = sound-nothing c s (suc m) h }
+
+-- one field is read, and the rest is joined
+joined-field : (m : ℕ) (c : Cursor) (s : Bytes) (n : ℕ) (seen : Read.Seen) (rs rest : List (Rec Identifier)) (f : FieldRec Identifier) (next : ℕ)
+    → Counts seen (c .seen) → RoomyField (room seen) f
+    → visitAt c s ≡ some (record { field = f; head-end = next; next = cursorAfter c f s next })
+    → ((es : List ℕ) → pass (suc n) (c .rec) seen false es s (c .at) ≡ pass n (c .rec + 1) (seenAfter seen (field f)) false es s next)
+    → rs ≡ field f ∷ rest
+    → (o : Onward c f s next n seen rest)
+    → Joined m (cursorAfter c f s next) s (o .later) (o .seen′) (o .rest′)
+    → Joined (suc m) c s (suc n) seen rs
+unfolding fieldsFrom endsFrom deinlineFrom fieldsHere endHere
+joined-field m c s n seen rs rest f next v k d p i o j =
+    let a : bodyIn (fieldBody f) (c .rec + 1) s next ≡ bodyOf rest = o .body in
+    let b : fieldsOf (countOf (c .seen)) f (bodyOf rest) ≡ fieldsOf (λ k. count k (seen .items)) f (bodyOf rest) = number-is seen (c .seen) f (bodyOf rest) v k in
+    let g : fieldsFrom m (cursorAfter c f s next) s ≡ deinlineFrom (c .rec + 1) (brings f ++ seen .items) rest = j .fields ∙ sym (o .fields) in
+    let x = endOf (fieldBody f) (cursorAfter c f s next) (bodyIn (fieldBody f) (c .rec + 1) s next) in
+    let l = length-append x (endsFrom m (cursorAfter c f s next) s) in
+    let e = ends-long (fieldBody f) (cursorAfter c f s next) (bodyIn (fieldBody f) (c .rec + 1) s next) in
+    record {
+      fields = rw (d, i, a, b, g);
+      ends = λ es.
+          ap (λ (z : Passed). z .ends) (p es ∙ o .passes es)
+          ∙ j .ends (es ++ x)
+          ∙ append-assoc es x (endsFrom m (cursorAfter c f s next) s)
+          ∙ rw d;
+      few = rw d (omega (arith, l, e, j .few, o .more));
+      sound = sound-met s c _ d m ∙ rw (o .whole) (j .sound);
+    }
+
+joined : (fuel : ℕ) (c : Cursor) (s : Bytes) (left : ℕ) (seen : Read.Seen) (rs : List (Rec Identifier)) → left ≤ fuel → Stands c s left seen rs
+    → Joined fuel c s left seen rs
+joined zero c s left seen rs h v = go (decLe (length s) (c .at))
+  where
+    go : Dec (length s ≤ c .at) → Joined zero c s left seen rs
+    go (yes g) = joined-end zero c s left seen rs g v
+    go (no g) = let z = some-left (c .rec) seen s (c .at) rs left (omega arith) (v .goes-on) in absurd (omega arith)
+joined (suc m) c s left seen rs h v = go (decLe (length s) (c .at)) left h v (λ c left seen rs. joined m c s left seen rs)
+  where
+    Again : Type 0
+    Again = (c : Cursor) (left : ℕ) (seen : Read.Seen) (rs : List (Rec Identifier)) → left ≤ m → Stands c s left seen rs → Joined m c s left seen rs
+
+    on : (n : ℕ) → n ≤ m → Again → c .at < length s → Stands c s (suc n) seen rs → (x : Next n (c .rec) seen s (c .at) rs)
+        → Field-read seen s (c .at) (x .rec) (x .next) → Joined (suc m) c s (suc n) seen rs
+    on n h ih g v x f =
+        let i : rs ≡ field (f .rec) ∷ x .rest = x .is ∙ ap (λ z. z ∷ x .rest) (f .is) in
+        let k = roomy (room seen) s (c .at) (f .rec) (x .next) (f .reads) in
+        let l : c .rec < 4096 = omega (arith, v .sum) in
+        let d = visit-read c s seen (f .rec) (x .next) (v .counts) l g (f .reads) in
+        let y : oneRecord seen s (c .at) ≡ got (field (f .rec)) (x .next) = x .reads ∙ ap (λ z. got z (x .next)) (f .is) in
+        let w : records n (c .rec + 1) (seenAfter seen (field (f .rec))) s (x .next) ≡ ok (x .rest) =
+        ap (λ z. records n (c .rec + 1) (seenAfter seen z) s (x .next)) (sym (f .is)) ∙ x .goes-on in
+        let t : suc n - 1 ≡ n = omega arith in
+        let o = onward-is c (f .rec) s (x .next) n seen (x .rest) (v .counts) (omega (arith, v .sum)) (field-funcs seen (v .funcs) (f .rec) k) w in
+        joined-field m c s n seen rs (x .rest) (f .rec) (x .next) (v .counts) k d
+        (λ es. pass-got (c .rec) seen false es s (c .at) (suc n) (field (f .rec)) (x .next) g (omega arith) y ∙ rw (t, append-nil))
+        i o (ih (cursorAfter c (f .rec) s (x .next)) (o .later) (o .seen′) (o .rest′) (omega (arith, o .fewer)) (o .stands))
+
+    go : Dec (length s ≤ c .at) → (left : ℕ) → left ≤ suc m → Stands c s left seen rs → Again → Joined (suc m) c s left seen rs
+    go (yes g) left h v ih = joined-end (suc m) c s left seen rs g v
+    go (no g) zero h v ih = let z = some-left (c .rec) seen s (c .at) rs zero (omega arith) (v .goes-on) in absurd (omega arith)
+    go (no g) (suc n) h v ih =
+        let l : c .at < length s = omega arith in
+        let x = accepted-next n (c .rec) seen s (c .at) rs l (v .goes-on) in
+        on n (omega arith) ih l v x (field-read seen s (c .at) (x .rec) (x .next) (v .outside) (x .reads))
+
+-- ## A whole stream
+
+stands-begin : (s : Bytes) (rs : List (Rec Identifier)) → read s ≡ ok rs → Stands begin s 4096 nothingSeen rs
+unfolding read begin nothingSeen count
+stands-begin s rs e = record { goes-on = e; outside = refl; counts = counts-none; sum = refl; funcs = omega arith }
+
+joined-begin : (s : Bytes) (rs : List (Rec Identifier)) → read s ≡ ok rs → Joined 4096 begin s 4096 nothingSeen rs
+joined-begin s rs e = joined 4096 begin s 4096 nothingSeen rs (omega arith) (stands-begin s rs e)
+
+-- the fields are the definition's
+pub fields-in : (s : Bytes) (rs : List (Rec Identifier)) → read s ≡ ok rs → fieldsIn s ≡ deinline rs
+unfolding fieldsIn fieldsAhead begin deinline nothingSeen
+fields-in s rs e = joined-begin s rs e .fields
+
+-- the ends of bodies are those that reading finds, for 256 functions at most
+pub ends-in : (s : Bytes) (rs : List (Rec Identifier)) → read s ≡ ok rs → Pass.passed s .ends ≡ endsFrom 4096 begin s
+unfolding Pass.passed begin
+ends-in s rs e = joined-begin s rs e .ends []
+
+pub ends-few : (s : Bytes) (rs : List (Rec Identifier)) → read s ≡ ok rs → length (endsFrom 4096 begin s) ≤ 512
+ends-few s rs e = omega (arith, joined-begin s rs e .few)
+
+-- nothing in it is a fault
+pub sound-in : (s : Bytes) (rs : List (Rec Identifier)) → read s ≡ ok rs → sound 4096 begin s ≡ true
+sound-in s rs e = joined-begin s rs e .sound

@@ -1,0 +1,116 @@
+-- Where an item goes, and that there is room for the items that a field brings.
+use Prim.Native.Nat.{ℕ, _+_, _*_, _≤_, _<_}
+use mathlib.Core.Path.{_≡_, sym}
+use mathlib.Core.Bool.{Bool, true, false}
+use mathlib.Core.List.{List, [], _∷_}
+use mir.Syntax.{w64}
+use mir.Val.{Fits}
+use lib.ListN.{length}
+use borrow.Author.Tests.{eq-eqb, ne-eqb}
+use native.Mathlib.Omega.{arith}
+use Rattle.definition.specs.Basic.{sameBytes, isSome}
+use Rattle.definition.specs.Syntax.{Identifier, Space, tables, mems, types, elems, datas}
+use Rattle.definition.specs.Names.{Namespace, find, taken}
+use Rattle.area.specs.Layout.{WORDS}
+use Rattle.syntax.specs.Tokens.{partOf, idOf, spaceOf}
+use Rattle.syntax.specs.declared.Part.{Part}
+use Rattle.syntax.specs.declared.Space as Kind
+use Rattle.syntax.specs.Items.{countOf}
+use Rattle.syntax.specs.declared.Seen.{Seen}
+use Rattle.syntax.specs.declared.Extern.{Extern}
+use Rattle.syntax.specs.declared.Own.{Own}
+use Rattle.syntax.specs.declared.Source.{Source}
+use Rattle.syntax.specs.declared.Source.the-variants as S
+use Rattle.syntax.specs.declared.List as Code
+use Rattle.syntax.specs.declared.Field.{Field}
+use Rattle.syntax.specs.declared.Field.the-variants as F
+use Rattle.counting.specs.Counting.{oneMore, externSpaceOf, ownSpaceOf}
+use Rattle.name_table.specs.Area.{found}
+use Rattle.name_table.specs.declared.table.Found.{Found}
+use Rattle.name_table.specs.declared.table.Found.the-variants as X
+use Rattle.name_table.proofs.Tables.{base-low}
+use Rattle.registration.specs.Register.{Entry, nameless, sourceItems, brought, Fit}
+use Rattle.name_table.specs.Tables.{base}
+
+-- ## Is an identifier taken?
+
+module _ (s : List ℕ) (p : Part) (ns : Namespace Identifier) where
+  -- none is not
+  pub taken-none : p .len ≡ 0 → false ≡ taken sameBytes (idOf s p) ns
+  unfolding taken
+  taken-none e = sym (rw (eq-eqb _ _ e))
+
+  module _ (name : List ℕ) (q : Found) (h : p .len ≡ 0 → ⊥) (b : name ≡ partOf s p) (told : find sameBytes name ns ≡ found q) where
+    pub taken-found : (k : ℕ) → q ≡ X.At k → true ≡ taken sameBytes (idOf s p) ns
+    unfolding taken isSome
+    taken-found k e = sym (rw (ne-eqb _ _ h, ← b, told, e))
+
+    pub taken-not : q ≡ X.Nothing → false ≡ taken sameBytes (idOf s p) ns
+    unfolding taken isSome
+    taken-not e = sym (rw (ne-eqb _ _ h, ← b, told, e))
+
+pub ruleset takens = (taken-none, taken-found, taken-not)
+
+-- ## One item
+
+module _ (s w : List ℕ) (seen : Seen) (k : Space) (p : Part) (r b n : ℕ) (d : b ≡ base k) (e : n ≡ countOf seen k) where
+  module _ (low : countOf seen k < 256) (long : WORDS ≤ length w) where
+    -- its table lies in the area
+    pub item-table : b + 3 * n ≤ length w
+    item-table = omega (arith, base-low k)
+
+    -- and so does its entry
+    pub item-entry : b + 3 * n + 2 < length w
+    item-entry = omega (arith, base-low k)
+
+  pub item-place : countOf seen k < 256 → Fits w64 (b + 3 * n)
+  item-place low = record { fits = omega (arith, base-low k) }
+
+-- ## Room for what a field brings
+
+module _ (seen : Seen) where
+  pub fit-first : (j : Space) (a : Part) (ps : List Entry) → Fit seen ((j, a) ∷ ps) → countOf seen j < 256
+  unfolding Fit
+  fit-first j a ps h = h .0
+
+  pub fit-second : (j k : Space) (a b : Part) → Fit seen ((j, a) ∷ (k, b) ∷ []) → (m : Seen) → m ≡ oneMore seen j → countOf m k < 256
+  unfolding Fit
+  fit-second j k a b h m e = rw e (h .1 .0)
+
+module _ (seen : Seen) (i : Part) (x : Source) (h : Fit seen (sourceItems i x)) (j : Kind.Space) where
+  pub fit-own : (o : Own) → x ≡ S.Own o → j ≡ ownSpaceOf o → countOf seen (spaceOf j) < 256
+  unfolding Fit
+  fit-own o d e = rw e ((rw d at h) .0)
+
+  pub fit-imported : (n : _) (y : Extern) → x ≡ S.Imported n y → j ≡ externSpaceOf y → countOf seen (spaceOf j) < 256
+  unfolding Fit
+  fit-imported n y d e = rw e ((rw d at h) .0)
+
+module _ (seen : Seen) (i : Part) (x : Source) (h : Fit seen (sourceItems i x)) where
+  pub fit-table : (wide : Bool) (xs : Code.List) → x ≡ S.TableOf wide xs → Fit seen ((elems, nameless) ∷ (tables, i) ∷ [])
+  fit-table wide xs d = rw d at h
+
+  pub fit-mem : (wide : Bool) (b : Part) → x ≡ S.MemOf wide b → Fit seen ((datas, nameless) ∷ (mems, i) ∷ [])
+  fit-mem wide b d = rw d at h
+
+module _ (seen : Seen) (f : Field) (h : Fit seen (brought f)) where
+  pub fit-type : (i : Part) (ps rs : Code.List) → f ≡ F.Type i ps rs → countOf seen types < 256
+  unfolding Fit
+  fit-type i ps rs d = (rw d at h) .0
+
+  pub fit-import : (n : _) (i : Part) (x : Extern) (j : Kind.Space) → f ≡ F.Import n i x → j ≡ externSpaceOf x → countOf seen (spaceOf j) < 256
+  unfolding Fit
+  fit-import n i x j d e = rw e ((rw d at h) .0)
+
+  pub fit-item : (i : Part) (es : Code.List) (x : Source) → f ≡ F.Item i es x → Fit seen (sourceItems i x)
+  fit-item i es x d = rw d at h
+
+  pub fit-elem : (i : Part) (m : _) (xs : Code.List) → f ≡ F.Elem i m xs → countOf seen elems < 256
+  unfolding Fit
+  fit-elem i m xs d = (rw d at h) .0
+
+  pub fit-data : (i : Part) (m : _) (b : Part) → f ≡ F.Data i m b → countOf seen datas < 256
+  unfolding Fit
+  fit-data i m b d = (rw d at h) .0
+
+pub ruleset fits = (fit-first, fit-second, fit-own, fit-imported, fit-table, fit-mem, fit-type, fit-import, fit-item, fit-elem, fit-data)

@@ -1,0 +1,4 @@
+pub mod Counts
+pub mod Items
+pub mod Puts
+pub mod Tables

@@ -1,0 +1,3 @@
+pub mod Checking
+pub mod Functions
+pub mod Sweep

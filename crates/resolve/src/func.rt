@@ -1,0 +1,121 @@
+// An own function: its type is resolved once, for its entry in the function section and for its code.
+use binary::Emitted;
+use kept::Verdict;
+use scope::TypeAt;
+use syntax::List;
+use syntax::Own;
+use syntax::Source;
+use syntax::TypeNo;
+use syntax::TypeUse;
+ghost use mathlib.Core.Path.{_≡_};
+ghost use Rattle.area.specs.Lent.{At};
+ghost use Rattle.syntax.specs.Resolved.{typeNoOf};
+ghost use Rattle.scope.specs.Scope.{scopeIn};
+ghost use Rattle.deinline.specs.Entry.{both, entryIn};
+ghost use Rattle.syntax.specs.declared.Entry.the-variants as E;
+ghost use Rattle.kept.specs.Tally.{Twelve, Ready, Tallied, ChecksIn, tallyOf, checkedOf};
+ghost use Rattle.resolve.specs.Func.{funcIn, typeEntry, codeEntry, KeepsCode};
+
+// An own function, or any other item.
+pub enum FuncIn {
+    Func(TypeUse, List),
+    Other,
+}
+
+pub fn func_in(x: Source) -> FuncIn
+    ensures { λ r. ⌜ r ≡ funcIn x ⌝ }
+{
+    match x {
+        Source::Own(o) => match o {
+            Own::Func(t, ls) => FuncIn::Func(t, ls),
+            Own::Table(_) => FuncIn::Other,
+            Own::Mem(_) => FuncIn::Other,
+            Own::Global(_, _) => FuncIn::Other,
+        },
+        Source::Imported(_, _) => FuncIn::Other,
+        Source::TableOf(_, _) => FuncIn::Other,
+        Source::MemOf(_, _) => FuncIn::Other,
+    }
+}
+
+// The number of its type, in the function section's part.
+fn keep_type_no(kept: &mut [u8], sizes: &mut [u64], counts: &mut [u64], n: TypeNo)
+    requires { ⌜ Twelve (tallyOf (now sizes) (now counts)) ⌝ }
+    ensures { λ r. ⌜ Tallied (typeEntry (typeNoOf n)) (tallyOf (now (sizes .entry)) (now (counts .entry))) (now (kept .entry)) (tallyOf (now (sizes .exit)) (now (counts .exit))) (now (kept .exit)) ⌝ }
+{
+    let from = sizes[3] as usize;
+    let a = kept::start_of(kept.len(), 3);
+    let b = kept::start_of(kept.len(), 4);
+    let to = binary::put_type_no(&mut kept[a..b], from, n);
+    kept::reach_in(sizes, counts, 3, to, 1);
+}
+
+// Its code, in the code section's part, after the bytes that are there; the number of its type is known.
+fn keep_code(
+    s: &[u8],
+    work: &mut [u32],
+    kept: &mut [u8],
+    from: usize,
+    n: TypeNo,
+    t: TypeUse,
+    ls: List,
+    here: usize,
+    rec: u32,
+) -> Emitted
+    requires { ⌜ At (now s) (now work) rec × Ready (now s) (now work) rec (E.Code t ls here) ⌝ }
+    ensures { λ r. ⌜ KeepsCode (now (s .entry)) (now (work .entry)) rec (typeNoOf n) t ls here (now (kept .entry)) from r (now (work .exit)) (now (kept .exit)) ⌝ }
+{
+    let a = kept::start_of(kept.len(), 10);
+    let b = kept::start_of(kept.len(), 11);
+    function::emit_typed(s, work, &mut kept[a..b], from, n, t, ls, here, rec)
+}
+
+// It is kept, and tallied.
+fn check_code(
+    s: &[u8],
+    work: &mut [u32],
+    kept: &mut [u8],
+    sizes: &mut [u64],
+    counts: &mut [u64],
+    n: TypeNo,
+    t: TypeUse,
+    ls: List,
+    here: usize,
+    rec: u32,
+) -> Verdict
+    requires { ⌜ At (now s) (now work) rec × Ready (now s) (now work) rec (E.Code t ls here) × Twelve (tallyOf (now sizes) (now counts)) ⌝ }
+    ensures { λ r. ⌜ ChecksIn (codeEntry (now (s .entry)) (now (work .entry)) rec (typeNoOf n) t ls here) (tallyOf (now (sizes .entry)) (now (counts .entry))) (now (work .entry)) (now (kept .entry)) (checkedOf (now (sizes .exit)) (now (counts .exit)) r) (now (work .exit)) (now (kept .exit)) ⌝ }
+{
+    let from = sizes[10] as usize;
+    match keep_code(s, work, kept, from, n, t, ls, here, rec) {
+        Emitted::To(to) => {
+            kept::reach_in(sizes, counts, 10, to, 1);
+            Verdict::Fine
+        }
+        Emitted::Refused(q) => Verdict::Refused(q),
+    }
+}
+
+// Both, of a function whose body begins at `here`.
+pub fn check_func(
+    s: &[u8],
+    work: &mut [u32],
+    kept: &mut [u8],
+    sizes: &mut [u64],
+    counts: &mut [u64],
+    t: TypeUse,
+    ls: List,
+    here: usize,
+    rec: u32,
+) -> Verdict
+    requires { ⌜ At (now s) (now work) rec × Ready (now s) (now work) rec (E.Func t) × Ready (now s) (now work) rec (E.Code t ls here) × Twelve (tallyOf (now sizes) (now counts)) ⌝ }
+    ensures { λ r. ⌜ ChecksIn (both (entryIn (scopeIn (now (s .entry)) (now (work .entry))) (now (s .entry)) rec (E.Func t)) (entryIn (scopeIn (now (s .entry)) (now (work .entry))) (now (s .entry)) rec (E.Code t ls here))) (tallyOf (now (sizes .entry)) (now (counts .entry))) (now (work .entry)) (now (kept .entry)) (checkedOf (now (sizes .exit)) (now (counts .exit)) r) (now (work .exit)) (now (kept .exit)) ⌝ }
+{
+    match scope::type_no(s, work, t, rec) {
+        TypeAt::To(n) => {
+            keep_type_no(kept, sizes, counts, n);
+            check_code(s, work, kept, sizes, counts, n, t, ls, here, rec)
+        }
+        TypeAt::Refused(q) => Verdict::Refused(q),
+    }
+}

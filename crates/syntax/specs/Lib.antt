@@ -1,0 +1,10 @@
+pub mod CoreTypes
+pub mod Fields
+pub mod Instructions
+pub mod Items
+pub mod Numbers
+pub mod Plain
+pub mod Refusals
+pub mod Resolved
+pub mod Tokens
+pub mod TypeUses

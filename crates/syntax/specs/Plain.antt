@@ -1,0 +1,50 @@
+-- What the answers of the readers mean.
+use mathlib.Core.List.{[], _∷_}
+use Rattle.definition.specs.Syntax as Syntax
+use Rattle.definition.specs.Syntax.{Bytes, Identifier, nothing, label, labels, local, item, access, int32, int64, raw}
+use Rattle.definition.specs.Reader.{Step, got, fault}
+use Rattle.definition.specs.Token as Token
+use Rattle.definition.specs.Instructions as Instructions
+use Rattle.syntax.specs.Tokens.{partOf, spaceOf, indexOf}
+use Rattle.syntax.specs.TypeUses.{listOf}
+use Rattle.syntax.specs.declared.Operand.{Operand}
+use Rattle.syntax.specs.declared.Operand.the-variants as O
+use Rattle.syntax.specs.declared.Plain.{Plain}
+use Rattle.syntax.specs.declared.PlainAt.{PlainAt}
+use Rattle.syntax.specs.declared.PlainAt.the-variants as PA
+use Rattle.syntax.specs.declared.Operands.{Operands}
+use Rattle.syntax.specs.declared.Operands.the-variants as W
+
+abbrev pub operandOf : Bytes → Operand → Syntax.Operand Identifier
+operandOf s O.Nothing = nothing
+operandOf s (O.Label x) = label (indexOf s x)
+operandOf s (O.Labels xs x) = labels (listOf Token.present s xs) (indexOf s x)
+operandOf s (O.Local x) = local (indexOf s x)
+operandOf s (O.Item k x) = item (spaceOf k) (indexOf s x)
+operandOf s (O.Access e o x) = access e o (indexOf s x)
+operandOf s (O.Int32 n) = int32 n
+operandOf s (O.Int64 n) = int64 n
+operandOf s (O.Raw p) = raw (partOf s p)
+operandOf s (O.Heap t) = raw (t ∷ [])
+
+abbrev pub plainIs : Bytes → Plain → Syntax.Plain Identifier
+plainIs s p = record { opcode = p .opcode; operand = operandOf s (p .operand) }
+
+abbrev pub plainAt : Bytes → PlainAt → Step (Syntax.Plain Identifier)
+plainAt s (PA.Got p next) = got (plainIs s p) next
+plainAt s (PA.Fault n) = fault n
+
+abbrev pub operandsIs : Operands → Instructions.Operands
+operandsIs W.Bare = Instructions.bare
+operandsIs W.LabelIdx = Instructions.labelidx
+operandsIs W.LabelIdxs = Instructions.labelidxs
+operandsIs W.LocalIdx = Instructions.localidx
+operandsIs W.FuncIdx = Instructions.funcidx
+operandsIs W.GlobalIdx = Instructions.globalidx
+operandsIs W.MemIdx = Instructions.memidx
+operandsIs W.MemArg = Instructions.memarg
+operandsIs W.I32 = Instructions.i32
+operandsIs W.I64 = Instructions.i64
+operandsIs W.F32 = Instructions.f32
+operandsIs W.F64 = Instructions.f64
+operandsIs W.HeapType = Instructions.heaptype

@@ -1,0 +1,172 @@
+-- What the table of types says. Total, like the tables of names: a list ends where its count does, or at the first type that is not read.
+use Prim.Native.Nat.{ℕ, zero, suc, _+_, _-_, _*_, _≤_, _<_, min}
+use mathlib.Core.Path.{_≡_}
+use mathlib.Core.List.{List, [], _∷_, _++_, map}
+use mathlib.Core.Bool.{Bool, true, false}
+use mathlib.Core.Option.{Option, none, some}
+use lib.ListN.{length, getD, set, drop}
+use lib.Dec.{eqb}
+use Rattle.definition.specs.Basic.{if_then_else_, Answer, ok, refused, sameBytes}
+use Rattle.definition.specs.Syntax.{Bytes, ValType, FuncType}
+use Rattle.definition.specs.Reader.{Reader, _>>=_, give}
+use Rattle.definition.specs.Token.{param, valType}
+use Rattle.definition.specs.Types.{Uses, takeOrAdd, typeAt, typeNumber, sameType, signature}
+use Rattle.syntax.specs.Refusals.{refusedBy}
+use Rattle.syntax.specs.declared.Refusal.{Refusal}
+use Rattle.area.specs.Layout.{TOTAL, TYPES, USES}
+use Rattle.syntax.specs.TypeUses.{elements, listOf, useOf}
+use Rattle.syntax.specs.declared.List as Code
+use Rattle.syntax.specs.declared.TypeUse.{TypeUse}
+use Rattle.area.specs.Kept.{Kept}
+use Rattle.type_table.specs.declared.list.NextType.{NextType}
+use Rattle.type_table.specs.declared.list.NextType.the-variants as N
+use Rattle.type_table.specs.declared.list.NextBoth.{NextBoth}
+use Rattle.type_table.specs.declared.list.NextBoth.the-variants as B
+use Rattle.type_table.specs.declared.entry.Signature.{Signature}
+use Rattle.type_table.specs.declared.entry.NextStep.{NextStep}
+use Rattle.type_table.specs.declared.entry.NextStep.the-variants as P
+use Rattle.type_table.specs.declared.table.TypeFound.{TypeFound}
+use Rattle.type_table.specs.declared.table.TypeFound.the-variants as T
+use Rattle.type_table.specs.declared.table.Interned.{Interned}
+use Rattle.type_table.specs.declared.table.Interned.the-variants as I
+use Rattle.type_table.specs.declared.table.Agreement.{Agreement}
+use Rattle.type_table.specs.declared.table.Agreement.the-variants as A
+
+-- ## Lists of value types
+
+-- the value types of a list of parameters, or of one of types
+unfoldable pub typesOf : Bool → Bytes → Code.List → List ValType
+typesOf true s l = map (λ p. p .type) (listOf param s l)
+typesOf false s l = listOf valType s l
+
+-- one of them: after an identifier or not
+abbrev pub typed : Bool → Reader ValType
+typed true = param >>= λ p. give (p .type)
+typed false = valType
+
+-- the types of which the next was read
+abbrev pub typesNext : Bool → ℕ → Bytes → NextType → List ValType
+typesNext named left s (N.Type t next) = t ∷ elements (typed named) s next (left - 1)
+typesNext named left s N.End = []
+
+-- whether two lists are equal, after their next types were compared: what is left of both decides
+abbrev pub bothSame : Bytes → Bool → Bool → NextBoth → Bool
+bothSame s named other (B.Same a b) = sameBytes (typesOf named s a) (typesOf other s b)
+bothSame s named other B.Differ = false
+bothSame s named other B.End = true
+
+-- fewer types are left than so many
+abbrev pub BothFewer : NextBoth → ℕ → Type 0
+BothFewer (B.Same a b) n = a .count < n
+BothFewer B.Differ n = Unit {0}
+BothFewer B.End n = Unit {0}
+
+-- two lists, one type further in step
+pub record Both (s : Bytes) (named : Bool) (a : Code.List) (other : Bool) (b : Code.List) (r : NextBoth) : Type 0 where
+  pub same : sameBytes (typesOf named s a) (typesOf other s b) ≡ bothSame s named other r
+  pub fewer : BothFewer r (a .count)
+
+-- ## Signatures
+
+unfoldable pub signatureOf : Bytes → Signature → FuncType
+signatureOf s x = record { params = typesOf (x .named) s (x .params); results = typesOf false s (x .results) }
+
+-- how many types it has at most
+abbrev pub size : Signature → ℕ
+size x = x .params .count + x .results .count
+
+-- whether two signatures are equal, after their next types were compared
+abbrev pub stepSame : Bytes → NextStep → Bool
+stepSame s (P.Same a b) = sameType (signatureOf s a) (signatureOf s b)
+stepSame s P.Differ = false
+stepSame s P.End = true
+
+-- fewer types are left than so many
+abbrev pub StepFewer : NextStep → ℕ → Type 0
+StepFewer (P.Same a b) n = size a < n
+StepFewer P.Differ n = Unit {0}
+StepFewer P.End n = Unit {0}
+
+-- two signatures, one type further in step
+pub record Steps (s : Bytes) (a b : Signature) (r : NextStep) : Type 0 where
+  pub same : sameType (signatureOf s a) (signatureOf s b) ≡ stepSame s r
+  pub fewer : StepFewer r (size a)
+
+-- identifiers stand before the parameters of a use
+abbrev pub ofUse : TypeUse → Signature
+ofUse t = record { named = true; params = t .params; results = t .results }
+
+-- the list whose place and count stand at a place of the work area
+abbrev pub listIn : List ℕ → ℕ → Code.List
+listIn w at = record { at = getD w at 0; count = getD w (at + 1) 0 }
+
+-- the entry at a place of the work area
+unfoldable pub entryIn : List ℕ → ℕ → Signature
+entryIn w at = record { named = eqb (getD w at 0) 1; params = listIn w (at + 1); results = listIn w (at + 3) }
+
+-- so many entries, the first at a place
+unfoldable pub typeTable : ℕ → Bytes → List ℕ → ℕ → List FuncType
+typeTable zero s w at = []
+typeTable (suc n) s w at = signatureOf s (entryIn w at) ∷ typeTable n s w (at + 5)
+
+-- all types of the work area
+unfoldable pub typesIn : Bytes → List ℕ → List FuncType
+typesIn s w = typeTable (min (getD w TOTAL 0) 256) s w TYPES
+
+abbrev pub numberOf : TypeFound → Option ℕ
+numberOf (T.Number n) = some n
+numberOf T.Nothing = none
+
+-- what the comparison of a signature with the type that an index names says
+abbrev pub agreeing : FuncType → Option FuncType → Agreement
+agreeing t none = A.NoType
+agreeing t (some u) = if sameType t u then A.Same else A.Differs
+
+-- ## One more type
+
+abbrev pub flagOf : Bool → ℕ
+flagOf true = 1
+flagOf false = 0
+
+unfoldable pub listWords : Bytes → List ℕ → ℕ → Code.List → List ℕ
+listWords s w at l = set (set w at (min (l .at) (length s))) (at + 1) (l .count)
+
+unfoldable pub typeWords : Bytes → List ℕ → ℕ → Signature → List ℕ
+typeWords s w at x = listWords s (listWords s (set w at (flagOf (x .named))) (at + 1) (x .params)) (at + 3) (x .results)
+
+-- of `w` was made `w′`, and only the words from `low` up to `high` may differ
+pub record Inside (low high : ℕ) (w w′ : List ℕ) : Type 0 where
+  pub kept : Kept low w w′
+  pub above : drop high w′ ≡ drop high w
+
+-- a signature was added to `count` types
+pub record Adds (s : Bytes) (w : List ℕ) (count : ℕ) (x : Signature) (w′ : List ℕ) : Type 0 where
+  pub types : typeTable (count + 1) s w′ TYPES ≡ typeTable count s w TYPES ++ (signatureOf s x ∷ [])
+  pub inside : Inside (TYPES + 5 * count) USES w w′
+
+-- what the definition makes of one more use
+abbrev pub interning : Bytes → List ℕ → ℕ → TypeUse → ℕ → Answer (List FuncType)
+interning s w count t r = takeOrAdd r (signature (useOf s t)) (typeTable count s w TYPES) (typeAt (signature (useOf s t)) (typeTable count s w TYPES))
+
+-- it took or added a type: that type's number is `n`, and there are `k` now
+pub record Taken (s : Bytes) (w : List ℕ) (count : ℕ) (t : TypeUse) (r n k : ℕ) (w′ : List ℕ) : Type 0 where
+  pub types : interning s w count t r ≡ ok (typeTable k s w′ TYPES)
+  pub number : typeAt (signature (useOf s t)) (typeTable k s w′ TYPES) ≡ some n
+  pub few : k ≤ 256
+  pub inside : Inside (TYPES + 5 * count) USES w w′
+
+-- it was refused, and the work area is as it was
+pub record Denied (s : Bytes) (w : List ℕ) (count : ℕ) (t : TypeUse) (r : ℕ) (q : Refusal) (w′ : List ℕ) : Type 0 where
+  pub says : interning s w count t r ≡ refusedBy q
+  pub area : w′ ≡ w
+
+unfoldable pub Interns : Bytes → List ℕ → ℕ → TypeUse → ℕ → Interned → List ℕ → Type 0
+Interns s w count t r (I.Number n k) w′ = Taken s w count t r n k w′
+Interns s w count t r (I.Refused q) w′ = Denied s w count t r q w′
+
+-- ## Numbers of uses
+
+-- each use is of one of 4,096 records, and its number stands in the word of its record
+unfoldable pub Recalled : List ℕ → List FuncType → Uses → Type 0
+Recalled w ts [] = Unit {0}
+Recalled w ts ((r, t) ∷ us) = (r < 4096) × (getD w (USES + r) 0 ≡ typeNumber t ts) × Recalled w ts us

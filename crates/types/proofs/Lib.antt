@@ -1,4 +1,0 @@
-pub mod Bodies
-pub mod Declares
-pub mod Fields
-pub mod Room

@@ -1,2 +1,0 @@
-pub mod Handled
-pub mod Takes
