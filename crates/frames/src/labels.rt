@@ -1,4 +1,4 @@
-// The labels of the open blocks, the outermost at word 11920.
+// The labels of the open blocks, from `LABELS` on, the outermost first.
 use syntax::Part;
 ghost use Prim.Native.Nat.{_<_};
 ghost use Rattle.area.specs.Lent.{Lent};

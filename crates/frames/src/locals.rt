@@ -1,4 +1,4 @@
-// The locals of a function: its parameters and then its locals, from word 11536 on. They were read before, so of their names only the
+// The locals of a function: its parameters and then its locals, from `LOCALS` on. They were read before, so of their names only the
 // lengths are looked at.
 use scope::Locals;
 use syntax::List;

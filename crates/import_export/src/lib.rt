@@ -1,5 +1,5 @@
-// The entries of the sections: each emitter resolves what it has to, and then puts its bytes. On an empty part it only
-// checks, and measures.
+// The entries of types, imports, globals, exports and the start: each emitter resolves what it has to, and then puts its bytes. On an
+// empty part it only checks, and measures.
 pub mod export;
 pub mod global;
 pub mod import;

@@ -1,4 +1,4 @@
-// What the field records of document 01 say, and the readers of types, imports and items.
+// The field records of types, imports and items, and what they share with the others.
 pub mod export;
 pub mod item;
 pub mod segment;

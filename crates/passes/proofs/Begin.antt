@@ -29,7 +29,7 @@ drop-sets : (n i : ℕ) (l vs : List ℕ) → i + length vs ≤ n → drop n (se
 drop-sets n i l [] h = refl
 drop-sets n i l (v ∷ vs) h = drop-sets n (suc i) (set l i v) vs (omega arith) ∙ drop-set-lt n l i v (omega arith)
 
--- the words 8 to 519
+-- the words from 8 up to `TYPES`
 middle : (l : List ℕ) → 8 ≤ length l → drop 8 (take TYPES l) ≡ take 512 (drop 8 l)
 middle l h = ap (drop 8) (take-add 8 512 l) ∙ drop-at (take 8 l) (take 512 (drop 8 l)) 8 (length-take-le 8 l h)
 
@@ -53,7 +53,7 @@ area-is s w rs e =
     let b : take 512 (passed s .ends) ≡ endsFrom 4096 begin s = ap (take 512) (ends-in s rs e) ∙ take-all 512 (endsFrom 4096 begin s) (ends-few s rs e) in
     rw (a, b)
 
--- its words 8 to 519 begin with the ends
+-- its words from 8 up to `TYPES` begin with the ends
 module _ (s : Bytes) (w : List ℕ) (l : WORDS ≤ length w) (es cs : List ℕ) (few : length es ≤ 512) (seven : length cs ≡ 7) where
   words-are : drop 8 (take TYPES (sets (sets w 8 es) 0 cs)) ≡ es ++ take (512 - length es) (drop (8 + length es) w)
   words-are =

@@ -79,7 +79,7 @@ module _ (w : List ℕ) (ts : List FuncType) where
   recalled-kept w′ m ((r, t) ∷ us) k h u =
       let low = u .0 in (low, kept-word k (USES + r) (omega arith) ∙ u .1, recalled-kept w′ m us k h (u .2))
 
--- and with the types, whose count stands in word 5896
+-- and with the types, whose count stands at `TOTAL`
 pub recalled-scope : (s w w′ : List ℕ) (us : Uses) → Kept UNUSED w w′ → Recalled w (typesIn s w) us → Recalled w′ (typesIn s w′) us
 recalled-scope s w w′ us k u = rw (types-kept s w w′ UNUSED k (omega arith)) (recalled-kept w (typesIn s w) w′ UNUSED us k (omega arith) u)
 

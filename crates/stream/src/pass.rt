@@ -23,7 +23,7 @@ pub enum Count {
     Refused(Refusal),
 }
 
-// The second word of a body's end: the record after it, and 8,192 more where the body may use a type.
+// The second word of a body's end: the record after it, and `MARK` more where the body may use a type.
 fn end_word(rec: u32, used: bool) -> u32
     requires { ⌜ rec ≤ 4096 ⌝ }
     ensures { λ r. ⌜ r ≡ endWord rec used ⌝ }

@@ -144,9 +144,9 @@ fn survey_fields(s: &[u8], work: &mut [u32], declared: u32) -> Ended
     }
 }
 
-// The types of uses after the declared ones, and all names. Word 5896 says how many types there are then, and the word of each record
-// that has a use without an index that use's number. The order of imports comes first over the whole stream, then the types, then the
-// names: where one of the later rules refuses, the fields ahead are asked for an earlier one.
+// The types of uses after the declared ones, and all names. The word `TOTAL` says how many types there are then, and the word of
+// each record that has a use without an index that use's number. The order of imports comes first over the whole stream, then the
+// types, then the names: where one of the later rules refuses, the fields ahead are asked for an earlier one.
 pub fn survey_all(s: &[u8], work: &mut [u32], declared: u32) -> Surveyed
     requires { ⌜ Lent (now s) (now work) × (declared ≤ 256) × Ahead (now s) (now work) begin × (typeTable declared (now s) (now work) TYPES ≡ Types.declared (fieldsIn (now s))) ⌝ }
     ensures { λ r. ⌜ Surveys (now (s .entry)) (now (work .entry)) r (now (work .exit)) ⌝ }

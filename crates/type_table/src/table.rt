@@ -1,4 +1,4 @@
-// The table of types: 256 at most, from word 520 on; word 5896 says how many.
+// The table of types: 256 at most, from `TYPES` on; the word `TOTAL` says how many.
 use crate::entry::NextStep;
 use crate::entry::Signature;
 use crate::entry::next_step;

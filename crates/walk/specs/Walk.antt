@@ -171,7 +171,7 @@ pub record Begins (xs ys : List ℕ) : Type 0 where
   pub rest : List ℕ
   pub is : ys ≡ xs ++ rest
 
--- the words 8 to 519 of the work area hold the ends that are still ahead, and nothing ahead is a fault
+-- the words from 8 up to `TYPES` of the work area hold the ends that are still ahead, and nothing ahead is a fault
 pub record Ahead (s : Bytes) (w : List ℕ) (c : Cursor) : Type 0 where
   pub ends : Begins (endsFrom (c .left) c s) (drop (8 + 2 * c .own) (take TYPES w))
   pub few : c .own + c .left ≤ 4096
