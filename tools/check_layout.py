@@ -86,8 +86,8 @@ def faults():
     for name in sorted(code.keys() - {'WORDS', 'BYTES', 'TABLE', 'MARK'} | told.keys()):
         if code.get(name) != told.get(name):
             yield '%s is %s in %s and %s in %s' % (name, code.get(name), CODE, told.get(name), TABLE)
-    if code['NAMES'] + 7 * code['TABLE'] != code['UNUSED']:
-        yield 'seven tables of %d words do not end at UNUSED' % code['TABLE']
+    if code.get('NAMES', 0) + 7 * code.get('TABLE', 0) != code.get('UNUSED'):
+        yield '%s: seven times TABLE from NAMES on does not end at UNUSED' % CODE
     numbers = re.compile(r"(?<![\w'.])(%s)(?![\w'])" % '|'.join(str(n) for n in sorted(set(code.values()))))
     for folder, _, files in sorted(os.walk(os.path.join(ROOT, 'crates'))):
         for file in sorted(files):
