@@ -5,7 +5,7 @@ usage: make.py [--check] [--program PROGRAM] [--oracle PROGRAM]
 
 Writes notice.stream from the description below, notice.md (the stream record
 by record, as tools/account.py reads it back) and notice.wasm, assembled by the
-program; target/bin/assemble if no other is named. tools/model.py, and the
+program; target/bin/assemble if no other is named. tools/models/model.py, and the
 oracle where it is named, must give the same module. With --check nothing is
 written, and the exit status is 1 if a stored file is not what would be written.
 """
@@ -16,13 +16,13 @@ import sys
 
 HERE = os.path.dirname(os.path.abspath(__file__))
 sys.path.insert(0, os.path.join(HERE, '..', 'tools'))
-
+import paths
 import account
 import model
 from records import (access, block, code, const, else_, end, export, func, global_, i32, if_, import_, inline_memory,
                      loop, type, use)
 
-PROGRAM = os.path.join(HERE, '..', 'target', 'bin', 'assemble')
+PROGRAM = os.path.join(paths.ROOT, 'target', 'bin', 'assemble')
 
 # ---- the text, and where its parts stand in memory ----
 
@@ -112,7 +112,7 @@ def judged(oracle, stream):
 
 def differing(stream, module, oracle):
     """Who gives another module than the program."""
-    others = {'tools/model.py': model.assemble(stream)[1]}
+    others = {'tools/models/model.py': model.assemble(stream)[1]}
     if oracle:
         others[oracle] = judged(oracle, stream)
     return [name for name, other in others.items() if other != module]

@@ -11,11 +11,11 @@ refusal (docs/REFUSALS.md).
 import struct
 import sys
 
+import paths
 import model
 import reading_model
 import records
-from reading_model import BODY_END
-from shrink import record_starts
+from reading_model import BODY_END, record_starts
 
 WIDTH = 16              # bytes on a line
 LEFT = 4 * WIDTH        # bytes that are shown after a fault

@@ -1,5 +1,5 @@
 #!/bin/sh
-# Installs the outside tools that tools/run_modules.py uses and that are
+# Installs the outside tools that tools/compare/run_modules.py uses and that are
 # missing: wabt (wasm-validate, wasm-interp) and node, both from Debian. The
 # gate needs none of them.
 set -eu

@@ -10,7 +10,7 @@ streams=${1:-5000}
 crate=bindings/rust
 library=${BARRIZUPPA_STATICLIB:-target/staticlib}/libassembler.a
 
-python3 tools/check_stream.py
+python3 tools/compare/check_stream.py
 
 (
     cd $crate
@@ -19,7 +19,7 @@ python3 tools/check_stream.py
     cargo test --quiet --no-default-features
     cargo build --quiet --release --no-default-features --example accounts
 )
-python3 tools/check_users.py --streams "$streams" --program $crate/target/release/examples/accounts
+python3 tools/compare/check_users.py --streams "$streams" --program $crate/target/release/examples/accounts
 
 if [ ! -f "$library" ]; then
     echo "test_users.sh: $library is not there, so what calls the assembler was not tested" >&2

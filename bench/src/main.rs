@@ -1,15 +1,17 @@
 //! Measures the proved code beside plain Rust that does the same job.
 //!
 //!   bench JOB [ROUNDS]              all rivals agree on all inputs; ns per byte of each
-//!   bench JOB --batch plain|proved  reads the batch form of tools/reading_model.py, and
-//!                                   prints a line for each stream
-//!   bench --streams SIZE            the streams of a size as oracle --time reads them
+//!   bench JOB --batch plain|proved  reads streams in the batch form (tools/models/batch.rs),
+//!                                   and prints a line for each
+//!   bench --streams SIZE            the streams of a size in that form, for oracle --time
 //!
 //! JOB is `reading` (the reading pass alone) or `assembling` (the whole call).
 //! In a round each rival goes over ALL bytes of different streams of a size, more
 //! than a branch predictor learns by heart, in turn, in one process. Of each
 //! stream the best round counts. What is lent is made once and not cleared
 //! between calls.
+#[path = "../../tools/models/batch.rs"]
+mod batch;
 mod plain;
 #[cfg(feature = "proved")]
 mod proved;
@@ -50,30 +52,23 @@ fn line(rival: &mut dyn Rival, stream: &[u8]) -> String {
     }
 }
 
-/// A line for each stream of a set; stops where the set is broken.
-fn batch(rival: &mut dyn Rival) -> std::io::Result<()> {
+/// A line for each stream of a batch.
+fn answer(rival: &mut dyn Rival) -> std::io::Result<()> {
     let mut set = Vec::new();
     std::io::stdin().read_to_end(&mut set)?;
     let mut out = std::io::BufWriter::new(std::io::stdout());
-    let mut rest = &set[..];
-    while !rest.is_empty() {
-        let groups = rest.iter().take(5).take_while(|&&byte| byte >= 0x80).count() + 1;
-        let length = rest.iter().take(groups).rev().fold(0, |sum, &byte| sum << 7 | (byte & 0x7F) as usize);
-        if groups > 5 || length > 1 << 24 || groups + length > rest.len() {
-            return Err(std::io::Error::other("the set is broken"));
-        }
-        writeln!(out, "{}", line(rival, &rest[groups..groups + length]))?;
-        rest = &rest[groups + length..];
+    let streams = batch::unpack(&set).ok_or_else(|| std::io::Error::other("the batch is broken"))?;
+    for stream in streams {
+        writeln!(out, "{}", line(rival, stream))?;
     }
     Ok(())
 }
 
-/// Each stream after its length in 4 bytes, low first.
+/// The streams of a size as a batch.
 fn print_streams(size: usize) -> std::io::Result<()> {
     let mut out = std::io::stdout().lock();
     for stream in streams(size) {
-        out.write_all(&(stream.len() as u32).to_le_bytes())?;
-        out.write_all(&stream)?;
+        out.write_all(&batch::pack(&stream))?;
     }
     Ok(())
 }
@@ -157,7 +152,7 @@ fn main() -> std::io::Result<()> {
     match options {
         _ if rivals.is_empty() => usage(),
         ["--batch", wanted] => match rivals.iter_mut().find(|(name, _)| name == wanted) {
-            Some((_, rival)) => return batch(&mut **rival),
+            Some((_, rival)) => return answer(&mut **rival),
             None => usage(),
         },
         [] => measure(&mut rivals, ROUNDS),

@@ -1,7 +1,7 @@
 //! What wast 262.0.0's own code makes of a record stream (document 01).
 //!
 //!   oracle [--names] [--room N] [--why] < STREAM
-//!   oracle --batch [...] < STREAMS      each after its length, 4 bytes, low first
+//!   oracle --batch [...] < STREAMS      in the batch form (tools/models/batch.rs)
 //!
 //! One line for each stream:
 //!   ok HEX             the module without custom sections; with --names it
@@ -15,6 +15,8 @@
 //!
 //!   oracle --time ROUNDS < STREAMS      how long the crate takes (time.rs)
 mod answer;
+#[path = "../../tools/models/batch.rs"]
+mod batch;
 mod stream;
 mod time;
 mod tree;
@@ -59,18 +61,6 @@ fn line(bytes: &[u8], options: &Options) -> String {
     }
 }
 
-/// The streams of a batch; None where it is broken.
-fn split(mut set: &[u8]) -> Option<Vec<&[u8]>> {
-    let mut streams = Vec::new();
-    while !set.is_empty() {
-        let (length, rest) = set.split_first_chunk::<4>()?;
-        let length = u32::from_le_bytes(*length) as usize;
-        streams.push(rest.get(..length)?);
-        set = &rest[length..];
-    }
-    Some(streams)
-}
-
 fn main() -> std::io::Result<()> {
     let Some(options) = options() else {
         eprintln!("usage: oracle [--batch] [--names] [--room N] [--why] [--time ROUNDS]");
@@ -82,7 +72,7 @@ fn main() -> std::io::Result<()> {
     if !options.batch && options.time.is_none() {
         return writeln!(out, "{}", line(&set, &options));
     }
-    let Some(streams) = split(&set) else {
+    let Some(streams) = batch::unpack(&set) else {
         eprintln!("oracle: the batch is broken");
         std::process::exit(2);
     };

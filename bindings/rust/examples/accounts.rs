@@ -1,10 +1,13 @@
-//! The accounts of many streams, for tools/check_users.py:
+//! The accounts of many streams, for tools/compare/check_users.py:
 //!
 //!   cargo run --example accounts --no-default-features < STREAMS
 //!
-//! Each stream comes after its length in 4 bytes, low first. Of each it prints a
-//! line, `records N` or `refused N at R`, the account, and an empty line. What
+//! The streams come in the batch form (tools/models/batch.rs). Of each it prints
+//! a line, `records N` or `refused N at R`, the account, and an empty line. What
 //! is read is also written again: with other bytes the line says so.
+#[path = "../../../tools/models/batch.rs"]
+mod batch;
+
 use barrizuppa::stream::{account, Account, Writer};
 use std::io::{self, Read, Write};
 
@@ -35,15 +38,10 @@ fn main() -> io::Result<()> {
     let mut set = Vec::new();
     io::stdin().read_to_end(&mut set)?;
     let mut out = io::BufWriter::new(io::stdout());
-    let mut rest = &set[..];
-    while !rest.is_empty() {
-        let broken = || io::Error::new(io::ErrorKind::InvalidData, "the batch is broken");
-        let length = rest.get(..4).ok_or_else(broken)?;
-        let length = u32::from_le_bytes(length.try_into().expect("four bytes")) as usize;
-        let stream = rest.get(4..4 + length).ok_or_else(broken)?;
+    let broken = || io::Error::new(io::ErrorKind::InvalidData, "the batch is broken");
+    for stream in batch::unpack(&set).ok_or_else(broken)? {
         let account = account(stream);
         writeln!(out, "{}\n{account}", line(stream, &account))?;
-        rest = &rest[4 + length..];
     }
     Ok(())
 }

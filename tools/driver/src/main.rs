@@ -1,14 +1,16 @@
-//! Asks the assembler of many streams, for tools/compare.py.
+//! Asks the assembler of many streams, for tools/compare/compare.py.
 //!
 //!   driver [--names] [--bare] [--work WORDS] [--room BYTES] < STREAMS
 //!
-//! Each stream comes after its length in 4 bytes, low first. One line for each:
-//! `ok HEX` or `refused N at R`, and behind it ` but ...` whatever is wrong with
-//! what the call left: the output beyond the module or after a refusal, the work
-//! area, the answer's four words. 16,384 words and 65,536 bytes are lent if
-//! nothing else is said. With --bare they are lent as they come from the heap,
-//! for a run under a memory checker. With --names the call that also writes the
-//! name section is asked.
+//! The streams come in the batch form (batch.rs). One line for each: `ok HEX` or
+//! `refused N at R`, and behind it ` but ...` whatever is wrong with what the call
+//! left: the output beyond the module or after a refusal, the work area, the
+//! answer's four words. 16,384 words and 65,536 bytes are lent if nothing else is
+//! said. With --bare they are lent as they come from the heap, for a run under a
+//! memory checker. With --names the call that also writes the name section is
+//! asked.
+#[path = "../../models/batch.rs"]
+mod batch;
 mod lent;
 
 use lent::{examine, examine_bare, Assemble, Said};
@@ -85,15 +87,12 @@ fn main() -> std::io::Result<()> {
     let mut set = Vec::new();
     std::io::stdin().read_to_end(&mut set)?;
     let mut out = std::io::BufWriter::new(std::io::stdout());
-    let mut rest = &set[..];
-    while !rest.is_empty() {
-        let length = rest.get(..4).map(|four| u32::from_le_bytes(four.try_into().unwrap()) as usize);
-        let Some(stream) = length.and_then(|length| rest.get(4..4 + length)) else {
-            eprintln!("driver: the batch is broken");
-            std::process::exit(2);
-        };
+    let Some(streams) = batch::unpack(&set) else {
+        eprintln!("driver: the batch is broken");
+        std::process::exit(2);
+    };
+    for stream in streams {
         writeln!(out, "{}", line(stream, &options))?;
-        rest = &rest[4 + stream.len()..];
     }
     Ok(())
 }

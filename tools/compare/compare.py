@@ -7,7 +7,7 @@ Makes N streams (generate.py), in pieces, and asks three judges of each:
   library   the assembler, through tools/driver
   oracle    the crate's own code (oracle/); of a stream outside the comparison
             it says so, and what its own reading of document 01 refuses it by
-  model     tools/model.py
+  model     tools/models/model.py
 A line is printed for each sort of streams. Where two judges disagree, the
 stream is made smaller and shown in hex with the answers, one for each pair of
 sorts of answers. Most pieces are lent 16,384 words and 65,536 bytes; some fewer
@@ -25,14 +25,12 @@ import sys
 import time
 from collections import Counter
 
+sys.path.insert(0, os.path.join(os.path.dirname(os.path.abspath(__file__)), '..'))
+import paths
 import batch
 import generate
 import model
 import shrink
-
-HERE = os.path.dirname(os.path.abspath(__file__))
-ORACLE = os.path.join(HERE, '..', 'oracle', 'target', 'release', 'oracle')
-DRIVER = os.path.join(HERE, 'driver', 'target', 'release', 'driver')
 
 PIECE = 500             # streams in a piece
 PATIENCE = 60           # seconds for a program's answer to one piece
@@ -137,8 +135,8 @@ def main():
     parser.add_argument('--names', action='store_true', help='the call that also writes the name section')
     parser.add_argument('--streams', type=int, default=20000, metavar='N')
     parser.add_argument('--seed', type=int, default=1)
-    parser.add_argument('--oracle', default=ORACLE, metavar='PROGRAM')
-    parser.add_argument('--driver', default=DRIVER, metavar='PROGRAM')
+    parser.add_argument('--oracle', default=paths.ORACLE, metavar='PROGRAM')
+    parser.add_argument('--driver', default=paths.DRIVER, metavar='PROGRAM')
     parser.add_argument('--without-library', action='store_true', help='model and oracle alone')
     parser.add_argument('--without-oracle', action='store_true', help='model and library alone')
     parser.add_argument('--findings', type=int, default=5, metavar='N', help='disagreements to shrink for each sort')

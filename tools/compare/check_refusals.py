@@ -11,7 +11,7 @@ A stream is in hex; `3 × (01 02)` stands for three copies, `empty` for nothing.
 `lent 7 bytes:` or `lent 9 words:` before it says that a call is lent so much
 output or work area: such a line needs the library and is asked of tools/driver,
 built as docs/TESTING.md says. With --smallest the first stream of each heading
-is compared with shorter ones, by tools/model.py. Exit status 1 if anything is
+is compared with shorter ones, by tools/models/model.py. Exit status 1 if anything is
 wrong or was not asked.
 """
 import argparse
@@ -22,14 +22,13 @@ import subprocess
 import sys
 from collections import namedtuple
 
+sys.path.insert(0, os.path.join(os.path.dirname(os.path.abspath(__file__)), '..'))
+import paths
 import batch
 import model
 import reading_model
 
-HERE = os.path.dirname(os.path.abspath(__file__))
-DOCUMENT = os.path.join(HERE, '..', 'docs', 'REFUSALS.md')
-PROGRAM = os.path.join(HERE, 'assemble')
-DRIVER = os.path.join(HERE, 'driver', 'target', 'release', 'driver')
+DOCUMENT = os.path.join(paths.ROOT, 'docs', 'REFUSALS.md')
 NUMBERS = range(1, 20)
 
 TRIED = 3               # bytes: every stream up to this length is tried
@@ -125,8 +124,8 @@ def shorter(first):
 
 def main():
     parser = argparse.ArgumentParser(description=__doc__, formatter_class=argparse.RawDescriptionHelpFormatter)
-    parser.add_argument('--program', default=PROGRAM)
-    parser.add_argument('--driver', default=DRIVER)
+    parser.add_argument('--program', default=paths.ASSEMBLE)
+    parser.add_argument('--driver', default=paths.DRIVER)
     parser.add_argument('--document', default=DOCUMENT)
     parser.add_argument('--smallest', action='store_true')
     options = parser.parse_args()

@@ -9,9 +9,9 @@ rules (2 to 9 and 19) are those of reading_model.py. What document 01 leaves to 
 runs is as the oracle answered (docs/DECISIONS.md, 13 and 14).
 
 As a module:   assemble(stream) -> ('ok', module) or ('refused', number, record)
-As a program:  streams on standard input, each after its length in 4 bytes, low
-first; a line for each, `ok HEX` or `refused N at R`. With --names each module
-has its name section.
+As a program:  reads streams in the batch form (batch.py) from standard input and
+prints a line for each, `ok HEX` or `refused N at R`. With --names each module has
+its name section.
 """
 import sys
 from collections import namedtuple

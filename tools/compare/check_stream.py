@@ -14,11 +14,12 @@ import os
 import re
 import sys
 
+sys.path.insert(0, os.path.join(os.path.dirname(os.path.abspath(__file__)), '..'))
+import paths
 import account
 import model
 
-HERE = os.path.dirname(os.path.abspath(__file__))
-DOCUMENT = os.path.join(HERE, '..', 'docs', 'STREAM.md')
+DOCUMENT = os.path.join(paths.ROOT, 'docs', 'STREAM.md')
 
 BYTES = re.compile(r'[0-9A-F]{2}(?: [0-9A-F]{2})*(?= |$)')
 

@@ -3,16 +3,19 @@
 
 usage: check_users.py [--streams N] [--seed S] --program PROGRAM
 
-PROGRAM is the crate's example `accounts`. Streams of all sorts of
-tools/generate.py are read by both: the answers (tools/reading_model.py) and the
-accounts (tools/account.py) must be the same, but for how a float is written and
-what is said of a fault; and what the crate reads it must write as the same
-bytes. Exit status 1 if anything differs.
+PROGRAM is the crate's example `accounts`. Streams of all sorts of generate.py
+are read by both: the answers (reading_model.py) and the accounts (account.py)
+must be the same, but for how a float is written and what is said of a fault; and
+what the crate reads it must write as the same bytes. Exit status 1 if anything
+differs.
 """
 import argparse
+import os
 import subprocess
 import sys
 
+sys.path.insert(0, os.path.join(os.path.dirname(os.path.abspath(__file__)), '..'))
+import paths
 import account
 import batch
 import generate

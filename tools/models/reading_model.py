@@ -4,13 +4,10 @@
 
 As a module:   read(stream) -> ('ok', count of records)
                             or ('refused', number, record)
-As a program:  reads streams in the batch form from standard input and prints
-a line for each, `records N` or `refused N at R`.
-
-Batch form: each stream is preceded by its length in seven-bit groups, low
-first. A length past BATCH_STREAM or longer than needed, or a set that ends
-inside a length or a stream, ends the run: the lines up to there are printed, a message goes to
-standard error, and the exit status is 2.
+               record_starts(stream) -> where its records begin
+As a program:  reads streams in the batch form (batch.py) from standard input and
+prints a line for each, `records N` or `refused N at R`. Where the batch is
+broken, the lines up to there are printed, and the exit status is 1.
 """
 import sys
 
@@ -28,8 +25,6 @@ EXPORTS = 8
 IDENTIFIER = 64           # bytes
 STRING = 255              # bytes
 ALIGNMENT = 32            # the byte: 0 natural, else exponent 0 to 31 plus 1
-
-BATCH_STREAM = 16777216   # bytes; ours, so that a broken set is noticed
 
 VALUE_TYPES = bytes([0x7F, 0x7E, 0x7D, 0x7C, 0x70, 0x6F])
 REFERENCE_TYPES = bytes([0x70, 0x6F])
@@ -372,45 +367,32 @@ def groups(value):
     return bytes(out) + bytes([value])
 
 
-def batch(streams):
-    """Streams in the batch form."""
-    return b''.join(groups(len(stream)) + stream for stream in streams)
+class Starts(Reader):
+    """Notes where each record begins, up to the first fault."""
+
+    def __init__(self, stream):
+        super().__init__(stream)
+        self.starts = []
+
+    def begin(self, allowed):
+        self.starts.append(self.at)
+        return super().begin(allowed)
 
 
-class BrokenBatch(Exception):
-    """A set that does not follow the batch form."""
-
-
-def unbatch(data):
-    """The streams of a set, one at a time."""
-    at = 0
-    while at < len(data):
-        length, shift, start = 0, 0, at
-        while True:
-            if at == len(data):
-                raise BrokenBatch('the set ends inside the length at byte %d' % start)
-            length += (data[at] & 0x7F) << shift
-            shift += 7
-            at += 1
-            if length > BATCH_STREAM or shift > 35:
-                raise BrokenBatch('the length at byte %d is too large' % start)
-            if data[at - 1] == 0 and at > start + 1:
-                raise BrokenBatch('the length at byte %d is longer than needed' % start)
-            if data[at - 1] < 0x80:
-                break
-        if length > len(data) - at:
-            raise BrokenBatch('the set ends inside the stream at byte %d' % at)
-        yield data[at:at + length]
-        at += length
+def record_starts(stream):
+    """Where the records begin, and where the stream ends."""
+    reader = Starts(stream)
+    try:
+        reader.whole_stream()
+    except Refused:
+        pass
+    return reader.starts + [len(stream)]
 
 
 def main():
-    try:
-        for stream in unbatch(sys.stdin.buffer.read()):
-            print(line(read(stream)))
-    except BrokenBatch as broken:
-        print('reading_model: %s' % broken, file=sys.stderr)
-        sys.exit(2)
+    import batch                    # which needs `groups` of this module
+    for stream in batch.unpack(sys.stdin.buffer.read()):
+        print(line(read(stream)))
 
 
 if __name__ == '__main__':

@@ -13,11 +13,12 @@ import os
 import sys
 import types
 
+sys.path.insert(0, os.path.join(os.path.dirname(os.path.abspath(__file__)), '..'))
+import paths
 import generate
 import model
 import shrink
 
-HERE = os.path.dirname(os.path.abspath(__file__))
 SHARES = (('rich', 0.25), ('faulty', 0.4), ('damaged', 0.2), ('edges', 0.15))
 ROOMS = (65536, 65536, 65536, 60, 200)
 
@@ -177,10 +178,15 @@ for ceiling in CEILINGS:
 SLIPS = [('model.py',) + slip for slip in MODEL] + [('reading_model.py',) + slip for slip in READING]
 
 
+def text_of(file):
+    """A module of the models as it stands."""
+    with open(os.path.join(paths.TOOLS, 'models', file)) as opened:
+        return opened.read()
+
+
 def edited(file, old, new):
     """A module's text with one edit, which must fit at one place."""
-    with open(os.path.join(HERE, file)) as opened:
-        text = opened.read()
+    text = text_of(file)
     assert text.count(old) == 1, 'fits %d times in %s: %s' % (text.count(old), file, old)
     return text.replace(old, new)
 
@@ -200,8 +206,7 @@ def with_slip(file, old, new):
     right = sys.modules['reading_model']
     try:
         sys.modules['reading_model'] = load('reading_model', text)
-        with open(os.path.join(HERE, 'model.py')) as opened:
-            return load('model_with_slip', opened.read())
+        return load('model_with_slip', text_of('model.py'))
     finally:
         sys.modules['reading_model'] = right
 

@@ -7,8 +7,8 @@ Each module is assembled by the oracle and by model.py, and by the assembler's
 own program where it is given: all bytes must be the same. wasm-validate must
 accept them, with and without the name section; a broken copy must be refused.
 wabt's own writer must give the same bytes again from its text of the module,
-but where the module says otherwise. Then the calls are made: in node, or in wabt's wasm-interp where node lacks the
-feature. Exit status 1 if anything is wrong.
+but where the module says otherwise. Then the calls are made: in node, or in
+wabt's wasm-interp where node lacks the feature. Exit status 1 if anything is wrong.
 """
 import argparse
 import json
@@ -18,13 +18,13 @@ import subprocess
 import sys
 import tempfile
 
+sys.path.insert(0, os.path.join(os.path.dirname(os.path.abspath(__file__)), '..'))
+import paths
 import batch
 import model
 import modules
-from compare import ORACLE
 
-HERE = os.path.dirname(os.path.abspath(__file__))
-NODE = ['node', '--experimental-wasm-memory64', os.path.join(HERE, 'run_in_node.js')]
+NODE = ['node', '--experimental-wasm-memory64', os.path.join(paths.TOOLS, 'compare', 'run_in_node.js')]
 WABT_FLAGS = {'multi-memory': '--enable-multi-memory', 'memory64': '--enable-memory64'}
 NOT_IN_NODE = ('multi-memory',)
 NOWHERE = ('table64',)
@@ -96,7 +96,7 @@ def validated(module, binary, named):
 
 def main():
     parser = argparse.ArgumentParser(description=__doc__, formatter_class=argparse.RawDescriptionHelpFormatter)
-    parser.add_argument('--oracle', default=ORACLE)
+    parser.add_argument('--oracle', default=paths.ORACLE)
     parser.add_argument('--program', help='the assembler\'s program')
     parser.add_argument('--verbose', action='store_true')
     options = parser.parse_args()

@@ -10,10 +10,14 @@ list that disagrees, the smallest stream is made smaller and shown with both
 answers. Exit status 1 on any disagreement.
 """
 import argparse
+import os
 import subprocess
 import sys
 import time
 
+sys.path.insert(0, os.path.join(os.path.dirname(os.path.abspath(__file__)), '..'))
+import paths
+import batch
 import reading_model as model
 import streams
 
@@ -27,7 +31,7 @@ def answers(command, some):
     not answer a set with as many lines and status 0, the halves of the set are
     tried, so that only the stream that stops it is blamed."""
     try:
-        done = subprocess.run(command, input=model.batch(some), stdout=subprocess.PIPE, timeout=PATIENCE)
+        done = subprocess.run(command, input=batch.pack(some), stdout=subprocess.PIPE, timeout=PATIENCE)
         lines, status = done.stdout.decode('ascii', 'replace').splitlines(), done.returncode
     except subprocess.TimeoutExpired:
         lines, status = [], 'none in %d s' % PATIENCE

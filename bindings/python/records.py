@@ -1,12 +1,14 @@
-"""Records of document 01, written by name: what tests/modules is written in.
+"""Writes record streams (docs/STREAM.md). This file is all that it needs.
 
-An index is a number, a name or None (absent). A module is the sum of its
-fields; a body is the sum of its instructions, `code(...)` of lines such as
-'local.get x', 'i32.const -1' or 'i32.add'.
+    stream = func('f', use(params=[('x', i32)], results=[i32]), exports=['f'],
+                  body=code('local.get x'))
+
+A stream is the sum of its fields; a body is the sum of its instructions, made by
+`code(...)` of lines such as 'local.get x', 'i32.const -1' or 'i32.add', and of
+`block`, `access` and the others below. An index is a number, a name or None
+(absent). Nothing is checked: that is the assembler's part.
 """
 import struct
-
-from reading_model import groups
 
 i32, i64, f32, f64, funcref, externref = 0x7F, 0x7E, 0x7D, 0x7C, 0x70, 0x6F
 KINDS = ('func', 'table', 'memory', 'global')
@@ -44,6 +46,15 @@ INDEXED = {'br': 0x0C, 'br_if': 0x0D, 'call': 0x10, 'local.get': 0x20, 'local.se
 
 
 # ---- parts ----
+
+def groups(value):
+    """A number: seven-bit groups, the lowest first, as few as will do."""
+    out = bytearray()
+    while value >= 0x80:
+        out.append(value & 0x7F | 0x80)
+        value >>= 7
+    return bytes(out) + bytes([value])
+
 
 def text(name):
     """A name or string after its length; None is empty."""

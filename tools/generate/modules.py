@@ -4,8 +4,9 @@ import importlib.util
 import os
 from collections import namedtuple
 
-HERE = os.path.dirname(os.path.abspath(__file__))
-FOLDER = os.path.join(HERE, '..', 'tests', 'modules')
+import paths
+
+FOLDER = os.path.join(paths.ROOT, 'tests', 'modules')
 
 # stream: the records. calls: lines such as 'add 1 2 = 3', see run_modules.py.
 # features: of the engines. expect: the module's bytes, where no engine here

@@ -18,7 +18,7 @@ After them come streams for the call that also writes the name section (document
   a refusal; a module that just fits, and one that does not for its names
   one of the slips below
 The list is always the same for a seed. FOLDER/stdin has the streams, each after
-its length in seven-bit groups (the batch form of reading_model.py), and
+its length in seven-bit groups (the batch form of batch.py), and
 FOLDER/stdout two answers to each, a line without names and one with them: `ok HEX`
 or `refused N at R`. They are
 the crate's; for our own refusals (1 to 9, 12, 18, 19) they are those on which the
@@ -32,13 +32,15 @@ from collections import Counter, namedtuple
 from functools import partial
 from types import SimpleNamespace
 
+sys.path.insert(0, os.path.join(os.path.dirname(os.path.abspath(__file__)), '..'))
+import paths
+import batch
 import compare
 import generate
 import model
 import modules
 import reading_model
 import samples
-import shrink
 import slips
 
 LONGEST = 700           # bytes; longer ones only for what nothing shorter shows
@@ -147,7 +149,7 @@ def shown(stream, answer):
         sections = {('section', number) for number in section_numbers(answer[1])}
         return parser.shown | sections
     _, number, record = answer
-    starts = shrink.record_starts(stream[:reading_model.STREAM])[:-1]
+    starts = reading_model.record_starts(stream[:reading_model.STREAM])[:-1]
     begins = starts[record] if record < len(starts) else len(stream)
     first = stream[begins:begins + 1]
     return {('refused', number, first if first in RECORDS else None)}
@@ -270,7 +272,7 @@ def write(folder, streams, lines):
     """The list as the gate's program reads it, and what it must print."""
     os.makedirs(folder, exist_ok=True)
     with open(os.path.join(folder, 'stdin'), 'wb') as file:
-        file.write(reading_model.batch(streams))
+        file.write(batch.pack(streams))
     with open(os.path.join(folder, 'stdout'), 'w') as file:
         file.writelines(line + '\n' for line in lines)
 
@@ -295,7 +297,7 @@ def shows_all(seen, opcodes):
 
 def main():
     parser = argparse.ArgumentParser(description=__doc__, formatter_class=argparse.RawDescriptionHelpFormatter)
-    parser.add_argument('--oracle', default=compare.ORACLE)
+    parser.add_argument('--oracle', default=paths.ORACLE)
     parser.add_argument('--seed', type=int, default=1)
     parser.add_argument('folder')
     options = parser.parse_args()

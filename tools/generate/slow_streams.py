@@ -11,10 +11,13 @@ Each is a stream of nearly 65,536 bytes. PROGRAM reads it from standard input,
 as target/bin/assemble does. What counts is the processor's time, the best of
 all runs.
 """
+import os
 import resource
 import subprocess
 import sys
 
+sys.path.insert(0, os.path.join(os.path.dirname(os.path.abspath(__file__)), '..'))
+import paths
 import model
 import records as r
 from reading_model import STREAM

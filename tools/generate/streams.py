@@ -9,17 +9,21 @@ usage: streams.py [WHAT ...] [--list] [--seed S] [--count N]
   --ceilings   each ceiling, exactly at it and just past it
   --faults     refusals 2 to 9 and 19 at each place of each kind of record
   --random N   N streams, changed in a few places at random
-Writes the batch form of reading_model.py, or with --list lines of text:
+Writes the batch form (batch.py), or with --list lines of text:
   HEX  EXPECTED  # what it is           (HEX is - for the empty stream)
 
 EXPECTED is reading_model's answer. Where this file knows the answer by how it
 made the stream, it stops if the model says something else.
 """
 import argparse
+import os
 import random
 import sys
 from collections import namedtuple
 
+sys.path.insert(0, os.path.join(os.path.dirname(os.path.abspath(__file__)), '..'))
+import paths
+import batch
 import reading_model as model
 from reading_model import groups
 
@@ -932,7 +936,7 @@ def main():
         if options.list:
             print('%s  %s  # %s' % (stream.hex().upper() or '-', answer, what))
         else:
-            sys.stdout.buffer.write(model.batch([stream]))
+            sys.stdout.buffer.write(batch.pack([stream]))
 
 
 if __name__ == '__main__':

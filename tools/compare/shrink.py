@@ -1,32 +1,10 @@
 """Makes a stream smaller as long as something is still wrong with it."""
 import time
 
-import reading_model
+from reading_model import record_starts
 
 PIECE = 1 << 16         # bytes of candidates for one question
 PATIENCE = 30           # seconds for one stream
-
-
-class Starts(reading_model.Reader):
-    """Notes where each record begins, up to the first fault."""
-
-    def __init__(self, stream):
-        super().__init__(stream)
-        self.starts = []
-
-    def begin(self, allowed):
-        self.starts.append(self.at)
-        return super().begin(allowed)
-
-
-def record_starts(stream):
-    """Where the records begin, and where the stream ends."""
-    reader = Starts(stream)
-    try:
-        reader.whole_stream()
-    except reading_model.Refused:
-        pass
-    return reader.starts + [len(stream)]
 
 
 def without_records(stream, count):

@@ -15,16 +15,18 @@ Sorts:
             identifiers, after imports, and every form of a type use; some
             faulty, with records moved, or at an end of the name section's form
 
-A stream is known by its sort, seed and number alone. Writes the batch form of
-batch.py, or with --hex a line for each stream.
+A stream is known by its sort, seed and number alone. Writes the batch form
+(batch.py), or with --hex a line for each stream.
 """
 import argparse
+import os
 import random
 import sys
 
+sys.path.insert(0, os.path.join(os.path.dirname(os.path.abspath(__file__)), '..'))
+import paths
 import batch
-import shrink
-from reading_model import IDCHARS, OPCODES, groups
+from reading_model import IDCHARS, OPCODES, groups, record_starts
 
 SORTS = ('rich', 'faulty', 'edges', 'damaged', 'names')
 
@@ -847,7 +849,7 @@ def damage(chance, stream, at):
 
 def moved(chance, stream):
     """Records dropped, doubled or put elsewhere."""
-    starts = shrink.record_starts(stream)
+    starts = record_starts(stream)
     records = [stream[start:end] for start, end in zip(starts, starts[1:])]
     for _ in range(chance.choice((1, 1, 2, 4))):
         if records:
