@@ -1,13 +1,13 @@
 #!/usr/bin/env python3
-"""Compares the example of docs/STREAM.md with the model.
+"""Compares the examples of docs/STREAM.md with the model.
 
 usage: check_stream.py [--stream FILE] [DOCUMENT]
 
 The bytes of the stream stand at the head of the lines in the fenced blocks
 after the first, under the heading of the example; those of the module at the
 head of its indented lines. Said are the counts, which the text must have, too.
-With --stream the stream is also written to FILE. Exit status 1 if anything
-is wrong.
+With --stream the stream is also written to FILE. The lines of Python must make
+a stream that is accepted. Exit status 1 if anything is wrong.
 """
 import argparse
 import os
@@ -35,7 +35,7 @@ def main():
     parser.add_argument('document', nargs='?', default=DOCUMENT)
     options = parser.parse_args()
     with open(options.document, encoding='utf-8') as file:
-        example = file.read().split('\n## An example, record by record\n')[1]
+        example, python = file.read().split('\n## An example, record by record\n')[1].split('\n## Written from Python\n')
     text, *fences = re.findall(r'```\n(.*?)\n```', example, re.DOTALL)
     stream = bytes_of(line for fence in fences for line in fence.splitlines())
     module = bytes_of(re.findall(r'^    ([0-9A-F]{2} .*)', example, re.MULTILINE))
@@ -50,6 +50,10 @@ def main():
         plain = re.sub(r'[()]|param |\s+', '', said)
         if plain not in re.sub(r'[()]|param |\s+', '', text):
             wrong.append('record %d is not in the text: %s' % (number, said))
+    made = {}
+    exec(re.search(r'```python\n(.*?)\nopen\(', python, re.DOTALL).group(1), made)
+    if model.assemble(made['stream'])[0] != 'ok':
+        wrong.append('the stream made in Python is refused')
     for what in wrong:
         print('check_stream.py: ' + what)
     if options.stream:

@@ -64,8 +64,8 @@ fn bytes(text: &str) -> Vec<u8> {
 /// The example of docs/STREAM.md: its stream and its module.
 pub fn described() -> (Vec<u8>, Vec<u8>) {
     let example = DESCRIPTION
-        .split("\n## An example, record by record\n")
-        .nth(1)
+        .split("\n## ")
+        .find(|section| section.starts_with("An example, record by record\n"))
         .unwrap();
     let fences = example.split("```").skip(3).step_by(2);
     let stream = fences.flat_map(str::lines).flat_map(bytes_at_head);
