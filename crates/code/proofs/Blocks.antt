@@ -1,5 +1,5 @@
 -- Instructions that open or close a block or have a type use: what is resolved is what was written.
-use Prim.Native.Nat.{ℕ, _+_, _-_, _≤_, _<_}
+use Prim.Native.Nat.{ℕ, zero, suc, _+_, _-_, _≤_, _<_}
 use mathlib.Core.Path.{_≡_, refl, sym, ap, _∙_}
 use mathlib.Core.Bool.{Bool, true}
 use mathlib.Core.List.{List, [], _∷_}
@@ -13,13 +13,14 @@ use Rattle.definition.specs.Syntax.{Identifier, instr}
 use Rattle.definition.specs.Reader.{Step, got, fault, onward, require}
 use Rattle.definition.specs.Token as Token
 use Rattle.definition.specs.Instructions as Instructions
-use Rattle.definition.specs.Instructions.{opening, elsing, ending, calling}
+use Rattle.definition.specs.Instructions.{opening, calling}
 use Rattle.definition.specs.Read.{openAfter}
 use Rattle.definition.specs.Types as Types
 use Rattle.definition.specs.Types.{usedAt, instrUses}
-use Rattle.definition.specs.Names.{itemNo, typeNo, blockType, closes, blocksAfter, instrOp}
+use Rattle.definition.specs.Names.{Namespace, itemNo, typeNo, blockType, closes, blocksAfter, instrOp}
 use Rattle.definition.specs.Binary as Binary
 use Rattle.definition.specs.Binary.{instruction, imm}
+use Rattle.syntax.specs.declared.Place.{Place}
 use Rattle.syntax.specs.declared.Refusal.{Refusal}
 use Rattle.emit.specs.Put.{Put}
 use Rattle.emit.proofs.Laws.{put-cons}
@@ -58,8 +59,8 @@ use Rattle.binary.specs.Emits.{Emits}
 use Rattle.binary.specs.declared.Emitted.{Emitted}
 use Rattle.binary.specs.declared.Emitted.the-variants as E
 use Rattle.binary.proofs.Emitting.{wrote, halts, was-wrote, has-halted}
-use Rattle.code.specs.Code.{closingOp}
-use Rattle.plain.specs.Turns.{turnOf, recordOf, readUses, AnyLocals}
+use Rattle.code.specs.Code.{closingCode, closingForm, closingOp}
+use Rattle.plain.specs.Turns.{InBody, past, turnOf, recordOf, readUses, AnyLocals}
 use Rattle.plain.specs.declared.turn.Turn.{Turn}
 use Rattle.plain.specs.declared.turn.Turn.the-variants as T
 use Rattle.plain.proofs.Turns.{turned-fault, turned-on, turned-refused, turned-same}
@@ -80,25 +81,30 @@ module _ (s w : List ℕ) (rec opcode : ℕ) (t : Syntax.TypeUse Identifier) (y 
 
 -- ## `opened`
 
-module _ (s w : List ℕ) (k rec op : ℕ) (l : Part) (t : TypeUse) (next : ℕ) (old : List ℕ) (at : ℕ) (y : Emitted) (new : List ℕ)
-    (e : Emits instruction (instrOp (scopeIn s w) [] [] rec (Syntax.opens op none (useOf s t))) old at y new) where
+module _ (s w : List ℕ) (p : Place) (op : ℕ) (l : Part) (t : TypeUse) (next : ℕ) (old : List ℕ) (at : ℕ) (y : Emitted) (new : List ℕ)
+    (e : Emits instruction (instrOp (scopeIn s w) [] [] (p .rec) (Syntax.opens op none (useOf s t))) old at y new) where
   abbrev Opening : Turn → List ℕ → Type 0
-  Opening r w′ = AnyLocals s w k rec (got (instr (Syntax.opens op (idOf s l) (useOf s t))) next) old at r w′ new
+  Opening r w′ = AnyLocals s w (p .depth - 1) (p .rec) (got (instr (Syntax.opens op (idOf s l) (useOf s t))) next) old at r w′ new
 
-  pub opened-on : (o : ℕ) (w′ : List ℕ) → y ≡ E.To o → k < 128 → Opened s w k l w′ → Opening (T.On o next (k + 1)) w′
+  pub opened-on : (o : ℕ) (r : Turn) (w′ : List ℕ) → y ≡ E.To o → InBody p → p .depth ≤ 128 → Opened s w (p .depth - 1) l w′ → r ≡ turnOf (E.To o) (past p next (p .depth + 1)) → Opening r w′
   unfolding instrOp blocksAfter openAfter
-  opened-on o w′ d h g = record {
-    each = λ ls.
-        turned-on s w ls k rec (got (instr (Syntax.opens op (idOf s l) (useOf s t))) next) old at (Syntax.opens op (idOf s l) (useOf s t)) next refl new o (k + 1) w′
-        (was-wrote instruction (instrOp (scopeIn s w) [] [] rec (Syntax.opens op none (useOf s t))) old at new y o e d) (g .labels) refl (omega arith) (g .kept);
-  }
+  opened-on o r w′ d v h g u =
+      let f : 1 ≤ p .depth = v .deep in
+      let m : (p .depth + 1) - 1 ≡ (p .depth - 1) + 1 = omega arith in
+      record {
+        each = λ ls.
+            rw u
+            (turned-on s w ls (p .depth - 1) (p .rec) (got (instr (Syntax.opens op (idOf s l) (useOf s t))) next) old at (Syntax.opens op (idOf s l) (useOf s t)) (past p next (p .depth + 1))
+            refl (omega arith) (omega arith) refl new o w′
+            (was-wrote instruction (instrOp (scopeIn s w) [] [] (p .rec) (Syntax.opens op none (useOf s t))) old at new y o e d) (rw m (g .labels)) (g .kept));
+      }
 
   pub opened-not : (q : Refusal) → y ≡ E.Refused q → Opening (T.Refused q) w
   unfolding instrOp
   opened-not q d = record {
     each = λ ls.
-        turned-refused s w ls k rec (got (instr (Syntax.opens op (idOf s l) (useOf s t))) next) old at (Syntax.opens op (idOf s l) (useOf s t)) next refl new q
-        (has-halted instruction (instrOp (scopeIn s w) [] [] rec (Syntax.opens op none (useOf s t))) old at new y q e d);
+        turned-refused s w ls (p .depth - 1) (p .rec) (got (instr (Syntax.opens op (idOf s l) (useOf s t))) next) old at (Syntax.opens op (idOf s l) (useOf s t)) next q new refl
+        (has-halted instruction (instrOp (scopeIn s w) [] [] (p .rec) (Syntax.opens op none (useOf s t))) old at new y q e d);
   }
 
 -- ## The records
@@ -108,15 +114,22 @@ fault-done : (s w : List ℕ) (k rec : ℕ) (m : Step (Syntax.Instr Identifier))
 fault-done s w k rec m old at n d = record { each = λ ls. turned-fault s w ls k rec (recordOf m) old at n (rw d) }
 
 -- an instruction that opens no block
-same-done : (s w : List ℕ) (k rec : ℕ) (m : Step (Syntax.Instr Identifier)) (x : Syntax.Instr Identifier) (next j : ℕ) (old : List ℕ) (at : ℕ) (y : Emitted) (r : Turn) (new : List ℕ)
-    → m ≡ got x next → labelsIn s w j ≡ blocksAfter (labelsIn s w k) x → j ≡ openAfter x k → j ≤ 128 → r ≡ turnOf y next j
-    → ((ls : _) → Emits instruction (instrOp (scopeIn s w) ls (labelsIn s w k) rec x) old at y new) → AnyLocals s w k rec (recordOf m) old at r w new
-same-done s w k rec m x next j old at y r new d b o f t e = record { each = λ ls. rw t (turned-same s w ls k rec (recordOf m) old at x next (rw d) new j y b o f (e ls)) }
+same-done : (s w : List ℕ) (p : Place) (m : Step (Syntax.Instr Identifier)) (x : Syntax.Instr Identifier) (next d : ℕ) (old : List ℕ) (at : ℕ) (y : Emitted) (r : Turn) (new : List ℕ)
+    → m ≡ got x next → labelsIn s w (d - 1) ≡ blocksAfter (labelsIn s w (p .depth - 1)) x → d ≡ openAfter x (p .depth - 1) + 1 → d ≤ 129 → r ≡ turnOf y (past p next d)
+    → ((ls : _) → Emits instruction (instrOp (scopeIn s w) ls (labelsIn s w (p .depth - 1)) (p .rec) x) old at y new) → AnyLocals s w (p .depth - 1) (p .rec) (recordOf m) old at r w new
+same-done s w p m x next d old at y r new g b o f t e = record {
+  each = λ ls. rw t (turned-same s w ls (p .depth - 1) (p .rec) (recordOf m) old at x (past p next d) (rw g) o f refl new y b (e ls));
+}
 
 -- a label can be read where the whole record can
 label-known : {B : Type 0} (f : Option Identifier → ℕ → Step B) (n : ℕ) (t : Bool) (s : List ℕ) (here : ℕ) → Gets (onward f (onward (λ _ q. Token.identifier s q) (require n t s here)))
     → Gets (Token.identifier s here)
 label-known f n t s here g = gets-after (λ _ q. Token.identifier s q) n t s here (gets-first f (onward (λ _ q. Token.identifier s q) (require n t s here)) g)
+
+-- an else or an end, by how many blocks it closes
+abbrev closer : ℕ → Option Identifier → Syntax.Instr Identifier
+closer zero l = Syntax.elses l
+closer (suc c) l = Syntax.ends l
 
 module _ (s : List ℕ) (k op here : ℕ) where
   pub opens-known : Gets (Instructions.instruction k op opening s here) → Gets (Token.identifier s here)
@@ -131,104 +144,119 @@ module _ (s : List ℕ) (k op here : ℕ) where
       let t : ltb k 128 ≡ true = gets-passed (λ _ q. Token.identifier s q) 7 (ltb k 128) s here (gets-first _ m g) in
       gets-first _ (Token.typeUse s a) (gets-rest _ m g (idOf s label) a (rw t (e ∙ ap (idAt s) d)))
 
-  pub elses-known : Gets (Instructions.instruction k op elsing s here) → Gets (Token.identifier s here)
+  -- an else or an end is read in the same way
+  closing-reads : (c : ℕ) → Instructions.instruction k op (closingForm c) s here
+      ≡ onward (λ l next. got (closer c l) next) (onward (λ _ q. Token.identifier s q) (require 8 (ltb 0 k) s here))
   unfolding Instructions.instruction
-  elses-known g = label-known _ 8 (ltb 0 k) s here g
+  closing-reads zero = refl
+  closing-reads (suc c) = refl
 
-  pub ends-known : Gets (Instructions.instruction k op ending s here) → Gets (Token.identifier s here)
-  unfolding Instructions.instruction
-  ends-known g = label-known _ 8 (ltb 0 k) s here g
+  pub closing-known : (c : ℕ) → Gets (Instructions.instruction k op (closingForm c) s here) → Gets (Token.identifier s here)
+  closing-known c g = label-known _ 8 (ltb 0 k) s here (rw (closing-reads c) at g)
 
-module _ (s w : List ℕ) (k rec op here : ℕ) where
+module _ (s w : List ℕ) (p : Place) (op here : ℕ) where
   -- a block
-  pub opens-full : (old : List ℕ) (at : ℕ) → 128 ≤ k → AnyLocals s w k rec (recordOf (Instructions.instruction k op opening s here)) old at T.Done w old
-  opens-full old at h = fault-done s w k rec (Instructions.instruction k op opening s here) old at 7 (unfold Instructions.instruction in rw (le-ltb _ _ h))
+  pub opens-full : (old : List ℕ) (at : ℕ) → 128 < p .depth → AnyLocals s w (p .depth - 1) (p .rec) (recordOf (Instructions.instruction (p .depth - 1) op opening s here)) old at T.Done w old
+  opens-full old at h =
+      let g : 128 ≤ p .depth - 1 = omega arith in
+      fault-done s w (p .depth - 1) (p .rec) (Instructions.instruction (p .depth - 1) op opening s here) old at 7 (unfold Instructions.instruction in rw (le-ltb _ _ g))
 
-  module _ (q : PartAt) (told : Token.identifier s here ≡ idAt s q) (low : k < 128) where
-    pub opens-unnamed : (old : List ℕ) (at n : ℕ) → q ≡ P.Fault n → AnyLocals s w k rec (recordOf (Instructions.instruction k op opening s here)) old at T.Done w old
-    opens-unnamed old at n d = fault-done s w k rec (Instructions.instruction k op opening s here) old at n (unfold Instructions.instruction in rw (lt-ltb _ _ low, told, d))
+  module _ (q : PartAt) (told : Token.identifier s here ≡ idAt s q) (low : p .depth ≤ 128) where
+    few : p .depth - 1 < 128
+    few = omega arith
+
+    pub opens-unnamed : (old : List ℕ) (at n : ℕ) → q ≡ P.Fault n → AnyLocals s w (p .depth - 1) (p .rec) (recordOf (Instructions.instruction (p .depth - 1) op opening s here)) old at T.Done w old
+    opens-unnamed old at n d = fault-done s w (p .depth - 1) (p .rec) (Instructions.instruction (p .depth - 1) op opening s here) old at n (unfold Instructions.instruction in rw (lt-ltb _ _ few, told, d))
 
     module _ (l : Part) (a : ℕ) (d : q ≡ P.Got l a) (u : UseAt) (says : Token.typeUse s a ≡ useAt s u) where
-      pub opens-untyped : (old : List ℕ) (at n : ℕ) → u ≡ U.Fault n → AnyLocals s w k rec (recordOf (Instructions.instruction k op opening s here)) old at T.Done w old
-      opens-untyped old at n e = fault-done s w k rec (Instructions.instruction k op opening s here) old at n (unfold Instructions.instruction in rw (lt-ltb _ _ low, told, d, says, e))
+      pub opens-untyped : (old : List ℕ) (at n : ℕ) → u ≡ U.Fault n → AnyLocals s w (p .depth - 1) (p .rec) (recordOf (Instructions.instruction (p .depth - 1) op opening s here)) old at T.Done w old
+      opens-untyped old at n e = fault-done s w (p .depth - 1) (p .rec) (Instructions.instruction (p .depth - 1) op opening s here) old at n (unfold Instructions.instruction in rw (lt-ltb _ _ few, told, d, says, e))
 
       module _ (t : TypeUse) (next : ℕ) (e : u ≡ U.Got t next) where
-        opens-reads : Instructions.instruction k op opening s here ≡ got (Syntax.opens op (idOf s l) (useOf s t)) next
+        opens-reads : Instructions.instruction (p .depth - 1) op opening s here ≡ got (Syntax.opens op (idOf s l) (useOf s t)) next
         unfolding Instructions.instruction
-        opens-reads = rw (lt-ltb _ _ low, told, d, says, e)
+        opens-reads = rw (lt-ltb _ _ few, told, d, says, e)
 
         -- what its type use needs
-        pub opens-uses : Recalled w (typesIn s w) (readUses rec (Instructions.instruction k op opening s here)) → Recalled w (typesIn s w) (usedAt rec (blockUses (useOf s t)))
+        pub opens-uses : Recalled w (typesIn s w) (readUses (p .rec) (Instructions.instruction (p .depth - 1) op opening s here)) → Recalled w (typesIn s w) (usedAt (p .rec) (blockUses (useOf s t)))
         unfolding instrUses
         opens-uses h = rw opens-reads at h
 
-        pub opens-got : (old : List ℕ) (at : ℕ) (r : Turn) (w′ new : List ℕ) → AnyLocals s w k rec (got (instr (Syntax.opens op (idOf s l) (useOf s t))) next) old at r w′ new
-            → AnyLocals s w k rec (recordOf (Instructions.instruction k op opening s here)) old at r w′ new
+        pub opens-got : (old : List ℕ) (at : ℕ) (r : Turn) (w′ new : List ℕ) → AnyLocals s w (p .depth - 1) (p .rec) (got (instr (Syntax.opens op (idOf s l) (useOf s t))) next) old at r w′ new
+            → AnyLocals s w (p .depth - 1) (p .rec) (recordOf (Instructions.instruction (p .depth - 1) op opening s here)) old at r w′ new
         opens-got old at r w′ new v = rw opens-reads v
 
 pub ruleset openings = (opens-full, opens-unnamed, opens-untyped, opens-got)
 
--- an else
-module _ (s w : List ℕ) (k rec here : ℕ) where
-  pub elses-outside : (old : List ℕ) (at : ℕ) → k < 1 → AnyLocals s w k rec (recordOf (Instructions.instruction k 0x05 elsing s here)) old at T.Done w old
-  elses-outside old at h =
-      let g : k ≤ 0 = omega arith in fault-done s w k rec (Instructions.instruction k 0x05 elsing s here) old at 8 (unfold Instructions.instruction in rw (le-ltb _ _ g))
+-- an else or an end
+closer-op : (s w : List ℕ) (k rec c : ℕ) (ls : Namespace Identifier) (l : Option Identifier) → instrOp (scopeIn s w) ls (labelsIn s w k) rec (closer c l) ≡ closingOp s w k rec (closingCode c) l
+unfolding instrOp closingOp
+closer-op s w k rec zero ls l = refl
+closer-op s w k rec (suc c) ls l = refl
 
-  module _ (q : PartAt) (told : Token.identifier s here ≡ idAt s q) (low : 1 ≤ k) where
-    pub elses-unnamed : (old : List ℕ) (at n : ℕ) → q ≡ P.Fault n → AnyLocals s w k rec (recordOf (Instructions.instruction k 0x05 elsing s here)) old at T.Done w old
-    elses-unnamed old at n d =
-        let g : 0 < k = omega arith in fault-done s w k rec (Instructions.instruction k 0x05 elsing s here) old at n (unfold Instructions.instruction in rw (lt-ltb _ _ g, told, d))
+closer-labels : (s w : List ℕ) (k c : ℕ) (l : Option Identifier) → c ≤ 1 → labelsIn s w (k - c) ≡ blocksAfter (labelsIn s w k) (closer c l)
+unfolding blocksAfter
+closer-labels s w k zero l h = (let e : k - 0 ≡ k = omega arith in rw e)
+closer-labels s w k (suc c) l h = (let e : suc c ≡ 1 = omega arith in rw e (sym (labels-close s w k)))
 
-    pub elses-got : (l : Part) (next : ℕ) (old : List ℕ) (at : ℕ) (y : Emitted) (r : Turn) (new : List ℕ) → q ≡ P.Got l next → k ≤ 128
-        → Emits instruction (closingOp s w k rec 0x05 (idOf s l)) old at y new → r ≡ turnOf y next k → AnyLocals s w k rec (recordOf (Instructions.instruction k 0x05 elsing s here)) old at r w new
-    unfolding instrOp closingOp blocksAfter openAfter
-    elses-got l next old at y r new d f e t =
-        let g : 0 < k = omega arith in
-        same-done s w k rec (Instructions.instruction k 0x05 elsing s here) (Syntax.elses (idOf s l)) next k old at y r new (unfold Instructions.instruction in rw (lt-ltb _ _ g, told, d)) refl refl f t (λ ls. e)
+closer-open : (k c : ℕ) (l : Option Identifier) → c ≤ 1 → k - c ≡ openAfter (closer c l) k
+unfolding openAfter
+closer-open k zero l h = omega arith
+closer-open k (suc c) l h = omega arith
 
-  -- an end
-  pub ends-outside : (old : List ℕ) (at : ℕ) → k < 1 → AnyLocals s w k rec (recordOf (Instructions.instruction k 0x0B ending s here)) old at T.Done w old
-  ends-outside old at h =
-      let g : k ≤ 0 = omega arith in fault-done s w k rec (Instructions.instruction k 0x0B ending s here) old at 8 (unfold Instructions.instruction in rw (le-ltb _ _ g))
+module _ (s w : List ℕ) (p : Place) (op c here : ℕ) where
+  abbrev Closing : List ℕ → ℕ → Turn → List ℕ → Type 0
+  Closing old at r new = AnyLocals s w (p .depth - 1) (p .rec) (recordOf (Instructions.instruction (p .depth - 1) op (closingForm c) s here)) old at r w new
 
-  module _ (q : PartAt) (told : Token.identifier s here ≡ idAt s q) (low : 1 ≤ k) where
-    pub ends-unnamed : (old : List ℕ) (at n : ℕ) → q ≡ P.Fault n → AnyLocals s w k rec (recordOf (Instructions.instruction k 0x0B ending s here)) old at T.Done w old
-    ends-unnamed old at n d =
-        let g : 0 < k = omega arith in fault-done s w k rec (Instructions.instruction k 0x0B ending s here) old at n (unfold Instructions.instruction in rw (lt-ltb _ _ g, told, d))
+  pub closing-outside : (old : List ℕ) (at : ℕ) → p .depth < 2 → Closing old at T.Done old
+  closing-outside old at h =
+      let g : p .depth - 1 ≤ 0 = omega arith in
+      fault-done s w (p .depth - 1) (p .rec) (Instructions.instruction (p .depth - 1) op (closingForm c) s here) old at 8 (rw (closing-reads s (p .depth - 1) op here c, le-ltb _ _ g))
 
-    pub ends-got : (l : Part) (next : ℕ) (old : List ℕ) (at : ℕ) (y : Emitted) (r : Turn) (new : List ℕ) → q ≡ P.Got l next → k ≤ 128
-        → Emits instruction (closingOp s w k rec 0x0B (idOf s l)) old at y new → r ≡ turnOf y next (k - 1) → AnyLocals s w k rec (recordOf (Instructions.instruction k 0x0B ending s here)) old at r w new
-    unfolding instrOp closingOp blocksAfter openAfter
-    ends-got l next old at y r new d f e t =
-        let g : 0 < k = omega arith in
-        same-done s w k rec (Instructions.instruction k 0x0B ending s here) (Syntax.ends (idOf s l)) next (k - 1) old at y r new (unfold Instructions.instruction in rw (lt-ltb _ _ g, told, d))
-        (sym (labels-close s w k)) refl (omega arith) t (λ ls. e)
+  module _ (q : PartAt) (told : Token.identifier s here ≡ idAt s q) (low : 2 ≤ p .depth) where
+    some : 0 < p .depth - 1
+    some = omega arith
 
-pub ruleset closings = (elses-outside, elses-unnamed, elses-got, ends-outside, ends-unnamed, ends-got)
+    pub closing-unnamed : (old : List ℕ) (at n : ℕ) → q ≡ P.Fault n → Closing old at T.Done old
+    closing-unnamed old at n d =
+        fault-done s w (p .depth - 1) (p .rec) (Instructions.instruction (p .depth - 1) op (closingForm c) s here) old at n (rw (closing-reads s (p .depth - 1) op here c, lt-ltb _ _ some, told, d))
+
+    pub closing-got : (l : Part) (next : ℕ) (old : List ℕ) (at : ℕ) (y : Emitted) (r : Turn) (new : List ℕ) → q ≡ P.Got l next → InBody p → c ≤ 1 → op ≡ closingCode c
+        → Emits instruction (closingOp s w (p .depth - 1) (p .rec) op (idOf s l)) old at y new → r ≡ turnOf y (past p next (p .depth - c)) → Closing old at r new
+    closing-got l next old at y r new d f h o e t =
+        let v : Emits instruction (closingOp s w (p .depth - 1) (p .rec) (closingCode c) (idOf s l)) old at y new = rw o at e in
+        let m : (p .depth - c) - 1 ≡ (p .depth - 1) - c = omega arith in
+        let few : p .depth ≤ 129 = f .few in
+        same-done s w p (Instructions.instruction (p .depth - 1) op (closingForm c) s here) (closer c (idOf s l)) next (p .depth - c) old at y r new
+        (rw (closing-reads s (p .depth - 1) op here c, lt-ltb _ _ some, told, d)) (rw m (closer-labels s w (p .depth - 1) c (idOf s l) h))
+        (omega (arith, closer-open (p .depth - 1) c (idOf s l) h)) (omega arith) t (λ ls. rw (closer-op s w (p .depth - 1) (p .rec) c ls (idOf s l)) v)
+
+pub ruleset closings = (closing-outside, closing-unnamed, closing-got)
 
 -- a call_indirect
-module _ (s w : List ℕ) (k rec here : ℕ) (q : IndexAt) (told : Token.optional s here ≡ indexAt s q) where
-  pub indirect-fault : (old : List ℕ) (at n : ℕ) → q ≡ X.Fault n → AnyLocals s w k rec (recordOf (Instructions.instruction k 0x11 calling s here)) old at T.Done w old
-  indirect-fault old at n d = fault-done s w k rec (Instructions.instruction k 0x11 calling s here) old at n (unfold Instructions.instruction in rw (told, d))
+module _ (s w : List ℕ) (p : Place) (here : ℕ) (q : IndexAt) (told : Token.optional s here ≡ indexAt s q) where
+  pub indirect-fault : (old : List ℕ) (at n : ℕ) → q ≡ X.Fault n → AnyLocals s w (p .depth - 1) (p .rec) (recordOf (Instructions.instruction (p .depth - 1) 0x11 calling s here)) old at T.Done w old
+  indirect-fault old at n d = fault-done s w (p .depth - 1) (p .rec) (Instructions.instruction (p .depth - 1) 0x11 calling s here) old at n (unfold Instructions.instruction in rw (told, d))
 
   module _ (x : Index) (a : ℕ) (d : q ≡ X.Got x a) (u : UseAt) (says : Token.typeUse s a ≡ useAt s u) where
-    pub indirect-untyped : (old : List ℕ) (at n : ℕ) → u ≡ U.Fault n → AnyLocals s w k rec (recordOf (Instructions.instruction k 0x11 calling s here)) old at T.Done w old
-    indirect-untyped old at n e = fault-done s w k rec (Instructions.instruction k 0x11 calling s here) old at n (unfold Instructions.instruction in rw (told, d, says, e))
+    pub indirect-untyped : (old : List ℕ) (at n : ℕ) → u ≡ U.Fault n → AnyLocals s w (p .depth - 1) (p .rec) (recordOf (Instructions.instruction (p .depth - 1) 0x11 calling s here)) old at T.Done w old
+    indirect-untyped old at n e = fault-done s w (p .depth - 1) (p .rec) (Instructions.instruction (p .depth - 1) 0x11 calling s here) old at n (unfold Instructions.instruction in rw (told, d, says, e))
 
     module _ (t : TypeUse) (next : ℕ) (e : u ≡ U.Got t next) where
-      indirect-reads : Instructions.instruction k 0x11 calling s here ≡ got (Syntax.indirect (indexOf s x) (useOf s t)) next
+      indirect-reads : Instructions.instruction (p .depth - 1) 0x11 calling s here ≡ got (Syntax.indirect (indexOf s x) (useOf s t)) next
       unfolding Instructions.instruction
       indirect-reads = rw (told, d, says, e)
 
-      pub indirect-uses : Recalled w (typesIn s w) (readUses rec (Instructions.instruction k 0x11 calling s here)) → Recalled w (typesIn s w) (usedAt rec (Types.useOf (useOf s t)))
+      pub indirect-uses : Recalled w (typesIn s w) (readUses (p .rec) (Instructions.instruction (p .depth - 1) 0x11 calling s here)) → Recalled w (typesIn s w) (usedAt (p .rec) (Types.useOf (useOf s t)))
       unfolding instrUses
       indirect-uses h = rw indirect-reads at h
 
-      pub indirect-got : (old : List ℕ) (at : ℕ) (y : Emitted) (r : Turn) (new : List ℕ) → k ≤ 128 → Emits instruction (instrOp (scopeIn s w) [] [] rec (Syntax.indirect (indexOf s x) (useOf s t))) old at y new
-          → r ≡ turnOf y next k → AnyLocals s w k rec (recordOf (Instructions.instruction k 0x11 calling s here)) old at r w new
+      pub indirect-got : (old : List ℕ) (at : ℕ) (y : Emitted) (r : Turn) (new : List ℕ) → InBody p → Emits instruction (instrOp (scopeIn s w) [] [] (p .rec) (Syntax.indirect (indexOf s x) (useOf s t))) old at y new
+          → r ≡ turnOf y (past p next (p .depth)) → AnyLocals s w (p .depth - 1) (p .rec) (recordOf (Instructions.instruction (p .depth - 1) 0x11 calling s here)) old at r w new
       unfolding instrOp blocksAfter openAfter
       indirect-got old at y r new f v z =
-          same-done s w k rec (Instructions.instruction k 0x11 calling s here) (Syntax.indirect (indexOf s x) (useOf s t)) next k old at y r new indirect-reads refl refl f z (λ ls. v)
+          let g : 1 ≤ p .depth = f .deep in
+          same-done s w p (Instructions.instruction (p .depth - 1) 0x11 calling s here) (Syntax.indirect (indexOf s x) (useOf s t)) next (p .depth) old at y r new indirect-reads refl (omega arith) (f .few) z (λ ls. v)
 
 pub ruleset calls = (indirect-fault, indirect-untyped, indirect-got)
 

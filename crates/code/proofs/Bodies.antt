@@ -18,6 +18,7 @@ use Rattle.definition.specs.Types.{usedAt, instrUses, bodyUses}
 use Rattle.definition.specs.Names.{Scope, Namespace, blocksAfter, instrOp, body}
 use Rattle.definition.specs.Binary as Binary
 use Rattle.syntax.specs.Refusals.{refusedBy}
+use Rattle.syntax.specs.declared.Place.{Place}
 use Rattle.syntax.specs.declared.Refusal.{Refusal}
 use Rattle.emit.specs.Put.{Put}
 use Rattle.emit.proofs.Laws.{put-none, put-then, put-is, put-length}
@@ -43,13 +44,21 @@ use Rattle.scope.proofs.Frames.{scope-kept, locals-kept, recalled-left, recalle
 use Rattle.binary.specs.declared.Emitted.the-variants as E
 use Rattle.binary.proofs.Emitting.{wrote, halts}
 use Rattle.operands.proofs.Elements.{after, concat-snoc}
-use Rattle.plain.specs.Turns.{recordOf, plainRecord, readUses, Stepped, Ended, Halted, Turned, AnyLocals}
+use Rattle.plain.specs.Turns.{InBody, recordOf, plainRecord, readUses, Stepped, Ended, Halted, Turned, AnyLocals}
+use Rattle.code.specs.Code.{closingForm}
 use Rattle.code.specs.Body.{Resolvable, EmitsBody}
 use Rattle.plain.specs.declared.turn.Turn.{Turn}
 use Rattle.plain.specs.declared.turn.Turn.the-variants as T
 use Rattle.plain.proofs.Turns.{turned-fault}
 
 -- ## `one_record`
+
+-- in a body the next record has a number, and so it is after the opcode
+pub in-low : {p : Place} → InBody p → p .rec < 4096
+in-low v = v .low
+
+pub in-place : (p : Place) (a : ℕ) → InBody p → InBody (record { at = a; rec = p .rec; depth = p .depth })
+in-place p a v = record { deep = v .deep; few = v .few; low = v .low }
 
 -- the instructions from here on: one, and the others
 body-cons : (s : List ℕ) (k rec here : ℕ) (x : Syntax.Instr Identifier) (next : ℕ) → rec < 4096 → bodyRec k s here ≡ got (instr x) next
@@ -72,6 +81,22 @@ whole-cons : (s : List ℕ) (k rec here : ℕ) (x : Syntax.Instr Identifier) (ne
     → wholeBody (4096 - rec) k s here ≡ true → wholeBody (4096 - (rec + 1)) (openAfter x k) s next ≡ true
 unfolding wholeBody
 whole-cons s k rec here x next h e v = let m : 4096 - rec ≡ suc (4096 - (rec + 1)) = omega arith in rw (m, e) at v
+
+-- the type uses after an instruction
+uses-rest : (w : List ℕ) (types : _) (rec : ℕ) (x : Syntax.Instr Identifier) (xs : List (Syntax.Instr Identifier)) → Recalled w types (bodyUses rec (x ∷ xs)) → Recalled w types (bodyUses (rec + 1) xs)
+unfolding bodyUses
+uses-rest w types rec x xs h = recalled-right w types (usedAt rec (instrUses x)) (bodyUses (rec + 1) xs) h
+
+-- the same by the numbers of the place after it
+module _ (s : List ℕ) (k rec here : ℕ) (x : Syntax.Instr Identifier) (next : ℕ) (h : rec < 4096) (e : bodyRec k s here ≡ got (instr x) next) (r j : ℕ) (n : r ≡ rec + 1) (d : j ≡ openAfter x k) where
+  body-next : bodyFrom (4096 - rec) k s here ≡ x ∷ bodyFrom (4096 - r) j s next
+  body-next = rw (n, d) (body-cons s k rec here x next h e)
+
+  resolvable-next : (w : List ℕ) → Resolvable s w rec k here → Resolvable s w r j next
+  resolvable-next w v = record { recalled = rw (n, d) rest; whole = rw (n, d) (whole-cons s k rec here x next h e (v .whole)) }
+    where
+      rest : Recalled w (typesIn s w) (bodyUses (rec + 1) (bodyFrom (4096 - (rec + 1)) (openAfter x k) s next))
+      rest = uses-rest w (typesIn s w) rec x (bodyFrom (4096 - (rec + 1)) (openAfter x k) s next) (rw (body-cons s k rec here x next h e) at (v .recalled))
 
 -- the end's byte is no opcode
 end-formless : formOf 0xFF ≡ none
@@ -132,11 +157,11 @@ module _ (s w : List ℕ) (l : Locals) (k rec here : ℕ) (q : ByteAt) (told : b
     pub opening-gets : f ≡ F.Opening → rec < 4096 → Resolvable s w rec k here → Gets (instruction k b opening s a)
     opening-gets e h r = formed-gets opening (ap formIs e) h r
 
-    pub elsing-gets : f ≡ F.Elsing → rec < 4096 → Resolvable s w rec k here → Gets (instruction k 0x05 elsing s a)
+    pub elsing-gets : f ≡ F.Elsing → rec < 4096 → Resolvable s w rec k here → Gets (instruction k 0x05 (closingForm 0) s a)
     unfolding instruction
     elsing-gets e h r = formed-gets elsing (ap formIs e) h r
 
-    pub ending-gets : f ≡ F.Ending → rec < 4096 → Resolvable s w rec k here → Gets (instruction k 0x0B ending s a)
+    pub ending-gets : f ≡ F.Ending → rec < 4096 → Resolvable s w rec k here → Gets (instruction k 0x0B (closingForm 1) s a)
     unfolding instruction
     ending-gets e h r = formed-gets ending (ap formIs e) h r
 
@@ -148,11 +173,11 @@ module _ (s w : List ℕ) (l : Locals) (k rec here : ℕ) (q : ByteAt) (told : b
       pub form-opening : f ≡ F.Opening → AnyLocals s w k rec (recordOf (instruction k b opening s a)) old at r w′ new → Turned s w (localsIn s w l) k rec (bodyRec k s here) old at r w′ new
       form-opening e t = formed-turn opening (ap formIs e) old at r w′ new (t .each (localsIn s w l))
 
-      pub form-elsing : f ≡ F.Elsing → AnyLocals s w k rec (recordOf (instruction k 0x05 elsing s a)) old at r w′ new → Turned s w (localsIn s w l) k rec (bodyRec k s here) old at r w′ new
+      pub form-elsing : f ≡ F.Elsing → AnyLocals s w k rec (recordOf (instruction k 0x05 (closingForm 0) s a)) old at r w′ new → Turned s w (localsIn s w l) k rec (bodyRec k s here) old at r w′ new
       unfolding instruction
       form-elsing e t = formed-turn elsing (ap formIs e) old at r w′ new (t .each (localsIn s w l))
 
-      pub form-ending : f ≡ F.Ending → AnyLocals s w k rec (recordOf (instruction k 0x0B ending s a)) old at r w′ new → Turned s w (localsIn s w l) k rec (bodyRec k s here) old at r w′ new
+      pub form-ending : f ≡ F.Ending → AnyLocals s w k rec (recordOf (instruction k 0x0B (closingForm 1) s a)) old at r w′ new → Turned s w (localsIn s w l) k rec (bodyRec k s here) old at r w′ new
       unfolding instruction
       form-ending e t = formed-turn ending (ap formIs e) old at r w′ new (t .each (localsIn s w l))
 
@@ -171,10 +196,10 @@ pub ruleset forms = (byte-fault, form-none, form-opening, form-elsing, form-endi
 
 module _ (Γ : Scope Identifier) (locals blocks : Namespace Identifier) (rec : ℕ) (x : Syntax.Instr Identifier) (xs : List (Syntax.Instr Identifier)) (done : List Op) where
   -- one more is done
-  body-more : (o : Op) → instrOp Γ locals blocks rec x ≡ ok o
-      → (body Γ locals blocks rec (x ∷ xs) >>= after done) ≡ (body Γ locals (blocksAfter blocks x) (rec + 1) xs >>= after (done ++ (o ∷ [])))
+  body-more : (o : Op) (r : ℕ) → r ≡ rec + 1 → instrOp Γ locals blocks rec x ≡ ok o
+      → (body Γ locals blocks rec (x ∷ xs) >>= after done) ≡ (body Γ locals (blocksAfter blocks x) r xs >>= after (done ++ (o ∷ [])))
   unfolding body _>>=_ after
-  body-more o e = rw e (go (body Γ locals (blocksAfter blocks x) (rec + 1) xs))
+  body-more o r n e = rw (n, e) (go (body Γ locals (blocksAfter blocks x) (rec + 1) xs))
     where
       go : (m : Answer (List Op)) → ((m >>= λ ys. ok (o ∷ ys)) >>= λ ys. ok (done ++ ys)) ≡ (m >>= λ ys. ok ((done ++ (o ∷ [])) ++ ys))
       go (ok ys) = ap ok (sym (append-assoc done (o ∷ []) ys))
@@ -198,25 +223,27 @@ pub resolvable-kept : (s w w′ : List ℕ) (rec k here : ℕ) → Kept UNUSED w
 resolvable-kept s w w′ rec k here h r = record { recalled = recalled-scope s w w′ (bodyUses rec (bodyFrom (4096 - rec) k s here)) h (r .recalled); whole = r .whole }
 
 -- so much is done, and the rest decides
-pub record Going (s w₀ : List ℕ) (l : Locals) (rec place : ℕ) (old : List ℕ) (at : ℕ) (w out : List ℕ) (o here r k : ℕ) : Type 0 where
+pub record Going (s w₀ : List ℕ) (l : Locals) (rec here : ℕ) (old : List ℕ) (at : ℕ) (w out : List ℕ) (o : ℕ) (p : Place) : Type 0 where
   pub done : List Op
   pub so-far : Put old at (concatMap Binary.instruction done) o out
-  pub same : body (scopeIn s w₀) (localsIn s w₀ l) [] rec (bodyFrom (4096 - rec) 0 s place) ≡ (body (scopeIn s w₀) (localsIn s w₀ l) (labelsIn s w k) r (bodyFrom (4096 - r) k s here) >>= after done)
-  pub resolvable : Resolvable s w r k here
-  pub few : k ≤ 128
-  pub low : r ≤ 4096
+  pub same : body (scopeIn s w₀) (localsIn s w₀ l) [] rec (bodyFrom (4096 - rec) 0 s here) ≡ (body (scopeIn s w₀) (localsIn s w₀ l) (labelsIn s w (p .depth - 1)) (p .rec) (bodyFrom (4096 - p .rec) (p .depth - 1) s (p .at)) >>= after done)
+  pub resolvable : Resolvable s w (p .rec) (p .depth - 1) (p .at)
+  pub deep : 1 ≤ p .depth
+  pub few : p .depth ≤ 129
+  pub low : p .rec ≤ 4096
   pub kept : Kept LABELS w₀ w
   pub long : length w ≡ length w₀
   pub room : length out ≡ length old
 
-pub going-begin : (s w : List ℕ) (l : Locals) (rec place : ℕ) (old : List ℕ) (at : ℕ) → length old * 1 < 2 ^ 63 → rec ≤ 4096
-    → Resolvable s w rec 0 place → Going s w l rec place old at w old at place rec 0
+pub going-begin : (s w : List ℕ) (l : Locals) (rec here : ℕ) (old : List ℕ) (at : ℕ) → length old * 1 < 2 ^ 63 → rec ≤ 4096
+    → Resolvable s w rec 0 here → Going s w l rec here old at w old at (record { at = here; rec = rec; depth = 1 })
 unfolding concatMap labelsIn labels
-going-begin s w l rec place old at h g r = record {
+going-begin s w l rec here old at h g r = record {
   done = [];
   so-far = put-none at (omega arith);
-  same = all-after (body (scopeIn s w) (localsIn s w l) [] rec (bodyFrom (4096 - rec) 0 s place));
+  same = all-after (body (scopeIn s w) (localsIn s w l) [] rec (bodyFrom (4096 - rec) 0 s here));
   resolvable = r;
+  deep = omega arith;
   few = omega arith;
   low = g;
   kept = kept-same LABELS w;
@@ -224,7 +251,7 @@ going-begin s w l rec place old at h g r = record {
   room = refl;
 }
 
-module _ {s w₀ : List ℕ} {l : Locals} {rec place : ℕ} {old : List ℕ} {at : ℕ} {w out : List ℕ} {o here r k : ℕ} (v : Going s w₀ l rec place old at w out o here r k) where
+module _ {s w₀ : List ℕ} {l : Locals} {rec here : ℕ} {old : List ℕ} {at : ℕ} {w out : List ℕ} {o : ℕ} {p : Place} (v : Going s w₀ l rec here old at w out o p) where
   pub going-area : WORDS ≤ length w₀ → WORDS ≤ length w
   going-area h = omega (arith, v .long)
 
@@ -234,64 +261,85 @@ module _ {s w₀ : List ℕ} {l : Locals} {rec place : ℕ} {old : List ℕ} {at
   pub going-out : length out ≡ length old
   going-out = v .room
 
+  -- a record is left
+  pub going-inside : p .rec < 4096 → InBody p
+  going-inside h = record { deep = v .deep; few = v .few; low = h }
+
+  pub going-resolvable : Resolvable s w (p .rec) (p .depth - 1) (p .at)
+  going-resolvable = v .resolvable
+
   -- no instruction is left
-  empty : bodyFrom (4096 - r) k s here ≡ [] → EmitsBody s w₀ l rec place old at (E.To o) w out
+  empty : bodyFrom (4096 - p .rec) (p .depth - 1) s (p .at) ≡ [] → EmitsBody s w₀ l rec here old at (E.To o) w out
   empty e = record {
-    emits = wrote (concatMap Binary.instruction) (body (scopeIn s w₀) (localsIn s w₀ l) [] rec (bodyFrom (4096 - rec) 0 s place)) old at out (v .done) o
-        (v .so-far) (v .same ∙ rw e (body-none (scopeIn s w₀) (localsIn s w₀ l) (labelsIn s w k) r (v .done)));
+    emits = wrote (concatMap Binary.instruction) (body (scopeIn s w₀) (localsIn s w₀ l) [] rec (bodyFrom (4096 - rec) 0 s here)) old at out (v .done) o
+        (v .so-far) (v .same ∙ rw e (body-none (scopeIn s w₀) (localsIn s w₀ l) (labelsIn s w (p .depth - 1)) (p .rec) (v .done)));
     kept = v .kept;
   }
 
-  pub going-full : 4096 ≤ r → EmitsBody s w₀ l rec place old at (E.To o) w out
+  pub going-full : 4096 ≤ p .rec → EmitsBody s w₀ l rec here old at (E.To o) w out
   unfolding bodyFrom
-  going-full h = empty (let m : 4096 - r ≡ 0 = omega arith in rw m)
+  going-full h = empty (let m : 4096 - p .rec ≡ 0 = omega arith in rw m)
 
   -- the instruction's answer in the first area
-  first : l .count ≤ 128 → (x : Syntax.Instr Identifier) (a : Answer Op) → instrOp (scopeIn s w) (localsIn s w l) (labelsIn s w k) r x ≡ a → instrOp (scopeIn s w₀) (localsIn s w₀ l) (labelsIn s w k) r x ≡ a
+  first : l .count ≤ 128 → (x : Syntax.Instr Identifier) (a : Answer Op) → instrOp (scopeIn s w) (localsIn s w l) (labelsIn s w (p .depth - 1)) (p .rec) x ≡ a → instrOp (scopeIn s w₀) (localsIn s w₀ l) (labelsIn s w (p .depth - 1)) (p .rec) x ≡ a
   first h x a e = rw (scope-kept s w₀ w (kept-less UNUSED LABELS (omega arith) (v .kept)), locals-kept s w₀ w l (v .kept) h) at e
 
-  module _ (res : Turn) (w′ new : List ℕ) (t : Turned s w (localsIn s w l) k r (bodyRec k s here) out o res w′ new) (h : r < 4096) (few : FewLocals l) where
-    pub going-again : (p next j : ℕ) → res ≡ T.On p next j → Going s w₀ l rec place old at w′ new p next (r + 1) j
-    unfolding Turned bodyUses
-    going-again p next j d =
-        let x : Stepped s w (localsIn s w l) k r (bodyRec k s here) out o p next j w′ new = rw d at t in
-        let c : bodyFrom (4096 - r) k s here ≡ x .read ∷ bodyFrom (4096 - (r + 1)) j s next = rw (x .depth) (body-cons s k r here (x .read) next h (x .reads)) in
-        let n : Kept UNUSED w w′ = kept-less UNUSED LABELS (omega arith) (x .kept) in
-        let m : (body (scopeIn s w₀) (localsIn s w₀ l) (labelsIn s w k) r (bodyFrom (4096 - r) k s here) >>= after (v .done))
-        ≡ (body (scopeIn s w₀) (localsIn s w₀ l) (blocksAfter (labelsIn s w k) (x .read)) (r + 1) (bodyFrom (4096 - (r + 1)) j s next) >>= after (v .done ++ (x .op ∷ []))) =
-        rw c (body-more (scopeIn s w₀) (localsIn s w₀ l) (labelsIn s w k) r (x .read) (bodyFrom (4096 - (r + 1)) j s next) (v .done) (x .op) (first (few .named) (x .read) (ok (x .op)) (x .is))) in
-        record {
-          done = v .done ++ (x .op ∷ []);
-          so-far = put-is (put-then (v .so-far) (x .put)) (sym (concat-snoc Binary.instruction (v .done) (x .op)));
-          same = rw (x .blocks) (v .same ∙ m);
-          resolvable = resolvable-kept s w w′ (r + 1) j next n
-              (record {
-                recalled = recalled-right w (typesIn s w) (usedAt r (instrUses (x .read))) (bodyUses (r + 1) (bodyFrom (4096 - (r + 1)) j s next)) (rw c at (v .resolvable .recalled));
-                whole = rw (x .depth) (whole-cons s k r here (x .read) next h (x .reads) (v .resolvable .whole));
-              });
-          few = x .few;
-          low = omega arith;
-          kept = kept-then (v .kept) (x .kept);
-          long = x .kept .long ∙ v .long;
-          room = put-length (x .put) ∙ v .room;
-        }
+  module _ (res : Turn) (w′ new : List ℕ) (t : Turned s w (localsIn s w l) (p .depth - 1) (p .rec) (bodyRec (p .depth - 1) s (p .at)) out o res w′ new) (h : p .rec < 4096) where
+    stepped : (a : ℕ) (q : Place) → res ≡ T.On a q → Stepped s w (localsIn s w l) (p .depth - 1) (p .rec) (bodyRec (p .depth - 1) s (p .at)) out o a q w′ new
+    unfolding Turned
+    stepped a q d = rw d at t
 
-    pub going-done : res ≡ T.Done → EmitsBody s w₀ l rec place old at (E.To o) w′ new
+    pub going-less : (a : ℕ) (q : Place) → res ≡ T.On a q → 4096 - q .rec < 4096 - p .rec
+    going-less a q d = let e : q .rec ≡ p .rec + 1 = stepped a q d .next in omega arith
+
+    module _ (few : FewLocals l) where
+      pub going-again : (a : ℕ) (q : Place) → res ≡ T.On a q → Going s w₀ l rec here old at w′ new a q
+      going-again a q d =
+          let x : Stepped s w (localsIn s w l) (p .depth - 1) (p .rec) (bodyRec (p .depth - 1) s (p .at)) out o a q w′ new = stepped a q d in
+          let r : q .rec ≡ p .rec + 1 = x .next in
+          let j : q .depth ≡ openAfter (x .read) (p .depth - 1) + 1 = x .depth in
+          let i : q .depth - 1 ≡ openAfter (x .read) (p .depth - 1) = omega arith in
+          let c : bodyFrom (4096 - p .rec) (p .depth - 1) s (p .at) ≡ x .read ∷ bodyFrom (4096 - q .rec) (q .depth - 1) s (q .at) =
+          body-next s (p .depth - 1) (p .rec) (p .at) (x .read) (q .at) h (x .reads) (q .rec) (q .depth - 1) r i in
+          let m : (body (scopeIn s w₀) (localsIn s w₀ l) (labelsIn s w (p .depth - 1)) (p .rec) (bodyFrom (4096 - p .rec) (p .depth - 1) s (p .at)) >>= after (v .done))
+          ≡ (body (scopeIn s w₀) (localsIn s w₀ l) (blocksAfter (labelsIn s w (p .depth - 1)) (x .read)) (q .rec) (bodyFrom (4096 - q .rec) (q .depth - 1) s (q .at)) >>= after (v .done ++ (x .op ∷ []))) =
+          rw c
+          (body-more (scopeIn s w₀) (localsIn s w₀ l) (labelsIn s w (p .depth - 1)) (p .rec) (x .read) (bodyFrom (4096 - q .rec) (q .depth - 1) s (q .at)) (v .done) (x .op) (q .rec) r
+          (first (few .named) (x .read) (ok (x .op)) (x .is))) in
+          record {
+            done = v .done ++ (x .op ∷ []);
+            so-far = put-is (put-then (v .so-far) (x .put)) (sym (concat-snoc Binary.instruction (v .done) (x .op)));
+            same = rw (x .blocks) (v .same ∙ m);
+            resolvable = resolvable-kept s w w′ (q .rec) (q .depth - 1) (q .at) (kept-less UNUSED LABELS (omega arith) (x .kept))
+                (resolvable-next s (p .depth - 1) (p .rec) (p .at) (x .read) (q .at) h (x .reads) (q .rec) (q .depth - 1) r i w (v .resolvable));
+            deep = omega arith;
+            few = x .few;
+            low = omega arith;
+            kept = kept-then (v .kept) (x .kept);
+            long = x .kept .long ∙ v .long;
+            room = put-length (x .put) ∙ v .room;
+          }
+
+      pub going-refused : (q : Refusal) → res ≡ T.Refused q → EmitsBody s w₀ l rec here old at (E.Refused q) w′ new
+      unfolding Turned
+      going-refused q d =
+          let x : Halted s w (localsIn s w l) (p .depth - 1) (p .rec) (bodyRec (p .depth - 1) s (p .at)) q w′ = rw d at t in
+          let c : bodyFrom (4096 - p .rec) (p .depth - 1) s (p .at) ≡ x .read ∷ bodyFrom (4096 - (p .rec + 1)) (openAfter (x .read) (p .depth - 1)) s (x .next) =
+          body-cons s (p .depth - 1) (p .rec) (p .at) (x .read) (x .next) h (x .reads) in
+          record {
+            emits = halts (concatMap Binary.instruction) (body (scopeIn s w₀) (localsIn s w₀ l) [] rec (bodyFrom (4096 - rec) 0 s here)) old at new q
+                (v .same
+                ∙ rw c
+                (body-not (scopeIn s w₀) (localsIn s w₀ l) (labelsIn s w (p .depth - 1)) (p .rec) (x .read) (bodyFrom (4096 - (p .rec + 1)) (openAfter (x .read) (p .depth - 1)) s (x .next)) (v .done) q
+                (first (few .named) (x .read) (refusedBy q) (x .says))));
+            kept = rw (x .area) (v .kept);
+          }
+
+    pub going-done : res ≡ T.Done → EmitsBody s w₀ l rec here old at (E.To o) w′ new
     unfolding Turned bodyFrom
     going-done d =
-        let x : Ended (bodyRec k s here) w out w′ new = rw d at t in
-        let m : 4096 - r ≡ suc (4096 - (r + 1)) = omega arith in
-        rw (x .area, x .bytes) (empty (rw m (x .none (λ i next. i ∷ bodyFrom (4096 - (r + 1)) (openAfter i k) s next))))
-
-    pub going-refused : (q : Refusal) → res ≡ T.Refused q → EmitsBody s w₀ l rec place old at (E.Refused q) w′ new
-    unfolding Turned
-    going-refused q d =
-        let x : Halted s w (localsIn s w l) k r (bodyRec k s here) q w′ = rw d at t in
-        let c : bodyFrom (4096 - r) k s here ≡ x .read ∷ bodyFrom (4096 - (r + 1)) (openAfter (x .read) k) s (x .next) = body-cons s k r here (x .read) (x .next) h (x .reads) in
-        record {
-          emits = halts (concatMap Binary.instruction) (body (scopeIn s w₀) (localsIn s w₀ l) [] rec (bodyFrom (4096 - rec) 0 s place)) old at new q
-              (v .same ∙ rw c (body-not (scopeIn s w₀) (localsIn s w₀ l) (labelsIn s w k) r (x .read) (bodyFrom (4096 - (r + 1)) (openAfter (x .read) k) s (x .next)) (v .done) q (first (few .named) (x .read) (refusedBy q) (x .says))));
-          kept = rw (x .area) (v .kept);
-        }
+        let x : Ended (bodyRec (p .depth - 1) s (p .at)) w out w′ new = rw d at t in
+        let m : 4096 - p .rec ≡ suc (4096 - (p .rec + 1)) = omega arith in
+        rw (x .area, x .bytes) (empty (rw m (x .none (λ i next. i ∷ bodyFrom (4096 - (p .rec + 1)) (openAfter i (p .depth - 1)) s next))))
 
 pub ruleset goings = (going-again, going-done, going-refused, going-full)

@@ -22,6 +22,6 @@ pub record Resolvable (s w : List ℕ) (rec k here : ℕ) : Type 0 where
   pub whole : wholeBody (4096 - rec) k s here ≡ true
 
 -- the body is what the definition makes of it, and only labels were written into the work area
-pub record EmitsBody (s w : List ℕ) (l : Locals) (rec place : ℕ) (old : List ℕ) (at : ℕ) (r : Emitted) (w′ new : List ℕ) : Type 0 where
-  pub emits : Emits (concatMap instruction) (body (scopeIn s w) (localsIn s w l) [] rec (bodyFrom (4096 - rec) 0 s place)) old at r new
+pub record EmitsBody (s w : List ℕ) (l : Locals) (rec here : ℕ) (old : List ℕ) (at : ℕ) (r : Emitted) (w′ new : List ℕ) : Type 0 where
+  pub emits : Emits (concatMap instruction) (body (scopeIn s w) (localsIn s w l) [] rec (bodyFrom (4096 - rec) 0 s here)) old at r new
   pub kept : Kept LABELS w w′

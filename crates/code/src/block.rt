@@ -9,12 +9,14 @@ use syntax::Index;
 use syntax::IndexAt;
 use syntax::Part;
 use syntax::PartAt;
+use syntax::Place;
 use syntax::Space;
 use syntax::TypeUse;
 use syntax::UseAt;
+ghost use mathlib.Core.Path.{_≡_};
 ghost use mathlib.Core.List.{[]};
 ghost use mathlib.Core.Option.{none};
-ghost use Prim.Native.Nat.{_≤_, _<_};
+ghost use Prim.Native.Nat.{_-_, _≤_};
 ghost use lib.ListN.{length};
 ghost use Rattle.area.specs.Layout.{WORDS};
 ghost use Rattle.area.specs.Lent.{Lent};
@@ -31,8 +33,8 @@ ghost use Rattle.type_table.specs.Table.{typesIn, Recalled};
 ghost use Rattle.scope.specs.Scope.{scopeIn};
 ghost use Rattle.type_table.specs.Uses.{blockUses};
 ghost use Rattle.binary.specs.Emits.{Emits};
-ghost use Rattle.plain.specs.Turns.{recordOf, readUses, AnyLocals};
-ghost use Rattle.code.specs.Code.{closingOp};
+ghost use Rattle.plain.specs.Turns.{InBody, recordOf, readUses, AnyLocals};
+ghost use Rattle.code.specs.Code.{closingCode, closingForm, closingOp};
 
 // A block, a loop or an if.
 fn emit_opens(
@@ -40,14 +42,14 @@ fn emit_opens(
     work: &[u32],
     out: &mut [u8],
     at: usize,
+    p: Place,
     opcode: u8,
     t: TypeUse,
-    rec: u32,
 ) -> Emitted
-    requires { ⌜ (WORDS ≤ length (now work)) × Recalled (now work) (typesIn (now s) (now work)) (Types.usedAt rec (blockUses (useOf (now s) t))) ⌝ }
-    ensures { λ r. ⌜ Emits Binary.instruction (Names.instrOp (scopeIn (now (s .entry)) (now (work .entry))) [] [] rec (opens opcode none (useOf (now (s .entry)) t))) (now (out .entry)) at r (now (out .exit)) ⌝ }
+    requires { ⌜ (WORDS ≤ length (now work)) × Recalled (now work) (typesIn (now s) (now work)) (Types.usedAt (p .rec) (blockUses (useOf (now s) t))) ⌝ }
+    ensures { λ r. ⌜ Emits Binary.instruction (Names.instrOp (scopeIn (now (s .entry)) (now (work .entry))) [] [] (p .rec) (opens opcode none (useOf (now (s .entry)) t))) (now (out .entry)) at r (now (out .exit)) ⌝ }
 {
-    match scope::block_type(s, work, t, rec) {
+    match scope::block_type(s, work, t, p.rec) {
         BlockAt::To(b) => {
             let a = emit::put(out, at, opcode);
             Emitted::To(binary::put_block_type(out, a, b))
@@ -62,20 +64,19 @@ fn opened(
     work: &mut [u32],
     out: &mut [u8],
     at: usize,
+    p: Place,
     next: usize,
-    k: u32,
     opcode: u8,
     label: Part,
     t: TypeUse,
-    rec: u32,
 ) -> Turn
-    requires { ⌜ Lent (now s) (now work) × (k < 128) × Recalled (now work) (typesIn (now s) (now work)) (Types.usedAt rec (blockUses (useOf (now s) t))) ⌝ }
-    ensures { λ r. ⌜ AnyLocals (now (s .entry)) (now (work .entry)) k rec (got (instr (opens opcode (idOf (now (s .entry)) label) (useOf (now (s .entry)) t))) next) (now (out .entry)) at r (now (work .exit)) (now (out .exit)) ⌝ }
+    requires { ⌜ Lent (now s) (now work) × InBody p × (p .depth ≤ 128) × Recalled (now work) (typesIn (now s) (now work)) (Types.usedAt (p .rec) (blockUses (useOf (now s) t))) ⌝ }
+    ensures { λ r. ⌜ AnyLocals (now (s .entry)) (now (work .entry)) (p .depth - 1) (p .rec) (got (instr (opens opcode (idOf (now (s .entry)) label) (useOf (now (s .entry)) t))) next) (now (out .entry)) at r (now (work .exit)) (now (out .exit)) ⌝ }
 {
-    match emit_opens(s, work, out, at, opcode, t, rec) {
+    match emit_opens(s, work, out, at, p, opcode, t) {
         Emitted::To(o) => {
-            frames::open_block(s, work, k, label);
-            Turn::On(o, next, k + 1)
+            frames::open_block(s, work, p.depth - 1, label);
+            plain::go_on(Emitted::To(o), p, next, p.depth + 1)
         }
         Emitted::Refused(q) => Turn::Refused(q),
     }
@@ -86,20 +87,18 @@ pub fn opens_record(
     work: &mut [u32],
     out: &mut [u8],
     at: usize,
-    here: usize,
-    k: u32,
+    p: Place,
     opcode: u8,
-    rec: u32,
 ) -> Turn
-    requires { ⌜ Lent (now s) (now work) × Recalled (now work) (typesIn (now s) (now work)) (readUses rec (Instructions.instruction k opcode Instructions.opening (now s) here)) × Gets (Instructions.instruction k opcode Instructions.opening (now s) here) ⌝ }
-    ensures { λ r. ⌜ AnyLocals (now (s .entry)) (now (work .entry)) k rec (recordOf (Instructions.instruction k opcode Instructions.opening (now (s .entry)) here)) (now (out .entry)) at r (now (work .exit)) (now (out .exit)) ⌝ }
+    requires { ⌜ Lent (now s) (now work) × InBody p × Recalled (now work) (typesIn (now s) (now work)) (readUses (p .rec) (Instructions.instruction (p .depth - 1) opcode Instructions.opening (now s) (p .at))) × Gets (Instructions.instruction (p .depth - 1) opcode Instructions.opening (now s) (p .at)) ⌝ }
+    ensures { λ r. ⌜ AnyLocals (now (s .entry)) (now (work .entry)) (p .depth - 1) (p .rec) (recordOf (Instructions.instruction (p .depth - 1) opcode Instructions.opening (now (s .entry)) (p .at))) (now (out .entry)) at r (now (work .exit)) (now (out .exit)) ⌝ }
 {
-    if 128 <= k {
+    if 128 < p.depth {
         return Turn::Done;
     }
-    match token::known_identifier(s, here) {
+    match token::known_identifier(s, p.at) {
         PartAt::Got(label, a) => match typeuse::known_type_use(s, a) {
-            UseAt::Got(t, next) => opened(s, work, out, at, next, k, opcode, label, t, rec),
+            UseAt::Got(t, next) => opened(s, work, out, at, p, next, opcode, label, t),
             UseAt::Fault(_) => Turn::Done,
         },
         PartAt::Fault(_) => Turn::Done,
@@ -112,63 +111,39 @@ fn emit_closing(
     work: &[u32],
     out: &mut [u8],
     at: usize,
-    k: u32,
+    p: Place,
     opcode: u8,
     label: Part,
-    rec: u32,
 ) -> Emitted
-    requires { ⌜ (WORDS ≤ length (now work)) × (k ≤ 128) ⌝ }
-    ensures { λ r. ⌜ Emits Binary.instruction (closingOp (now (s .entry)) (now (work .entry)) k rec opcode (idOf (now (s .entry)) label)) (now (out .entry)) at r (now (out .exit)) ⌝ }
+    requires { ⌜ (WORDS ≤ length (now work)) × InBody p ⌝ }
+    ensures { λ r. ⌜ Emits Binary.instruction (closingOp (now (s .entry)) (now (work .entry)) (p .depth - 1) (p .rec) opcode (idOf (now (s .entry)) label)) (now (out .entry)) at r (now (out .exit)) ⌝ }
 {
-    match scope::closes(s, work, k, label, rec) {
+    match scope::closes(s, work, p.depth - 1, label, p.rec) {
         Closed::Yes => Emitted::To(emit::put(out, at, opcode)),
         Closed::Refused(q) => Emitted::Refused(q),
     }
 }
 
-pub fn else_record(
+// An else closes no block, an end one.
+pub fn closing_record(
     s: &[u8],
     work: &[u32],
     out: &mut [u8],
     at: usize,
-    here: usize,
-    k: u32,
-    rec: u32,
+    p: Place,
+    opcode: u8,
+    closed: u32,
 ) -> Turn
-    requires { ⌜ (WORDS ≤ length (now work)) × (k ≤ 128) × Gets (Instructions.instruction k 0x05 Instructions.elsing (now s) here) ⌝ }
-    ensures { λ r. ⌜ AnyLocals (now (s .entry)) (now (work .entry)) k rec (recordOf (Instructions.instruction k 0x05 Instructions.elsing (now (s .entry)) here)) (now (out .entry)) at r (now (work .entry)) (now (out .exit)) ⌝ }
+    requires { ⌜ (WORDS ≤ length (now work)) × InBody p × (closed ≤ 1) × (opcode ≡ closingCode closed) × Gets (Instructions.instruction (p .depth - 1) opcode (closingForm closed) (now s) (p .at)) ⌝ }
+    ensures { λ r. ⌜ AnyLocals (now (s .entry)) (now (work .entry)) (p .depth - 1) (p .rec) (recordOf (Instructions.instruction (p .depth - 1) opcode (closingForm closed) (now (s .entry)) (p .at))) (now (out .entry)) at r (now (work .entry)) (now (out .exit)) ⌝ }
 {
-    if k < 1 {
+    if p.depth < 2 {
         return Turn::Done;
     }
-    match token::known_identifier(s, here) {
+    match token::known_identifier(s, p.at) {
         PartAt::Got(label, next) => {
-            let e = emit_closing(s, work, out, at, k, 0x05, label, rec);
-            plain::go_on(e, next, k)
-        }
-        PartAt::Fault(_) => Turn::Done,
-    }
-}
-
-pub fn end_record(
-    s: &[u8],
-    work: &[u32],
-    out: &mut [u8],
-    at: usize,
-    here: usize,
-    k: u32,
-    rec: u32,
-) -> Turn
-    requires { ⌜ (WORDS ≤ length (now work)) × (k ≤ 128) × Gets (Instructions.instruction k 0x0B Instructions.ending (now s) here) ⌝ }
-    ensures { λ r. ⌜ AnyLocals (now (s .entry)) (now (work .entry)) k rec (recordOf (Instructions.instruction k 0x0B Instructions.ending (now (s .entry)) here)) (now (out .entry)) at r (now (work .entry)) (now (out .exit)) ⌝ }
-{
-    if k < 1 {
-        return Turn::Done;
-    }
-    match token::known_identifier(s, here) {
-        PartAt::Got(label, next) => {
-            let e = emit_closing(s, work, out, at, k, 0x0B, label, rec);
-            plain::go_on(e, next, k - 1)
+            let e = emit_closing(s, work, out, at, p, opcode, label);
+            plain::go_on(e, p, next, p.depth - closed)
         }
         PartAt::Fault(_) => Turn::Done,
     }
@@ -180,15 +155,15 @@ fn emit_indirect(
     work: &[u32],
     out: &mut [u8],
     at: usize,
+    p: Place,
     x: Index,
     t: TypeUse,
-    rec: u32,
 ) -> Emitted
-    requires { ⌜ (WORDS ≤ length (now work)) × Recalled (now work) (typesIn (now s) (now work)) (Types.usedAt rec (Types.useOf (useOf (now s) t))) ⌝ }
-    ensures { λ r. ⌜ Emits Binary.instruction (Names.instrOp (scopeIn (now (s .entry)) (now (work .entry))) [] [] rec (indirect (indexOf (now (s .entry)) x) (useOf (now (s .entry)) t))) (now (out .entry)) at r (now (out .exit)) ⌝ }
+    requires { ⌜ (WORDS ≤ length (now work)) × Recalled (now work) (typesIn (now s) (now work)) (Types.usedAt (p .rec) (Types.useOf (useOf (now s) t))) ⌝ }
+    ensures { λ r. ⌜ Emits Binary.instruction (Names.instrOp (scopeIn (now (s .entry)) (now (work .entry))) [] [] (p .rec) (indirect (indexOf (now (s .entry)) x) (useOf (now (s .entry)) t))) (now (out .entry)) at r (now (out .exit)) ⌝ }
 {
-    match scope::item_no(s, work, Space::Tables, x, rec) {
-        Resolved::To(table) => match scope::type_no(s, work, t, rec) {
+    match scope::item_no(s, work, Space::Tables, x, p.rec) {
+        Resolved::To(table) => match scope::type_no(s, work, t, p.rec) {
             TypeAt::To(n) => {
                 let a = emit::put(out, at, 0x11);
                 Emitted::To(binary::put_indirect(out, a, n, table))
@@ -199,23 +174,15 @@ fn emit_indirect(
     }
 }
 
-pub fn indirect_record(
-    s: &[u8],
-    work: &[u32],
-    out: &mut [u8],
-    at: usize,
-    here: usize,
-    k: u32,
-    rec: u32,
-) -> Turn
-    requires { ⌜ (WORDS ≤ length (now work)) × (k ≤ 128) × Recalled (now work) (typesIn (now s) (now work)) (readUses rec (Instructions.instruction k 0x11 Instructions.calling (now s) here)) ⌝ }
-    ensures { λ r. ⌜ AnyLocals (now (s .entry)) (now (work .entry)) k rec (recordOf (Instructions.instruction k 0x11 Instructions.calling (now (s .entry)) here)) (now (out .entry)) at r (now (work .entry)) (now (out .exit)) ⌝ }
+pub fn indirect_record(s: &[u8], work: &[u32], out: &mut [u8], at: usize, p: Place) -> Turn
+    requires { ⌜ (WORDS ≤ length (now work)) × InBody p × Recalled (now work) (typesIn (now s) (now work)) (readUses (p .rec) (Instructions.instruction (p .depth - 1) 0x11 Instructions.calling (now s) (p .at))) ⌝ }
+    ensures { λ r. ⌜ AnyLocals (now (s .entry)) (now (work .entry)) (p .depth - 1) (p .rec) (recordOf (Instructions.instruction (p .depth - 1) 0x11 Instructions.calling (now (s .entry)) (p .at))) (now (out .entry)) at r (now (work .entry)) (now (out .exit)) ⌝ }
 {
-    match token::read_optional(s, here) {
+    match token::read_optional(s, p.at) {
         IndexAt::Got(x, a) => match typeuse::read_type_use(s, a) {
             UseAt::Got(t, next) => {
-                let e = emit_indirect(s, work, out, at, x, t, rec);
-                plain::go_on(e, next, k)
+                let e = emit_indirect(s, work, out, at, p, x, t);
+                plain::go_on(e, p, next, p.depth)
             }
             UseAt::Fault(_) => Turn::Done,
         },

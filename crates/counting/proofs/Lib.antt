@@ -1,2 +1,3 @@
 pub mod More
 pub mod Counts
+pub mod Words

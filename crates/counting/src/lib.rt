@@ -6,6 +6,9 @@ use syntax::Seen;
 use syntax::Source;
 use syntax::Space;
 ghost use mathlib.Core.Path.{_≡_};
+ghost use Prim.Native.Nat.{_+_, _≤_};
+ghost use lib.ListN.{length};
+ghost use lib.Seq.{sets};
 ghost use Rattle.syntax.specs.Tokens.{spaceOf};
 ghost use Rattle.counting.specs.Counting.{up, oneMore, externSpaceOf, ownSpaceOf, sourceSpaceOf, sourceBrings, startSeen, fieldSeen};
 
@@ -98,5 +101,18 @@ pub fn with_field(seen: Seen, f: Field) -> Seen
         Field::Start(_) => with_start(seen),
         Field::Elem { .. } => one_more(seen, Space::Elems),
         Field::Data { .. } => one_more(seen, Space::Datas),
+    }
+}
+
+// The counts become the words of the work area from a place on.
+pub fn put_counts(work: &mut [u32], at: usize, seen: Seen)
+    requires { ⌜ at + 7 ≤ length (now work) ⌝ }
+    ensures { λ _. ⌜ now (work .exit) ≡ sets (now (work .entry)) at (seen .counts) ⌝ }
+{
+    let counts = seen.counts;
+    let mut i = 0;
+    while i < 7 {
+        work[at + i] = counts[i];
+        i += 1;
     }
 }

@@ -1,7 +1,10 @@
 -- The entries of a field, by what a match on it gives.
 use Prim.Native.Nat.{ℕ}
-use mathlib.Core.Path.{_≡_}
+use mathlib.Core.Path.{_≡_, refl}
 use mathlib.Core.Bool.{Bool}
+use mathlib.Core.List.{[], _∷_}
+use types.Run.{OneOf, miss}
+use denote.Enum.Declared.{tagOf}
 use Rattle.syntax.specs.Tokens.{spaceOf}
 use Rattle.syntax.specs.declared.Part.{Part}
 use Rattle.syntax.specs.declared.Space as Kind
@@ -14,6 +17,7 @@ use Rattle.syntax.specs.declared.Source.{Source}
 use Rattle.syntax.specs.declared.Source.the-variants as S
 use Rattle.syntax.specs.declared.Field.{Field}
 use Rattle.syntax.specs.declared.Field.the-variants as F
+use Rattle.syntax.proofs.Field as FieldOf
 use Rattle.counting.specs.Counting.{sourceSpaceOf}
 use Rattle.deinline.specs.Entry.{sectionNo, exportsOf, firstOf, secondOf, thirdOf, itemIn, secondIn, thirdIn, threeOf, three}
 use Rattle.syntax.specs.declared.Entry.{Entry}
@@ -27,6 +31,16 @@ is-section n e v p d = rw p d
 
 pub is-item : (i : ItemIn) (f v : Field) → f ≡ v → i ≡ itemIn v → i ≡ itemIn f
 is-item i f v p d = rw p d
+
+pub not-item : (f : Field) → OneOf (0 ∷ 1 ∷ 3 ∷ 4 ∷ 5 ∷ 6 ∷ []) (tagOf FieldOf.the-type f) → I.Other ≡ itemIn f
+unfolding itemIn
+not-item (F.Type i ps rs) h = refl
+not-item (F.Import n i x) h = refl
+not-item (F.Item i es x) h = absurd (miss (0 ∷ 1 ∷ 3 ∷ 4 ∷ 5 ∷ 6 ∷ []) 2 tt h)
+not-item (F.Export n k x) h = refl
+not-item (F.Start x) h = refl
+not-item (F.Elem i m xs) h = refl
+not-item (F.Data i m d) h = refl
 
 -- ## The first entry: the exports have the number of the item
 

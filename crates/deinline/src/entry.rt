@@ -84,37 +84,8 @@ pub fn item_in(f: Field) -> ItemIn
     ensures { λ r. ⌜ r ≡ itemIn f ⌝ }
 {
     match f {
-        Field::Type {
-            id: _,
-            params: _,
-            results: _,
-        } => ItemIn::Other,
-        Field::Import {
-            name: _,
-            id: _,
-            what: _,
-        } => ItemIn::Other,
-        Field::Item {
-            id: _,
-            exports: _,
-            source,
-        } => ItemIn::Item(source),
-        Field::Export {
-            name: _,
-            space: _,
-            index: _,
-        } => ItemIn::Other,
-        Field::Start(_) => ItemIn::Other,
-        Field::Elem {
-            id: _,
-            mode: _,
-            funcs: _,
-        } => ItemIn::Other,
-        Field::Data {
-            id: _,
-            mode: _,
-            bytes: _,
-        } => ItemIn::Other,
+        Field::Item { source, .. } => ItemIn::Item(source),
+        _ => ItemIn::Other,
     }
 }
 

@@ -1,11 +1,13 @@
 -- The entries, one kind after the other: what its emitter says is what the definition makes of it.
-use Prim.Native.Nat.{ℕ, _*_, _<_, _^_}
+use Prim.Native.Nat.{ℕ, _*_, _≤_, _<_, _^_}
 use mathlib.Core.Path.{_≡_, refl, sym, ap}
 use mathlib.Core.Bool.{Bool, true, false}
 use mathlib.Core.List.{List, [], _∷_, append-nil}
 use mathlib.Core.Option.{none}
 use lib.ListN.{length}
 use native.Mathlib.Omega.{arith}
+use types.Run.{OneOf, miss}
+use denote.Enum.Declared.{tagOf}
 use Rattle.definition.specs.Basic.{Answer, ok, _>>=_, concatMap}
 use Rattle.definition.specs.Syntax as Syntax
 use Rattle.definition.specs.Syntax.{Bytes, Identifier, FuncType, number, active, importF, ownF, ownGlobal, exportF, startF, elemF, dataF}
@@ -42,10 +44,11 @@ use Rattle.binary.specs.declared.Emitted.the-variants as T
 use Rattle.import_export.specs.Entry.{entryOf, exportEntries, Lists}
 use Rattle.operands.specs.Operands.{zeroOp}
 use Rattle.import_export.specs.declared.export.Ends.{Ends}
-use Rattle.deinline.specs.Entry.{oneOf, typeBytes, answerOf, usesOf}
-use Rattle.entries.specs.Listed.{Answers, oneEnd, allEnds, otherAnswer}
+use Rattle.deinline.specs.Entry.{sectionNo, oneOf, typeBytes, answerOf, usesOf}
+use Rattle.entries.specs.Listed.{Answers, oneEnd, allEnds, NotCode}
 use Rattle.syntax.specs.declared.Entry.{Entry}
 use Rattle.syntax.specs.declared.Entry.the-variants as E
+use Rattle.syntax.proofs.Entry as EntryOf
 use Rattle.entries.specs.declared.EndsAt.{EndsAt}
 use Rattle.entries.specs.declared.EndsAt.the-variants as A
 
@@ -76,36 +79,33 @@ one-emits bytes a old at (T.Refused r) x new w e = rw e (ap (oneOf bytes) w)
 
 module _ (Γ : Scope Identifier) (s : Bytes) (r : ℕ) (e : Entry) (old : List ℕ) (at : ℕ) where
   abbrev Arm : EndsAt → List ℕ → Type 0
-  Arm x new = Answers (otherAnswer Γ s r e) old at x new
+  Arm x new = Answers (answerOf Γ s r e) old at x new
 
   pub arm-nothing : e ≡ E.Nothing → length old * 1 < 2 ^ 63 → Arm (A.Ends at 0) old
   unfolding answerOf
-  arm-nothing d h = no-put (otherAnswer Γ s r e) old at (rw d) h
-
-  pub arm-code : (t : TypeUse) (ls : Code.List) (here : ℕ) → e ≡ E.Code t ls here → length old * 1 < 2 ^ 63 → Arm (A.Ends at 0) old
-  arm-code t ls here d h = no-put (otherAnswer Γ s r e) old at (rw d) h
+  arm-nothing d h = no-put (answerOf Γ s r e) old at (rw d) h
 
   module _ (o : ℕ) (new : List ℕ) where
     pub arm-type : (ps rs : Code.List) → e ≡ E.Type ps rs → Put old at (funcType (record { params = listOf Token.valType s ps; results = listOf Token.valType s rs })) o new → Arm (A.Ends o 1) new
     unfolding answerOf
-    arm-type ps rs d p = one-put (otherAnswer Γ s r e) _ old at o new (rw d) p
+    arm-type ps rs d p = one-put (answerOf Γ s r e) _ old at o new (rw d) p
 
     pub arm-table : (t : TableType) → e ≡ E.Table t → Put old at (tableType (tableTypeIs t)) o new → Arm (A.Ends o 1) new
     unfolding answerOf
-    arm-table t d p = one-put (otherAnswer Γ s r e) _ old at o new (rw d) p
+    arm-table t d p = one-put (answerOf Γ s r e) _ old at o new (rw d) p
 
     pub arm-inline-table : (w : Bool) (xs : Code.List) → e ≡ E.InlineTable w xs
         → Put old at (tableType (record { element = 0x70; limits = exactly w (length (listOf Token.present s xs)) })) o new → Arm (A.Ends o 1) new
     unfolding answerOf
-    arm-inline-table w xs d p = one-put (otherAnswer Γ s r e) _ old at o new (rw d) p
+    arm-inline-table w xs d p = one-put (answerOf Γ s r e) _ old at o new (rw d) p
 
     pub arm-mem : (l : Limits) → e ≡ E.Mem l → Put old at (limits (limitsIs l)) o new → Arm (A.Ends o 1) new
     unfolding answerOf
-    arm-mem l d p = one-put (otherAnswer Γ s r e) _ old at o new (rw d) p
+    arm-mem l d p = one-put (answerOf Γ s r e) _ old at o new (rw d) p
 
     pub arm-inline-mem : (w : Bool) (b : Part) → e ≡ E.InlineMem w b → Put old at (limits (exactly w (pages (length (partOf s b))))) o new → Arm (A.Ends o 1) new
     unfolding answerOf
-    arm-inline-mem w b d p = one-put (otherAnswer Γ s r e) _ old at o new (rw d) p
+    arm-inline-mem w b d p = one-put (answerOf Γ s r e) _ old at o new (rw d) p
 
     -- an inline segment's offset needs no name, nor does its item's number
     inline-data : (w : Bool) (n : ℕ) (b : Bytes) → resolve Γ r (dataF none (active (number n) (zeroOffset w)) b) ≡ ok (Syntax.dataI (active n (zeroOp w)) b)
@@ -115,7 +115,7 @@ module _ (Γ : Scope Identifier) (s : Bytes) (r : ℕ) (e : Entry) (old : List �
 
     pub arm-inline-data : (w : Bool) (n : ℕ) (b : Part) → e ≡ E.InlineData w n b → Put old at (data′ (active n (zeroOp w)) (partOf s b)) o new → Arm (A.Ends o 1) new
     unfolding answerOf oneOf entryOf entries
-    arm-inline-data w n b d p = one-put (otherAnswer Γ s r e) _ old at o new (rw (d, inline-data w n (partOf s b))) p
+    arm-inline-data w n b d p = one-put (answerOf Γ s r e) _ old at o new (rw (d, inline-data w n (partOf s b))) p
 
   module _ (x : EndsAt) (new : List ℕ) where
     pub arm-exports : (es : Code.List) (k : Space) (n : ℕ) (q : Ends) → e ≡ E.Exports es k n → Lists (exportEntries (spaceOf k) n (listOf Token.string s es)) old at q new → x ≡ allEnds q → Arm x new
@@ -154,6 +154,57 @@ module _ (Γ : Scope Identifier) (s : Bytes) (r : ℕ) (e : Entry) (old : List �
       pub arm-data : (m : Mode) (b : Part) → e ≡ E.Data m b → Emits entryOf (resolve Γ r (dataF none (Fields.modeOf s m) (partOf s b))) old at q new → x ≡ oneEnd q → Arm x new
       unfolding answerOf
       arm-data m b d w g = rw d (one-emits entryOf _ old at q x new w g)
+
+-- ## Which are left
+
+-- after an arm for each entry of the sections 1 to 6
+abbrev After : List ℕ
+After = 9 ∷ 10 ∷ 11 ∷ 12 ∷ 13 ∷ 14 ∷ 15 ∷ 16 ∷ []
+
+pub late : (e : Entry) → OneOf After (tagOf EntryOf.the-type e) → 7 ≤ sectionNo e
+late E.Nothing h = absurd (miss After 0 tt h)
+late (E.Type ps rs) h = absurd (miss After 1 tt h)
+late (E.Import n x) h = absurd (miss After 2 tt h)
+late (E.Func t) h = absurd (miss After 3 tt h)
+late (E.Table t) h = absurd (miss After 4 tt h)
+late (E.InlineTable w xs) h = absurd (miss After 5 tt h)
+late (E.Mem l) h = absurd (miss After 6 tt h)
+late (E.InlineMem w d) h = absurd (miss After 7 tt h)
+late (E.Global t c) h = absurd (miss After 8 tt h)
+late (E.Export n k x) h = omega arith
+late (E.Exports es k n) h = omega arith
+late (E.Start x) h = omega arith
+late (E.Elem m xs) h = omega arith
+late (E.InlineElem w n xs) h = omega arith
+late (E.Code t ls here) h = omega arith
+late (E.Data m d) h = omega arith
+late (E.InlineData w n d) h = omega arith
+
+-- after an arm for each of the others but code
+abbrev Before : List ℕ
+Before = 0 ∷ 1 ∷ 2 ∷ 3 ∷ 4 ∷ 5 ∷ 6 ∷ 7 ∷ 8 ∷ 14 ∷ []
+
+none-left : (e : Entry) → NotCode e → 7 ≤ sectionNo e → OneOf Before (tagOf EntryOf.the-type e) → ⊥
+none-left E.Nothing q l h = omega arith
+none-left (E.Type ps rs) q l h = omega arith
+none-left (E.Import n x) q l h = omega arith
+none-left (E.Func t) q l h = omega arith
+none-left (E.Table t) q l h = omega arith
+none-left (E.InlineTable w xs) q l h = omega arith
+none-left (E.Mem l) q k h = omega arith
+none-left (E.InlineMem w d) q l h = omega arith
+none-left (E.Global t c) q l h = omega arith
+none-left (E.Export n k x) q l h = miss Before 9 tt h
+none-left (E.Exports es k n) q l h = miss Before 10 tt h
+none-left (E.Start x) q l h = miss Before 11 tt h
+none-left (E.Elem m xs) q l h = miss Before 12 tt h
+none-left (E.InlineElem w n xs) q l h = miss Before 13 tt h
+none-left (E.Code t ls here) q l h = q .other refl
+none-left (E.Data m d) q l h = miss Before 15 tt h
+none-left (E.InlineData w n d) q l h = miss Before 16 tt h
+
+pub arm-left : (Γ : Scope Identifier) (s : Bytes) (r : ℕ) (e : Entry) (old : List ℕ) (at : ℕ) (new : List ℕ) → OneOf Before (tagOf EntryOf.the-type e) → NotCode e → 7 ≤ sectionNo e → Answers (answerOf Γ s r e) old at (A.Ends at 0) new
+arm-left Γ s r e old at new h q l = absurd (none-left e q l h)
 
 -- ## Their uses
 

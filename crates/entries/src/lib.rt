@@ -22,8 +22,8 @@ ghost use Rattle.syntax.specs.TypeUses.{listOf, useOf};
 ghost use Rattle.type_table.specs.Table.{typesIn, Recalled};
 ghost use Rattle.scope.specs.Scope.{scopeIn};
 ghost use Rattle.binary.specs.Emits.{Emits};
-ghost use Rattle.deinline.specs.Entry.{typeBytes, usesOf};
-ghost use Rattle.entries.specs.Listed.{oneEnd, allEnds, Answers, otherAnswer};
+ghost use Rattle.deinline.specs.Entry.{sectionNo, typeBytes, answerOf, usesOf};
+ghost use Rattle.entries.specs.Listed.{oneEnd, allEnds, Answers, NotCode};
 
 // The place after some entries and how many there are, or a refusal's number and record.
 pub enum EndsAt {
@@ -48,7 +48,7 @@ fn all_ends(r: Ends) -> EndsAt
 }
 
 // A function's type.
-fn emit_type_no(out: &mut [u8], at: usize, s: &[u8], work: &[u32], t: TypeUse, rec: u32) -> Emitted
+fn emit_type_no(s: &[u8], work: &[u32], out: &mut [u8], at: usize, t: TypeUse, rec: u32) -> Emitted
     requires { ⌜ (WORDS ≤ length (now work)) × Recalled (now work) (typesIn (now s) (now work)) (Types.usedAt rec (Types.useOf (useOf (now s) t))) ⌝ }
     ensures { λ r. ⌜ Emits typeBytes (Names.typeNo (scopeIn (now (s .entry)) (now (work .entry))) rec (useOf (now (s .entry)) t)) (now (out .entry)) at r (now (out .exit)) ⌝ }
 {
@@ -79,79 +79,90 @@ fn put_inline_mem(out: &mut [u8], at: usize, s: &[u8], is64: bool, bytes: Part) 
     binary_types::put_exactly(out, at, is64, binary_types::pages(count_bytes(s, bytes)))
 }
 
-// An entry that needs no place of its own in the work area: any but a function's code.
-pub fn emit_other(out: &mut [u8], at: usize, s: &[u8], work: &[u32], e: Entry, rec: u32) -> EndsAt
-    requires { ⌜ (WORDS ≤ length (now work)) × Recalled (now work) (typesIn (now s) (now work)) (usesOf (now s) rec e) ⌝ }
-    ensures { λ r. ⌜ Answers (otherAnswer (scopeIn (now (s .entry)) (now (work .entry))) (now (s .entry)) rec e) (now (out .entry)) at r (now (out .exit)) ⌝ }
+// An export, the start or a segment, of the sections 7 to 11: what refers to items.
+fn emit_late(s: &[u8], work: &[u32], out: &mut [u8], at: usize, e: Entry, rec: u32) -> EndsAt
+    requires { ⌜ (WORDS ≤ length (now work)) × NotCode e × (7 ≤ sectionNo e) ⌝ }
+    ensures { λ r. ⌜ Answers (answerOf (scopeIn (now (s .entry)) (now (work .entry))) (now (s .entry)) rec e) (now (out .entry)) at r (now (out .exit)) ⌝ }
 {
     match e {
-        Entry::Nothing => EndsAt::Ends(at, 0),
-        Entry::Type(params, results) => EndsAt::Ends(
-            import_export::put_func_type(out, at, s, params, results),
-            1,
-        ),
-        Entry::Import(name, what) => one_end(import_export::emit_import(
-            out,
-            at,
-            s,
-            work,
-            name,
-            what,
-            rec,
-        )),
-        Entry::Func(t) => one_end(emit_type_no(out, at, s, work, t, rec)),
-        Entry::Table(t) => EndsAt::Ends(binary_types::put_table_type(out, at, t), 1),
-        Entry::InlineTable(is64, funcs) => EndsAt::Ends(
-            put_inline_table(out, at, s, is64, funcs),
-            1,
-        ),
-        Entry::Mem(l) => EndsAt::Ends(binary_types::put_limits(out, at, l), 1),
-        Entry::InlineMem(is64, bytes) => EndsAt::Ends(put_inline_mem(out, at, s, is64, bytes), 1),
-        Entry::Global(t, c) => one_end(import_export::emit_global(out, at, s, work, t, c, rec)),
-        Entry::Export(name, k, x) => one_end(import_export::emit_export(
-            out,
-            at,
-            s,
-            work,
-            name,
-            k,
-            x,
-            rec,
-        )),
-        Entry::Exports(es, k, n) => all_ends(import_export::put_exports(out, at, s, es, k, n)),
-        Entry::Start(x) => one_end(import_export::emit_start(out, at, s, work, x, rec)),
-        Entry::Elem(mode, funcs) => one_end(segments::emit_elem(
-            out,
-            at,
-            s,
-            work,
-            mode,
-            funcs,
-            rec,
-        )),
-        Entry::InlineElem(is64, n, funcs) => one_end(segments::emit_inline_elem(
-            out,
-            at,
-            s,
-            work,
-            is64,
-            n,
-            funcs,
-            rec,
-        )),
-        Entry::Code(_, _, _) => EndsAt::Ends(at, 0),
-        Entry::Data(mode, bytes) => one_end(segments::emit_data(
-            out,
-            at,
-            s,
-            work,
-            mode,
-            bytes,
-            rec,
-        )),
-        Entry::InlineData(is64, n, bytes) => EndsAt::Ends(
-            segments::put_inline_data(out, at, s, is64, n, bytes),
-            1,
-        ),
+        Entry::Export(name, k, x) => {
+            let r = import_export::emit_export(s, work, out, at, name, k, x, rec);
+            return one_end(r);
+        }
+        Entry::Exports(es, k, n) => {
+            let r = import_export::put_exports(out, at, s, es, k, n);
+            return all_ends(r);
+        }
+        Entry::Start(x) => {
+            let r = import_export::emit_start(s, work, out, at, x, rec);
+            return one_end(r);
+        }
+        Entry::Elem(mode, funcs) => {
+            let r = segments::emit_elem(s, work, out, at, mode, funcs, rec);
+            return one_end(r);
+        }
+        Entry::InlineElem(is64, n, funcs) => {
+            let r = segments::emit_inline_elem(s, work, out, at, is64, n, funcs, rec);
+            return one_end(r);
+        }
+        Entry::Data(mode, bytes) => {
+            let r = segments::emit_data(s, work, out, at, mode, bytes, rec);
+            return one_end(r);
+        }
+        Entry::InlineData(is64, n, bytes) => {
+            let o = segments::put_inline_data(out, at, s, is64, n, bytes);
+            return EndsAt::Ends(o, 1);
+        }
+        // none is left: code and the sections before are ruled out
+        _ => {
+            return EndsAt::Ends(at, 0);
+        }
+    }
+}
+
+// Any entry but a function's code, which needs places of its own in the work area.
+pub fn emit_other(s: &[u8], work: &[u32], out: &mut [u8], at: usize, e: Entry, rec: u32) -> EndsAt
+    requires { ⌜ (WORDS ≤ length (now work)) × NotCode e × Recalled (now work) (typesIn (now s) (now work)) (usesOf (now s) rec e) ⌝ }
+    ensures { λ r. ⌜ Answers (answerOf (scopeIn (now (s .entry)) (now (work .entry))) (now (s .entry)) rec e) (now (out .entry)) at r (now (out .exit)) ⌝ }
+{
+    match e {
+        Entry::Nothing => {
+            return EndsAt::Ends(at, 0);
+        }
+        Entry::Type(params, results) => {
+            let o = import_export::put_func_type(out, at, s, params, results);
+            return EndsAt::Ends(o, 1);
+        }
+        Entry::Import(name, what) => {
+            let r = import_export::emit_import(s, work, out, at, name, what, rec);
+            return one_end(r);
+        }
+        Entry::Func(t) => {
+            let r = emit_type_no(s, work, out, at, t, rec);
+            return one_end(r);
+        }
+        Entry::Table(t) => {
+            let o = binary_types::put_table_type(out, at, t);
+            return EndsAt::Ends(o, 1);
+        }
+        Entry::InlineTable(is64, funcs) => {
+            let o = put_inline_table(out, at, s, is64, funcs);
+            return EndsAt::Ends(o, 1);
+        }
+        Entry::Mem(l) => {
+            let o = binary_types::put_limits(out, at, l);
+            return EndsAt::Ends(o, 1);
+        }
+        Entry::InlineMem(is64, bytes) => {
+            let o = put_inline_mem(out, at, s, is64, bytes);
+            return EndsAt::Ends(o, 1);
+        }
+        Entry::Global(t, c) => {
+            let r = import_export::emit_global(s, work, out, at, t, c, rec);
+            return one_end(r);
+        }
+        _ => {
+            return emit_late(s, work, out, at, e, rec);
+        }
     }
 }

@@ -31,7 +31,7 @@ fn put_local(s: &[u8], work: &mut [u32], count: u32, id: Part, rec: u32) -> Entr
     ensures { λ r. ⌜ PutsOne (now (s .entry)) (now (work .entry)) count id rec r (now (work .exit)) ⌝ }
 {
     let n = count as usize;
-    if registration::item::is_taken(s, work, area::LOCALS, n, id) {
+    if name_table::is_taken(s, work, area::LOCALS, n, id) {
         return EntriesAt::Refused(Refusal { number: 13, rec });
     }
     name_table::put_name(s, work, area::LOCALS + 3 * n, id);

@@ -29,9 +29,9 @@ fn emit_code(
     work: &mut [u32],
     out: &mut [u8],
     at: usize,
-    ls: List,
     here: usize,
     rec: u32,
+    ls: List,
     l: Locals,
 ) -> Emitted
     requires { ⌜ Lent (now s) (now work) × FewLocals l × (rec < 4096) × Resolvable (now s) (now work) (rec + 1) 0 here × Readable (now s) ls ⌝ }
@@ -45,12 +45,12 @@ fn emit_code(
 }
 
 // How long they are.
-fn measure_code(s: &[u8], work: &mut [u32], ls: List, here: usize, rec: u32, l: Locals) -> Emitted
+fn measure_code(s: &[u8], work: &mut [u32], here: usize, rec: u32, ls: List, l: Locals) -> Emitted
     requires { ⌜ Lent (now s) (now work) × FewLocals l × (rec < 4096) × Resolvable (now s) (now work) (rec + 1) 0 here × Readable (now s) ls ⌝ }
     ensures { λ r. ⌜ MeasuresCode (codeBytes (now (s .entry)) ls) (bodyAnswer (now (s .entry)) (now (work .entry)) rec here l) (now (work .entry)) r (now (work .exit)) ⌝ }
 {
     let mut none = [0u8; 1];
-    emit_code(s, work, &mut none[0..0], 0, ls, here, rec, l)
+    emit_code(s, work, &mut none[0..0], 0, here, rec, ls, l)
 }
 
 // Both, after their length, at a place where nothing can be stored.
@@ -58,15 +58,15 @@ fn measure_sized(
     s: &[u8],
     work: &mut [u32],
     at: usize,
-    ls: List,
     here: usize,
     rec: u32,
+    ls: List,
     l: Locals,
 ) -> Emitted
     requires { ⌜ Lent (now s) (now work) × FewLocals l × (rec < 4096) × Resolvable (now s) (now work) (rec + 1) 0 here × Readable (now s) ls ⌝ }
     ensures { λ r. ⌜ MeasuresSized (codeBytes (now (s .entry)) ls) (bodyAnswer (now (s .entry)) (now (work .entry)) rec here l) (now (work .entry)) at r (now (work .exit)) ⌝ }
 {
-    match measure_code(s, work, ls, here, rec, l) {
+    match measure_code(s, work, here, rec, ls, l) {
         Emitted::To(n) => {
             let a = emit::tally(at, leb::group_count(n as u64));
             Emitted::To(emit::tally(a, n))
@@ -98,17 +98,17 @@ fn emit_again(
     work: &mut [u32],
     out: &mut [u8],
     at: usize,
-    n: usize,
-    ls: List,
     here: usize,
     rec: u32,
+    n: usize,
+    ls: List,
     l: Locals,
 ) -> Emitted
     requires { ⌜ Lent (now s) (now work) × FewLocals l × (rec < 4096) × Resolvable (now s) (now work) (rec + 1) 0 here × Readable (now s) ls ⌝ }
     ensures { λ r. ⌜ EmitsAgain (codeBytes (now (s .entry)) ls) (bodyAnswer (now (s .entry)) (now (work .entry)) rec here l) (now (work .entry)) (now (out .entry)) at n r (now (work .exit)) (now (out .exit)) ⌝ }
 {
     let a = leb::put_u(out, at, n as u64);
-    emit_code(s, work, out, a, ls, here, rec, l)
+    emit_code(s, work, out, a, here, rec, ls, l)
 }
 
 // Both, after their length. Most functions are short: their code is written after a place for one group, which then takes the length. A
@@ -118,19 +118,19 @@ fn emit_sized(
     work: &mut [u32],
     out: &mut [u8],
     at: usize,
-    ls: List,
     here: usize,
     rec: u32,
+    ls: List,
     l: Locals,
 ) -> Emitted
     requires { ⌜ Lent (now s) (now work) × FewLocals l × (rec < 4096) × Resolvable (now s) (now work) (rec + 1) 0 here × Readable (now s) ls ⌝ }
     ensures { λ r. ⌜ EmitsCode (sizedBytes (now (s .entry)) ls) (bodyAnswer (now (s .entry)) (now (work .entry)) rec here l) (now (work .entry)) (now (out .entry)) at r (now (work .exit)) (now (out .exit)) ⌝ }
 {
     if out.len() <= at {
-        return measure_sized(s, work, at, ls, here, rec, l);
+        return measure_sized(s, work, at, here, rec, ls, l);
     }
     let a = at + 1;
-    match emit_code(s, work, out, a, ls, here, rec, l) {
+    match emit_code(s, work, out, a, here, rec, ls, l) {
         Emitted::To(b) => {
             let n = b - a;
             if n < 128 {
@@ -140,7 +140,7 @@ fn emit_sized(
             if sized_end(b, n) <= out.len() {
                 return Emitted::To(put_length(out, at, n));
             }
-            emit_again(s, work, out, at, n, ls, here, rec, l)
+            emit_again(s, work, out, at, here, rec, n, ls, l)
         }
         Emitted::Refused(q) => Emitted::Refused(q),
     }
@@ -162,7 +162,7 @@ pub fn emit_typed(
     ensures { λ r. ⌜ EmitsTyped (now (s .entry)) (now (work .entry)) rec (typeNoOf n) t ls here (now (out .entry)) at r (now (work .exit)) (now (out .exit)) ⌝ }
 {
     match frames::set_locals(s, work, n, t, ls, rec) {
-        LocalsAt::Set(l) => emit_sized(s, work, out, at, ls, here, rec, l),
+        LocalsAt::Set(l) => emit_sized(s, work, out, at, here, rec, ls, l),
         LocalsAt::Refused(q) => Emitted::Refused(q),
     }
 }

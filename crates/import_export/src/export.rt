@@ -25,10 +25,10 @@ pub struct Ends {
 }
 
 pub fn emit_export(
-    out: &mut [u8],
-    at: usize,
     s: &[u8],
     work: &[u32],
+    out: &mut [u8],
+    at: usize,
     name: Part,
     k: Space,
     x: Index,
@@ -67,9 +67,9 @@ pub fn put_exports(out: &mut [u8], at: usize, s: &[u8], exports: List, k: Space,
     Ends { to, count }
 }
 
-pub fn emit_start(out: &mut [u8], at: usize, s: &[u8], work: &[u32], x: Index, rec: u32) -> Emitted
+pub fn emit_start(s: &[u8], work: &[u32], out: &mut [u8], at: usize, x: Index, rec: u32) -> Emitted
     requires { ⌜ WORDS ≤ length (now work) ⌝ }
     ensures { λ r. ⌜ Emits entryOf (Names.resolve (scopeIn (now (s .entry)) (now (work .entry))) rec (startF (indexOf (now (s .entry)) x))) (now (out .entry)) at r (now (out .exit)) ⌝ }
 {
-    operands::emit_func(out, at, s, work, x, rec)
+    operands::emit_func(s, work, out, at, x, rec)
 }

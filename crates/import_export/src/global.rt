@@ -16,10 +16,10 @@ ghost use Rattle.binary.specs.Emits.{Emits};
 ghost use Rattle.import_export.specs.Entry.{entryOf};
 
 pub fn emit_global(
-    out: &mut [u8],
-    at: usize,
     s: &[u8],
     work: &[u32],
+    out: &mut [u8],
+    at: usize,
     t: GlobalType,
     c: Plain,
     rec: u32,
@@ -28,5 +28,5 @@ pub fn emit_global(
     ensures { λ r. ⌜ Emits entryOf (Names.resolve (scopeIn (now (s .entry)) (now (work .entry))) rec (ownF none (ownGlobal (globalTypeIs t) (plainIs (now (s .entry)) c)) [])) (now (out .entry)) at r (now (out .exit)) ⌝ }
 {
     let a = binary_types::put_global_type(out, at, t);
-    operands::emit_const(out, a, s, work, c, rec)
+    operands::emit_const(s, work, out, a, c, rec)
 }

@@ -56,10 +56,10 @@ fn put_global(out: &mut [u8], at: usize, t: GlobalType) -> usize
 }
 
 fn emit_func_type(
-    out: &mut [u8],
-    at: usize,
     s: &[u8],
     work: &[u32],
+    out: &mut [u8],
+    at: usize,
     t: TypeUse,
     rec: u32,
 ) -> Emitted
@@ -73,12 +73,12 @@ fn emit_func_type(
 }
 
 // What is imported.
-fn emit_extern(out: &mut [u8], at: usize, s: &[u8], work: &[u32], what: Extern, rec: u32) -> Emitted
+fn emit_extern(s: &[u8], work: &[u32], out: &mut [u8], at: usize, what: Extern, rec: u32) -> Emitted
     requires { ⌜ (WORDS ≤ length (now work)) × Recalled (now work) (typesIn (now s) (now work)) (Types.usedAt rec (Types.externUses (externIs (now s) what))) ⌝ }
     ensures { λ r. ⌜ Emits Binary.externType (Names.externNo (scopeIn (now (s .entry)) (now (work .entry))) rec (externIs (now (s .entry)) what)) (now (out .entry)) at r (now (out .exit)) ⌝ }
 {
     match what {
-        Extern::Func(t) => emit_func_type(out, at, s, work, t, rec),
+        Extern::Func(t) => emit_func_type(s, work, out, at, t, rec),
         Extern::Table(t) => Emitted::To(put_table(out, at, t)),
         Extern::Mem(l) => Emitted::To(put_mem(out, at, l)),
         Extern::Global(t) => Emitted::To(put_global(out, at, t)),
@@ -86,10 +86,10 @@ fn emit_extern(out: &mut [u8], at: usize, s: &[u8], work: &[u32], what: Extern, 
 }
 
 pub fn emit_import(
-    out: &mut [u8],
-    at: usize,
     s: &[u8],
     work: &[u32],
+    out: &mut [u8],
+    at: usize,
     name: ImportName,
     what: Extern,
     rec: u32,
@@ -98,5 +98,5 @@ pub fn emit_import(
     ensures { λ r. ⌜ Emits entryOf (Names.resolve (scopeIn (now (s .entry)) (now (work .entry))) rec (importF (nameOf (now (s .entry)) name) none (externIs (now (s .entry)) what))) (now (out .entry)) at r (now (out .exit)) ⌝ }
 {
     let a = binary::put_import_name(out, at, s, name);
-    emit_extern(out, a, s, work, what, rec)
+    emit_extern(s, work, out, a, what, rec)
 }

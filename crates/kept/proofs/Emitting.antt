@@ -7,6 +7,8 @@ use mir.Syntax.{w8}
 use mir.Val.{Fits}
 use borrow.Rule.Slice.PartMut.{putMid}
 use native.Mathlib.Omega.{arith}
+use types.Run.{OneOf, miss}
+use denote.Enum.Declared.{tagOf}
 use Rattle.definition.specs.Basic.{concatMap}
 use Rattle.definition.specs.Types as Types
 use Rattle.definition.specs.Binary.{joined}
@@ -27,64 +29,20 @@ use Rattle.frames.specs.Locals.{Head}
 use Rattle.code.specs.Body.{Resolvable}
 use Rattle.function.specs.Function.{codeOf, EmitsFunc}
 use Rattle.deinline.specs.Entry.{oneOf, sectionNo, answerOf, usesOf}
-use Rattle.entries.specs.Listed.{Answers, oneEnd, otherAnswer}
+use Rattle.entries.specs.Listed.{Answers, NotCode, oneEnd}
 use Rattle.syntax.specs.declared.Entry.{Entry}
 use Rattle.syntax.specs.declared.Entry.the-variants as E
+use Rattle.syntax.proofs.Entry as EntryOf
 use Rattle.entries.specs.declared.EndsAt.{EndsAt}
 use Rattle.entries.specs.declared.EndsAt.the-variants as A
 use Rattle.kept.specs.Parts.{startOf, partIn}
 use Rattle.kept.specs.Tally.{Ready}
-use Rattle.kept.specs.Emit.{codeIn, AreaOf, EmitsEntry, EmitsKept}
-use Rattle.kept.specs.declared.entry.CodeIn.{CodeIn}
-use Rattle.kept.specs.declared.entry.CodeIn.the-variants as C
+use Rattle.kept.specs.Emit.{AreaOf, EmitsEntry, EmitsKept}
 use Rattle.kept.proofs.Keeping.{start-up, start-within, lent-here, lent-there, lent-long}
-
--- the entry that is code
-code-is : (e : Entry) (t : TypeUse) (ls : Code.List) (here : ℕ) → codeIn e ≡ C.Code t ls here → e ≡ E.Code t ls here
-code-is E.Nothing t ls here d = let z : _≡_ {A = ℕ} 0 1 = cc in absurd (omega arith)
-code-is (E.Type ps rs) t ls here d = let z : _≡_ {A = ℕ} 0 1 = cc in absurd (omega arith)
-code-is (E.Import n x) t ls here d = let z : _≡_ {A = ℕ} 0 1 = cc in absurd (omega arith)
-code-is (E.Func u) t ls here d = let z : _≡_ {A = ℕ} 0 1 = cc in absurd (omega arith)
-code-is (E.Table u) t ls here d = let z : _≡_ {A = ℕ} 0 1 = cc in absurd (omega arith)
-code-is (E.InlineTable w xs) t ls here d = let z : _≡_ {A = ℕ} 0 1 = cc in absurd (omega arith)
-code-is (E.Mem l) t ls here d = let z : _≡_ {A = ℕ} 0 1 = cc in absurd (omega arith)
-code-is (E.InlineMem w b) t ls here d = let z : _≡_ {A = ℕ} 0 1 = cc in absurd (omega arith)
-code-is (E.Global u c) t ls here d = let z : _≡_ {A = ℕ} 0 1 = cc in absurd (omega arith)
-code-is (E.Export n k x) t ls here d = let z : _≡_ {A = ℕ} 0 1 = cc in absurd (omega arith)
-code-is (E.Exports es k n) t ls here d = let z : _≡_ {A = ℕ} 0 1 = cc in absurd (omega arith)
-code-is (E.Start x) t ls here d = let z : _≡_ {A = ℕ} 0 1 = cc in absurd (omega arith)
-code-is (E.Elem m xs) t ls here d = let z : _≡_ {A = ℕ} 0 1 = cc in absurd (omega arith)
-code-is (E.InlineElem w n xs) t ls here d = let z : _≡_ {A = ℕ} 0 1 = cc in absurd (omega arith)
-code-is (E.Code u ms at) t ls here d = let a : u ≡ t = cc in let b : ms ≡ ls = cc in let c : at ≡ here = cc in rw (a, b, c) refl
-code-is (E.Data m b) t ls here d = let z : _≡_ {A = ℕ} 0 1 = cc in absurd (omega arith)
-code-is (E.InlineData w n b) t ls here d = let z : _≡_ {A = ℕ} 0 1 = cc in absurd (omega arith)
-
--- any other means the same by reading alone
-other-is : (e : Entry) → codeIn e ≡ C.Other → (s w : List ℕ) (r : ℕ) → otherAnswer (scopeIn s w) s r e ≡ answerOf (scopeIn s w) s r e
-other-is E.Nothing d s w r = refl
-other-is (E.Type ps rs) d s w r = refl
-other-is (E.Import n x) d s w r = refl
-other-is (E.Func u) d s w r = refl
-other-is (E.Table u) d s w r = refl
-other-is (E.InlineTable v xs) d s w r = refl
-other-is (E.Mem l) d s w r = refl
-other-is (E.InlineMem v b) d s w r = refl
-other-is (E.Global u c) d s w r = refl
-other-is (E.Export n k x) d s w r = refl
-other-is (E.Exports es k n) d s w r = refl
-other-is (E.Start x) d s w r = refl
-other-is (E.Elem m xs) d s w r = refl
-other-is (E.InlineElem v n xs) d s w r = refl
-other-is (E.Code u ms at) d s w r = let z : _≡_ {A = ℕ} 0 1 = cc in absurd (omega arith)
-other-is (E.Data m b) d s w r = refl
-other-is (E.InlineData v n b) d s w r = refl
 
 -- ## What a function's code needs
 
-module _ (s w : List ℕ) (r : ℕ) (e : Entry) (h : Ready s w r e) (c : CodeIn) (told : c ≡ codeIn e) (t : TypeUse) (ls : Code.List) (here : ℕ) (d : c ≡ C.Code t ls here) where
-  code : e ≡ E.Code t ls here
-  code = code-is e t ls here (sym told ∙ d)
-
+module _ (s w : List ℕ) (r : ℕ) (e : Entry) (h : Ready s w r e) (t : TypeUse) (ls : Code.List) (here : ℕ) (code : e ≡ E.Code t ls here) where
   uses : Recalled w (typesIn s w) (Types.usedAt r (Types.useOf (useOf s t)) ++ Types.bodyUses (r + 1) (bodyFrom (4096 - (r + 1)) 0 s here))
   unfolding usesOf
   uses = (let u = h .recalled in rw code at u)
@@ -108,9 +66,9 @@ module _ (s w : List ℕ) (r : ℕ) (e : Entry) (h : Ready s w r e) (c : CodeIn)
 
 -- ## Any other entry
 
-module _ (s w : List ℕ) (r : ℕ) (e : Entry) (c : CodeIn) (told : c ≡ codeIn e) (d : c ≡ C.Other) where
-  pub other-emits : (old : List ℕ) (at : ℕ) (z : EndsAt) (new : List ℕ) → Answers (otherAnswer (scopeIn s w) s r e) old at z new → EmitsEntry s w r e old at z w new
-  other-emits old at z new h = record { answers = rw (other-is e (sym told ∙ d) s w r) at h; area = go z }
+module _ (s w : List ℕ) (r : ℕ) (e : Entry) where
+  pub other-emits : (old : List ℕ) (at : ℕ) (z : EndsAt) (new : List ℕ) → Answers (answerOf (scopeIn s w) s r e) old at z new → EmitsEntry s w r e old at z w new
+  other-emits old at z new h = record { answers = h; area = go z }
     where
       go : (z : EndsAt) → AreaOf z w w
       go (A.Ends to n) = kept-same LOCALS w
@@ -119,11 +77,28 @@ module _ (s w : List ℕ) (r : ℕ) (e : Entry) (c : CodeIn) (told : c ≡ codeI
 pub ready-uses : (s w : List ℕ) (r : ℕ) (e : Entry) → Ready s w r e → Recalled w (typesIn s w) (usesOf s r e)
 ready-uses s w r e h = h .recalled
 
--- ## Which entries are code
+abbrev Others : List ℕ
+Others = 0 ∷ 1 ∷ 2 ∷ 3 ∷ 4 ∷ 5 ∷ 6 ∷ 7 ∷ 8 ∷ 9 ∷ 10 ∷ 11 ∷ 12 ∷ 13 ∷ 15 ∷ 16 ∷ []
 
--- a case at a time, as a match gives it
-pub is-code : (e x : Entry) (r : CodeIn) → e ≡ x → r ≡ codeIn x → r ≡ codeIn e
-is-code e x r d h = rw d h
+-- every entry but one is no code
+pub not-code : (e : Entry) → OneOf Others (tagOf EntryOf.the-type e) → NotCode e
+not-code E.Nothing h = record { other = λ z. omega (arith, z) }
+not-code (E.Type ps rs) h = record { other = λ z. omega (arith, z) }
+not-code (E.Import n x) h = record { other = λ z. omega (arith, z) }
+not-code (E.Func t) h = record { other = λ z. omega (arith, z) }
+not-code (E.Table t) h = record { other = λ z. omega (arith, z) }
+not-code (E.InlineTable w xs) h = record { other = λ z. omega (arith, z) }
+not-code (E.Mem l) h = record { other = λ z. omega (arith, z) }
+not-code (E.InlineMem w d) h = record { other = λ z. omega (arith, z) }
+not-code (E.Global t c) h = record { other = λ z. omega (arith, z) }
+not-code (E.Export n k x) h = record { other = λ z. omega (arith, z) }
+not-code (E.Exports es k n) h = record { other = λ z. omega (arith, z) }
+not-code (E.Start x) h = record { other = λ z. omega (arith, z) }
+not-code (E.Elem m xs) h = record { other = λ z. omega (arith, z) }
+not-code (E.InlineElem w n xs) h = record { other = λ z. omega (arith, z) }
+not-code (E.Code t ls here) h = absurd (miss Others 14 tt h)
+not-code (E.Data m d) h = record { other = λ z. omega (arith, z) }
+not-code (E.InlineData w n d) h = record { other = λ z. omega (arith, z) }
 
 -- ## An entry's part of the kept bytes
 

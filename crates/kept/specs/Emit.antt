@@ -9,31 +9,9 @@ use Rattle.scope.specs.Scope.{scopeIn}
 use Rattle.deinline.specs.Entry.{sectionNo, answerOf}
 use Rattle.entries.specs.Listed.{Answers}
 use Rattle.syntax.specs.declared.Entry.{Entry}
-use Rattle.syntax.specs.declared.Entry.the-variants as E
 use Rattle.entries.specs.declared.EndsAt.{EndsAt}
 use Rattle.entries.specs.declared.EndsAt.the-variants as A
 use Rattle.kept.specs.Parts.{partIn}
-use Rattle.kept.specs.declared.entry.CodeIn.{CodeIn}
-use Rattle.kept.specs.declared.entry.CodeIn.the-variants as C
-
-abbrev pub codeIn : Entry → CodeIn
-codeIn E.Nothing = C.Other
-codeIn (E.Type ps rs) = C.Other
-codeIn (E.Import n x) = C.Other
-codeIn (E.Func t) = C.Other
-codeIn (E.Table t) = C.Other
-codeIn (E.InlineTable w xs) = C.Other
-codeIn (E.Mem l) = C.Other
-codeIn (E.InlineMem w d) = C.Other
-codeIn (E.Global t c) = C.Other
-codeIn (E.Export n k x) = C.Other
-codeIn (E.Exports es k n) = C.Other
-codeIn (E.Start x) = C.Other
-codeIn (E.Elem m xs) = C.Other
-codeIn (E.InlineElem w n xs) = C.Other
-codeIn (E.Code t ls here) = C.Code t ls here
-codeIn (E.Data m d) = C.Other
-codeIn (E.InlineData w n d) = C.Other
 
 -- where it is emitted only the places of locals and labels are written
 abbrev pub AreaOf : EndsAt → List ℕ → List ℕ → Type 0

@@ -1,5 +1,5 @@
 -- Name maps, a place at a time.
-use Prim.Native.Nat.{ℕ, zero, suc, _+_, _-_, _*_, _^_, _≤_, _<_, min}
+use Prim.Native.Nat.{ℕ, zero, suc, _+_, _-_, _*_, _^_, _≤_, _<_}
 use mathlib.Core.Path.{_≡_, refl, sym, _∙_, ap}
 use mathlib.Core.List.{List, [], _∷_, _++_, append-assoc, append-nil}
 use mathlib.Core.Option.{none, some}
@@ -15,7 +15,7 @@ use Rattle.definition.specs.Names.{Namespace}
 use Rattle.definition.specs.Binary.{u, sized}
 use Rattle.emit.specs.Put.{Put}
 use Rattle.emit.proofs.Laws.{put-none, put-then, put-is}
-use Rattle.area.specs.Layout.{NAMED, NAMES, WORDS}
+use Rattle.area.specs.Layout.{NAMES, TABLE, WORDS}
 use Rattle.syntax.specs.Tokens.{partOf, idOf}
 use Rattle.syntax.specs.declared.Part.{Part}
 use Rattle.syntax.specs.TypeUses.{localAt}
@@ -24,7 +24,7 @@ use Rattle.syntax.specs.declared.LocalAt.{LocalAt}
 use Rattle.syntax.specs.declared.LocalAt.the-variants as O
 use Rattle.operands.proofs.Elements.{elements-none, elements-more, elements-fault}
 use Rattle.name_table.specs.Area.{tagOf, entry, names}
-use Rattle.name_table.specs.Tables.{base, tableOf}
+use Rattle.name_table.specs.Tables.{base, nameCount, tableOf}
 use Rattle.frames.specs.Locals.{idsAt}
 use Rattle.definition.specs.NameSection.{namedFrom, nameAssoc}
 use Rattle.name_maps.specs.Maps.{first, Adds, Names, Few}
@@ -105,15 +105,15 @@ pub place-put : (s w : List ℕ) (place : ℕ) (p : Part) (x : Reached) (old : B
 place-put s w place p x old r new e v = rw (← e) v
 
 pub record Naming (s w old : List ℕ) (at left place : ℕ) (x : Reached) (out : List ℕ) : Type 0 where
-  pub low : place + 3 * left ≤ 6672
+  pub low : place + 3 * left ≤ NAMES + TABLE
   pub sum : x .number + left ≤ 256
   pub done : Namespace Identifier
   pub so-far : Names done (first at 0) old x out
   pub same : done ++ names left s w place ≡ tableOf funcs s w
 
-pub naming-begin : (s w old : List ℕ) (at n : ℕ) (x : Reached) → n ≡ min (getD w NAMED 0) 256 → x ≡ first at 0 → length old * 1 < 2 ^ 63 → Naming s w old at n NAMES x old
+pub naming-begin : (s w old : List ℕ) (at n b : ℕ) (x : Reached) → n ≡ nameCount funcs w → b ≡ base funcs → x ≡ first at 0 → length old * 1 < 2 ^ 63 → Naming s w old at n b x old
 unfolding tableOf base namedFrom
-naming-begin s w old at n x e d h = rw d (record {
+naming-begin s w old at n b x e g d h = rw (g, d) (record {
   low = omega arith;
   sum = omega arith;
   done = [];
@@ -138,7 +138,7 @@ module _ (s w old : List ℕ) (at left place : ℕ) (x : Reached) (out : List �
   unfolding names
   naming-again r new h q = go left h (v .low) (v .sum) (v .same)
     where
-      go : (n : ℕ) → 0 < n → place + 3 * n ≤ 6672 → x .number + n ≤ 256 → v .done ++ names n s w place ≡ tableOf funcs s w → Naming s w old at (n - 1) (place + 3) r new
+      go : (n : ℕ) → 0 < n → place + 3 * n ≤ NAMES + TABLE → x .number + n ≤ 256 → v .done ++ names n s w place ≡ tableOf funcs s w → Naming s w old at (n - 1) (place + 3) r new
       go zero h a b c = absurd (omega arith)
       go (suc n) h a b c =
           let z : suc n - 1 ≡ n = omega arith in

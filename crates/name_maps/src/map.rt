@@ -2,11 +2,12 @@
 use syntax::List;
 use syntax::LocalAt;
 use syntax::Part;
+use syntax::Space;
 ghost use mathlib.Core.Path.{_≡_};
 ghost use mathlib.Core.List.{[], _∷_};
-ghost use Prim.Native.Nat.{_+_, _≤_, _<_, min};
-ghost use lib.ListN.{length, getD};
-ghost use Rattle.area.specs.Layout.{NAMED, WORDS};
+ghost use Prim.Native.Nat.{_+_, _≤_, _<_};
+ghost use lib.ListN.{length};
+ghost use Rattle.area.specs.Layout.{WORDS};
 ghost use Rattle.definition.specs.Syntax.{funcs};
 ghost use Rattle.syntax.specs.Tokens.{idOf};
 ghost use Rattle.name_table.specs.Area.{entry};
@@ -54,18 +55,6 @@ fn put_next(out: &mut [u8], x: Reached, s: &[u8], id: Part) -> Reached
     }
 }
 
-// How many names the table of functions has: 256 at most, whatever its word says.
-fn function_count(work: &[u32]) -> u32
-    requires { ⌜ WORDS ≤ length (now work) ⌝ }
-    ensures { λ r. ⌜ r ≡ min (getD (now (work .entry)) NAMED 0) 256 ⌝ }
-{
-    let n = work[area::NAMED];
-    if n < 256 {
-        return n;
-    }
-    256
-}
-
 // The identifier of an entry of the work area. Words whose third is not the tag say none.
 fn entry_at(s: &[u8], work: &[u32], place: usize) -> Part
     requires { ⌜ place + 2 < length (now work) ⌝ }
@@ -98,8 +87,8 @@ pub fn put_functions(s: &[u8], work: &[u32], out: &mut [u8], at: usize) -> Reach
     requires { ⌜ WORDS ≤ length (now work) ⌝ }
     ensures { λ r. ⌜ Names (tableOf funcs (now (s .entry)) (now (work .entry))) (first at 0) (now (out .entry)) r (now (out .exit)) ⌝ }
 {
-    let mut left = function_count(work);
-    let mut place = area::NAMES;
+    let mut left = name_table::name_count(work, Space::Funcs);
+    let mut place = name_table::table_base(Space::Funcs);
     let mut x = begin(at, 0);
     while 0 < left {
         x = put_place(s, work, out, x, place);

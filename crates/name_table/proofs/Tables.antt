@@ -8,15 +8,14 @@ use lib.ListN.{length, getD, set, length-set}
 use native.Mathlib.Omega.{arith}
 use Rattle.definition.specs.Syntax.{Identifier, Space, funcs, tables, mems, globals, types, elems, datas, code}
 use Rattle.definition.specs.Names.{Namespace}
-use Rattle.area.specs.Layout.{NAMES, TABLE, UNUSED}
+use Rattle.area.specs.Layout.{NAMED, NAMES, TABLE, UNUSED}
 use Rattle.syntax.specs.Tokens.{partOf}
 use Rattle.syntax.specs.declared.Part.{Part}
 use Rattle.name_table.specs.Area.{tagOf, entry, entryWords, names}
-use Rattle.name_table.specs.Tables.{base}
+use Rattle.name_table.specs.Tables.{base, nameCount}
 use lib.Seq.{getD-set-other}
 use Rattle.area.specs.Kept.{Kept}
 use Rattle.area.proofs.Kept.{kept-set, kept-then}
-use Rattle.name_table.specs.Tables.{base}
 
 -- ## Where a table begins
 
@@ -55,6 +54,20 @@ module _ (k : Space) (c : ℕ) (e : c ≡ code k) where
   pub base-is : NAMES + TABLE * c ≡ base k
   unfolding base
   base-is = rw e
+
+-- ## How many names a table has
+
+module _ (k : Space) (c : ℕ) (e : c ≡ code k) where
+  pub count-place : Fits w64 (NAMED + c)
+  count-place = record { fits = omega (arith, code-small k) }
+
+  module _ (w : List ℕ) (n : ℕ) (d : n ≡ getD w (NAMED + c) 0) where
+    -- fewer than 256 are as many as the word says
+    pub count-few : n < 256 → n ≡ nameCount k w
+    count-few h = let g : n ≡ getD w (NAMED + code k) 0 = rw (← e) d in omega (arith, g)
+
+    pub count-all : 256 ≤ n → 256 ≡ nameCount k w
+    count-all h = let g : n ≡ getD w (NAMED + code k) 0 = rw (← e) d in omega (arith, g)
 
 -- ## Words that are not written
 

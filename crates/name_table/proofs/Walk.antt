@@ -14,9 +14,9 @@ use mir.Val.{Fits}
 use native.Mathlib.Omega.{arith}
 use native.Mathlib.Decide.{decLe}
 use native.Mathlib.Numerals.{add-one}
-use Rattle.definition.specs.Basic.{if_then_else_, same, sameBytes, firstAt, later, ok, refused}
+use Rattle.definition.specs.Basic.{if_then_else_, same, sameBytes, firstAt, later, isSome, ok, refused}
 use Rattle.definition.specs.Syntax.{Identifier}
-use Rattle.definition.specs.Names.{carries, find, numberIn, Namespace}
+use Rattle.definition.specs.Names.{carries, find, numberIn, taken, Namespace}
 use Rattle.syntax.specs.Tokens.{part, partOf, idOf, indexOf}
 use Rattle.syntax.specs.declared.Part.{Part}
 use Rattle.syntax.specs.declared.Index.{Index}
@@ -383,3 +383,22 @@ module _ (w : List ℕ) (at a : ℕ) (h : at + 2 < length w) where
   third-word b = rw (length-set (set w at a) (at + 1) b, length-set w at a) h
 
 -- ## Clearing
+
+-- ## Is an identifier taken?
+
+module _ (s : List ℕ) (p : Part) (ns : Namespace Identifier) where
+  -- none is not
+  pub taken-none : p .len ≡ 0 → false ≡ taken sameBytes (idOf s p) ns
+  unfolding taken
+  taken-none e = sym (rw (eq-eqb _ _ e))
+
+  module _ (name : List ℕ) (q : Found) (h : p .len ≡ 0 → ⊥) (b : name ≡ partOf s p) (told : find sameBytes name ns ≡ found q) where
+    pub taken-found : (k : ℕ) → q ≡ F.At k → true ≡ taken sameBytes (idOf s p) ns
+    unfolding taken isSome
+    taken-found k e = sym (rw (ne-eqb _ _ h, ← b, told, e))
+
+    pub taken-not : q ≡ F.Nothing → false ≡ taken sameBytes (idOf s p) ns
+    unfolding taken isSome
+    taken-not e = sym (rw (ne-eqb _ _ h, ← b, told, e))
+
+pub ruleset takens = (taken-none, taken-found, taken-not)

@@ -11,6 +11,10 @@ use Rattle.name_table.specs.Area.{names}
 unfoldable pub base : Space → ℕ
 base k = NAMES + TABLE * code k
 
--- all its names: the words from NAMED on say how many
+-- how many names it has: the words from NAMED on say it, up to 256
+abbrev pub nameCount : Space → List ℕ → ℕ
+nameCount k w = min (getD w (NAMED + code k) 0) 256
+
+-- all of them
 unfoldable pub tableOf : Space → Bytes → List ℕ → Namespace Identifier
-tableOf k s w = names (min (getD w (NAMED + code k) 0) 256) s w (base k)
+tableOf k s w = names (nameCount k w) s w (base k)

@@ -1,12 +1,13 @@
 // Names in a table: a name's place among them is its number.
 use syntax::Index;
+use syntax::Part;
 use syntax::Refusal;
 ghost use mathlib.Core.Path.{_≡_};
 ghost use Prim.Native.Nat.{_+_, _*_, _≤_};
 ghost use lib.ListN.{length};
 ghost use Rattle.definition.specs.Basic.{sameBytes};
 ghost use Rattle.definition.specs.Names as Names;
-ghost use Rattle.syntax.specs.Tokens.{indexOf};
+ghost use Rattle.syntax.specs.Tokens.{idOf, indexOf};
 ghost use Rattle.name_table.specs.Area.{names, found, resolved};
 
 pub enum Found {
@@ -36,6 +37,21 @@ pub fn find_name(s: &[u8], work: &[u32], base: usize, count: usize, name: &[u8])
         at += 3;
     }
     Found::Nothing
+}
+
+// Is an identifier among count names already?
+pub fn is_taken(s: &[u8], work: &[u32], base: usize, count: usize, id: Part) -> bool
+    requires { ⌜ base + 3 * count ≤ length (now work) ⌝ }
+    ensures { λ r. ⌜ r ≡ Names.taken sameBytes (idOf (now (s .entry)) id) (names count (now (s .entry)) (now (work .entry)) base) ⌝ }
+{
+    if id.len == 0 {
+        return false;
+    }
+    let name = token::bytes_of(s, id);
+    match find_name(s, work, base, count, name) {
+        Found::At(_) => true,
+        Found::Nothing => false,
+    }
 }
 
 // The number that an index means among count names.

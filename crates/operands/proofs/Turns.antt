@@ -8,7 +8,7 @@ use Rattle.definition.specs.Basic.{Answer, ok, refused, _>>=_, each, concatMap}
 use Rattle.definition.specs.Syntax as Syntax
 use Rattle.definition.specs.Syntax.{Bytes, Identifier, Depth}
 use Rattle.definition.specs.Token.{present}
-use Rattle.definition.specs.Names.{Scope, Namespace, depthOf, immediate}
+use Rattle.definition.specs.Names.{Scope, Namespace, itemNo, depthOf, immediate}
 use Rattle.definition.specs.Binary.{u, vec, imm}
 use Rattle.syntax.specs.Refusals.{refusedBy}
 use Rattle.syntax.specs.declared.Refusal.{Refusal}
@@ -31,7 +31,10 @@ use Rattle.binary.specs.Emits.{Wrote, Emits}
 use Rattle.binary.specs.declared.Emitted.{Emitted}
 use Rattle.binary.specs.declared.Emitted.the-variants as E
 use Rattle.binary.proofs.Emitting.{wrote, halts, was-wrote, has-halted, emits-not, emits-then}
-use Rattle.operands.specs.Operands.{depthBytes}
+use Rattle.scope.specs.Scope.{scopeIn, labelsIn}
+use Rattle.operands.specs.Operands.{depthBytes, FewBlocks, bytesOf, targetOf}
+use Rattle.operands.specs.declared.indices.Target.{Target}
+use Rattle.operands.specs.declared.indices.Target.the-variants as T
 use Rattle.operands.proofs.Elements.{elements-none, elements-more, elements-fault, concat-snoc, after, each-more, each-not, each-none, each-all, each-length}
 
 -- ## `count_indices`
@@ -137,6 +140,38 @@ module _ (a : Answer Depth) (y : DepthAt) (told : a ≡ depthAnswer y) where
 
   pub depth-not : (old : List ℕ) (at : ℕ) (r : Refusal) (new : List ℕ) → y ≡ D.Refused r → Emits depthBytes a old at (E.Refused r) new
   depth-not old at r new e = halts depthBytes a old at new r (told ∙ ap depthAnswer e)
+
+-- ## Functions or labels
+
+pub few-func : FewBlocks T.Func
+unfolding FewBlocks
+few-func = tt
+
+pub few-label : (k : ℕ) → k ≤ 128 → FewBlocks (T.Label k)
+unfolding FewBlocks
+few-label k h = h
+
+pub few-blocks : (to : Target) (k : ℕ) → FewBlocks to → to ≡ T.Label k → k ≤ 128
+unfolding FewBlocks
+few-blocks to k h d = rw d at h
+
+module _ (s w : List ℕ) (rec : ℕ) (x : Syntax.Index Identifier) (old : List ℕ) (at : ℕ) (r : Emitted) (new : List ℕ) where
+  pub index-func : (to : Target) → to ≡ T.Func → Emits u (itemNo (scopeIn s w) Syntax.funcs rec x) old at r new → Emits (bytesOf to) (targetOf s w to rec x) old at r new
+  unfolding bytesOf targetOf
+  index-func to d e = rw d e
+
+  pub index-label : (to : Target) (k : ℕ) → to ≡ T.Label k → Emits depthBytes (depthOf (scopeIn s w) (labelsIn s w k) rec x) old at r new → Emits (bytesOf to) (targetOf s w to rec x) old at r new
+  unfolding bytesOf targetOf
+  index-label to k d e = rw d e
+
+module _ (s w : List ℕ) (rec : ℕ) (xs : List (Syntax.Index Identifier)) (old : List ℕ) (at : ℕ) (r : Emitted) (new : List ℕ) where
+  pub funcs-are : Emits (vec (bytesOf T.Func)) (each (targetOf s w T.Func rec) xs) old at r new → Emits (vec u) (each (itemNo (scopeIn s w) Syntax.funcs rec) xs) old at r new
+  unfolding bytesOf targetOf
+  funcs-are e = e
+
+  pub labels-are : (k : ℕ) → Emits (vec (bytesOf (T.Label k))) (each (targetOf s w (T.Label k) rec) xs) old at r new → Emits (vec depthBytes) (each (depthOf (scopeIn s w) (labelsIn s w k) rec) xs) old at r new
+  unfolding bytesOf targetOf
+  labels-are k e = e
 
 -- ## `emit_labels`
 

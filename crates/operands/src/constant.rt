@@ -16,7 +16,7 @@ ghost use Rattle.binary.specs.Emits.{Emits};
 ghost use Rattle.operands.specs.Operands.{constBytes, zeroOp};
 
 // A constant has no locals and no blocks, so no label or local of it has a name.
-pub fn emit_const(out: &mut [u8], at: usize, s: &[u8], work: &[u32], c: Plain, rec: u32) -> Emitted
+pub fn emit_const(s: &[u8], work: &[u32], out: &mut [u8], at: usize, c: Plain, rec: u32) -> Emitted
     requires { ⌜ WORDS ≤ length (now work) ⌝ }
     ensures { λ r. ⌜ Emits constBytes (Names.constOp (scopeIn (now (s .entry)) (now (work .entry))) rec (plainIs (now (s .entry)) c)) (now (out .entry)) at r (now (out .exit)) ⌝ }
 {

@@ -20,7 +20,7 @@ ghost use Rattle.syntax.specs.Tokens.{indexOf};
 ghost use Rattle.syntax.specs.TypeUses.{listOf};
 ghost use Rattle.scope.specs.Scope.{scopeIn, labelsIn};
 ghost use Rattle.binary.specs.Emits.{Emits};
-ghost use Rattle.operands.specs.Operands.{depthBytes};
+ghost use Rattle.operands.specs.Operands.{depthBytes, FewBlocks, bytesOf, targetOf};
 
 // How many indices a list has.
 pub fn count_indices(s: &[u8], l: List) -> u64
@@ -45,7 +45,7 @@ pub fn count_indices(s: &[u8], l: List) -> u64
 }
 
 // A function's number.
-pub fn emit_func(out: &mut [u8], at: usize, s: &[u8], work: &[u32], x: Index, rec: u32) -> Emitted
+pub fn emit_func(s: &[u8], work: &[u32], out: &mut [u8], at: usize, x: Index, rec: u32) -> Emitted
     requires { ⌜ WORDS ≤ length (now work) ⌝ }
     ensures { λ r. ⌜ Emits Binary.u (Names.itemNo (scopeIn (now (s .entry)) (now (work .entry))) funcs rec (indexOf (now (s .entry)) x)) (now (out .entry)) at r (now (out .exit)) ⌝ }
 {
@@ -55,49 +55,12 @@ pub fn emit_func(out: &mut [u8], at: usize, s: &[u8], work: &[u32], x: Index, re
     }
 }
 
-// The functions' numbers, without their count.
-fn emit_each_func(out: &mut [u8], at: usize, s: &[u8], work: &[u32], l: List, rec: u32) -> Emitted
-    requires { ⌜ WORDS ≤ length (now work) ⌝ }
-    ensures { λ r. ⌜ Emits (concatMap Binary.u) (each (Names.itemNo (scopeIn (now (s .entry)) (now (work .entry))) funcs rec) (listOf Token.present (now (s .entry)) l)) (now (out .entry)) at r (now (out .exit)) ⌝ }
-{
-    let mut o = at;
-    let mut here = l.at;
-    let mut left = l.count;
-    while 0 < left {
-        match token::read_present(s, here) {
-            IndexAt::Got(x, next) => match emit_func(out, o, s, work, x, rec) {
-                Emitted::To(a) => {
-                    o = a;
-                    here = next;
-                    left -= 1;
-                }
-                Emitted::Refused(r) => {
-                    return Emitted::Refused(r);
-                }
-            },
-            IndexAt::Fault(_) => {
-                return Emitted::To(o);
-            }
-        }
-    }
-    Emitted::To(o)
-}
-
-pub fn emit_funcs(out: &mut [u8], at: usize, s: &[u8], work: &[u32], l: List, rec: u32) -> Emitted
-    requires { ⌜ WORDS ≤ length (now work) ⌝ }
-    ensures { λ r. ⌜ Emits (Binary.vec Binary.u) (each (Names.itemNo (scopeIn (now (s .entry)) (now (work .entry))) funcs rec) (listOf Token.present (now (s .entry)) l)) (now (out .entry)) at r (now (out .exit)) ⌝ }
-{
-    let n = count_indices(s, l);
-    let a = leb::put_u(out, at, n);
-    emit_each_func(out, a, s, work, l, rec)
-}
-
 // A label's depth.
 pub fn emit_depth(
-    out: &mut [u8],
-    at: usize,
     s: &[u8],
     work: &[u32],
+    out: &mut [u8],
+    at: usize,
     blocks: u32,
     x: Index,
     rec: u32,
@@ -111,25 +74,49 @@ pub fn emit_depth(
     }
 }
 
-// The labels' depths, without their count.
-fn emit_each_label(
-    out: &mut [u8],
-    at: usize,
+// What the indices of a list refer to: functions, or labels of so many open blocks.
+pub enum Target {
+    Func,
+    Label(u32),
+}
+
+fn emit_index(
     s: &[u8],
     work: &[u32],
-    blocks: u32,
+    out: &mut [u8],
+    at: usize,
+    to: Target,
+    x: Index,
+    rec: u32,
+) -> Emitted
+    requires { ⌜ (WORDS ≤ length (now work)) × FewBlocks to ⌝ }
+    ensures { λ r. ⌜ Emits (bytesOf to) (targetOf (now (s .entry)) (now (work .entry)) to rec (indexOf (now (s .entry)) x)) (now (out .entry)) at r (now (out .exit)) ⌝ }
+{
+    match to {
+        Target::Func => emit_func(s, work, out, at, x, rec),
+        Target::Label(blocks) => emit_depth(s, work, out, at, blocks, x, rec),
+    }
+}
+
+// The numbers of a list, without their count.
+fn emit_each(
+    s: &[u8],
+    work: &[u32],
+    out: &mut [u8],
+    at: usize,
+    to: Target,
     l: List,
     rec: u32,
 ) -> Emitted
-    requires { ⌜ (WORDS ≤ length (now work)) × (blocks ≤ 128) ⌝ }
-    ensures { λ r. ⌜ Emits (concatMap depthBytes) (each (Names.depthOf (scopeIn (now (s .entry)) (now (work .entry))) (labelsIn (now (s .entry)) (now (work .entry)) blocks) rec) (listOf Token.present (now (s .entry)) l)) (now (out .entry)) at r (now (out .exit)) ⌝ }
+    requires { ⌜ (WORDS ≤ length (now work)) × FewBlocks to ⌝ }
+    ensures { λ r. ⌜ Emits (concatMap (bytesOf to)) (each (targetOf (now (s .entry)) (now (work .entry)) to rec) (listOf Token.present (now (s .entry)) l)) (now (out .entry)) at r (now (out .exit)) ⌝ }
 {
     let mut o = at;
     let mut here = l.at;
     let mut left = l.count;
     while 0 < left {
         match token::read_present(s, here) {
-            IndexAt::Got(x, next) => match emit_depth(out, o, s, work, blocks, x, rec) {
+            IndexAt::Got(x, next) => match emit_index(s, work, out, o, to, x, rec) {
                 Emitted::To(a) => {
                     o = a;
                     here = next;
@@ -147,29 +134,37 @@ fn emit_each_label(
     Emitted::To(o)
 }
 
-fn emit_label_list(
-    out: &mut [u8],
-    at: usize,
+fn emit_list(
     s: &[u8],
     work: &[u32],
-    blocks: u32,
+    out: &mut [u8],
+    at: usize,
+    to: Target,
     l: List,
     rec: u32,
 ) -> Emitted
-    requires { ⌜ (WORDS ≤ length (now work)) × (blocks ≤ 128) ⌝ }
-    ensures { λ r. ⌜ Emits (Binary.vec depthBytes) (each (Names.depthOf (scopeIn (now (s .entry)) (now (work .entry))) (labelsIn (now (s .entry)) (now (work .entry)) blocks) rec) (listOf Token.present (now (s .entry)) l)) (now (out .entry)) at r (now (out .exit)) ⌝ }
+    requires { ⌜ (WORDS ≤ length (now work)) × FewBlocks to ⌝ }
+    ensures { λ r. ⌜ Emits (Binary.vec (bytesOf to)) (each (targetOf (now (s .entry)) (now (work .entry)) to rec) (listOf Token.present (now (s .entry)) l)) (now (out .entry)) at r (now (out .exit)) ⌝ }
 {
     let n = count_indices(s, l);
     let a = leb::put_u(out, at, n);
-    emit_each_label(out, a, s, work, blocks, l, rec)
+    emit_each(s, work, out, a, to, l, rec)
+}
+
+// The functions of an element segment.
+pub fn emit_funcs(s: &[u8], work: &[u32], out: &mut [u8], at: usize, l: List, rec: u32) -> Emitted
+    requires { ⌜ WORDS ≤ length (now work) ⌝ }
+    ensures { λ r. ⌜ Emits (Binary.vec Binary.u) (each (Names.itemNo (scopeIn (now (s .entry)) (now (work .entry))) funcs rec) (listOf Token.present (now (s .entry)) l)) (now (out .entry)) at r (now (out .exit)) ⌝ }
+{
+    emit_list(s, work, out, at, Target::Func, l, rec)
 }
 
 // The labels of a br_table, and the one that is left for every other number.
 pub fn emit_labels(
-    out: &mut [u8],
-    at: usize,
     s: &[u8],
     work: &[u32],
+    out: &mut [u8],
+    at: usize,
     blocks: u32,
     xs: List,
     x: Index,
@@ -178,8 +173,8 @@ pub fn emit_labels(
     requires { ⌜ (WORDS ≤ length (now work)) × (blocks ≤ 128) ⌝ }
     ensures { λ r. ⌜ Emits Binary.imm (Names.immediate (scopeIn (now (s .entry)) (now (work .entry))) [] (labelsIn (now (s .entry)) (now (work .entry)) blocks) rec (labels (listOf Token.present (now (s .entry)) xs) (indexOf (now (s .entry)) x))) (now (out .entry)) at r (now (out .exit)) ⌝ }
 {
-    match emit_label_list(out, at, s, work, blocks, xs, rec) {
-        Emitted::To(a) => emit_depth(out, a, s, work, blocks, x, rec),
+    match emit_list(s, work, out, at, Target::Label(blocks), xs, rec) {
+        Emitted::To(a) => emit_depth(s, work, out, a, blocks, x, rec),
         Emitted::Refused(r) => Emitted::Refused(r),
     }
 }

@@ -31,7 +31,7 @@ pub fn emit_label(
     requires { ⌜ (WORDS ≤ length (now work)) × (k ≤ 128) ⌝ }
     ensures { λ r. ⌜ Emits Binary.imm (Names.immediate (scopeIn (now (s .entry)) (now (work .entry))) [] (labelsIn (now (s .entry)) (now (work .entry)) k) rec (label (indexOf (now (s .entry)) x))) (now (out .entry)) at r (now (out .exit)) ⌝ }
 {
-    crate::indices::emit_depth(out, at, s, work, k, x, rec)
+    crate::indices::emit_depth(s, work, out, at, k, x, rec)
 }
 
 pub fn emit_local(
@@ -106,7 +106,7 @@ fn emit_operand(
     match operand {
         Operand::Nothing => Emitted::To(at),
         Operand::Label(x) => emit_label(s, work, out, at, k, x, rec),
-        Operand::Labels(xs, x) => crate::indices::emit_labels(out, at, s, work, k, xs, x, rec),
+        Operand::Labels(xs, x) => crate::indices::emit_labels(s, work, out, at, k, xs, x, rec),
         Operand::Local(x) => emit_local(s, work, out, at, l, x, rec),
         Operand::Item(kind, x) => emit_item(s, work, out, at, kind, x, rec),
         Operand::Access(e, o, x) => emit_access(s, work, out, at, e, o, x, rec),

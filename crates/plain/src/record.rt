@@ -1,89 +1,74 @@
 // Instructions that open and close no block and have no type use. The frequent ones are resolved as they are read.
 // The reading pass has looked at every byte of a name, so none is looked at again.
 use crate::turn::Turn;
+use binary::Emitted;
 use scope::Locals;
+use syntax::Index;
 use syntax::IndexAt;
 use syntax::Operands;
+use syntax::Place;
 use syntax::PlainAt;
 use syntax::Space;
-ghost use Prim.Native.Nat.{_≤_};
+ghost use Prim.Native.Nat.{_-_, _≤_};
 ghost use lib.ListN.{length};
 ghost use Rattle.area.specs.Layout.{WORDS};
-ghost use Rattle.definition.specs.Syntax as Syntax;
 ghost use Rattle.definition.specs.Token as Token;
 ghost use Rattle.definition.specs.Instructions as Instructions;
-ghost use Rattle.syntax.specs.Tokens.{spaceOf};
+ghost use Rattle.definition.specs.Names as Names;
+ghost use Rattle.definition.specs.Binary as Binary;
+ghost use Rattle.syntax.specs.Tokens.{indexOf};
 ghost use Rattle.token.specs.Known.{Gets};
 ghost use Rattle.syntax.specs.Plain.{operandsIs};
-ghost use Rattle.scope.specs.Scope.{localsIn, FewLocals};
-ghost use Rattle.plain.specs.Turns.{plainRecord, indexed, itemed, Turned, AnyLocals};
+ghost use Rattle.scope.specs.Scope.{scopeIn, localsIn, FewLocals, labelsIn};
+ghost use Rattle.binary.specs.Emits.{Emits};
+ghost use Rattle.plain.specs.Turns.{InBody, plainRecord, operandTo, indexed, Turned};
 
-fn label_record(
+// What an index refers to.
+pub enum Target {
+    Label,
+    Local,
+    Item(Space),
+}
+
+fn emit_index(
     s: &[u8],
     work: &[u32],
     out: &mut [u8],
     at: usize,
-    here: usize,
-    k: u32,
-    opcode: u8,
-    rec: u32,
-) -> Turn
-    requires { ⌜ (WORDS ≤ length (now work)) × (k ≤ 128) × Gets (Token.present (now s) here) ⌝ }
-    ensures { λ r. ⌜ AnyLocals (now (s .entry)) (now (work .entry)) k rec (plainRecord (indexed opcode Syntax.label (now (s .entry)) here)) (now (out .entry)) at r (now (work .entry)) (now (out .exit)) ⌝ }
+    p: Place,
+    l: Locals,
+    to: Target,
+    x: Index,
+) -> Emitted
+    requires { ⌜ (WORDS ≤ length (now work)) × FewLocals l × InBody p ⌝ }
+    ensures { λ r. ⌜ Emits Binary.imm (Names.immediate (scopeIn (now (s .entry)) (now (work .entry))) (localsIn (now (s .entry)) (now (work .entry)) l) (labelsIn (now (s .entry)) (now (work .entry)) (p .depth - 1)) (p .rec) (operandTo to (indexOf (now (s .entry)) x))) (now (out .entry)) at r (now (out .exit)) ⌝ }
 {
-    match token::known_present(s, here) {
-        IndexAt::Got(x, next) => {
-            let a = emit::put(out, at, opcode);
-            let e = operands::emit_label(s, work, out, a, k, x, rec);
-            crate::turn::go_on(e, next, k)
-        }
-        IndexAt::Fault(_) => Turn::Done,
+    match to {
+        Target::Label => operands::emit_label(s, work, out, at, p.depth - 1, x, p.rec),
+        Target::Local => operands::emit_local(s, work, out, at, l, x, p.rec),
+        Target::Item(kind) => operands::emit_item(s, work, out, at, kind, x, p.rec),
     }
 }
 
-fn local_record(
+// An instruction whose operand is an index.
+fn index_record(
     s: &[u8],
     work: &[u32],
     out: &mut [u8],
     at: usize,
-    here: usize,
-    k: u32,
+    p: Place,
     l: Locals,
     opcode: u8,
-    rec: u32,
+    to: Target,
 ) -> Turn
-    requires { ⌜ (WORDS ≤ length (now work)) × FewLocals l × (k ≤ 128) × Gets (Token.present (now s) here) ⌝ }
-    ensures { λ r. ⌜ Turned (now (s .entry)) (now (work .entry)) (localsIn (now (s .entry)) (now (work .entry)) l) k rec (plainRecord (indexed opcode Syntax.local (now (s .entry)) here)) (now (out .entry)) at r (now (work .entry)) (now (out .exit)) ⌝ }
+    requires { ⌜ (WORDS ≤ length (now work)) × FewLocals l × InBody p × Gets (Token.present (now s) (p .at)) ⌝ }
+    ensures { λ r. ⌜ Turned (now (s .entry)) (now (work .entry)) (localsIn (now (s .entry)) (now (work .entry)) l) (p .depth - 1) (p .rec) (plainRecord (indexed opcode (operandTo to) (now (s .entry)) (p .at))) (now (out .entry)) at r (now (work .entry)) (now (out .exit)) ⌝ }
 {
-    match token::known_present(s, here) {
+    match token::known_present(s, p.at) {
         IndexAt::Got(x, next) => {
             let a = emit::put(out, at, opcode);
-            let e = operands::emit_local(s, work, out, a, l, x, rec);
-            crate::turn::go_on(e, next, k)
-        }
-        IndexAt::Fault(_) => Turn::Done,
-    }
-}
-
-fn item_record(
-    s: &[u8],
-    work: &[u32],
-    out: &mut [u8],
-    at: usize,
-    here: usize,
-    k: u32,
-    kind: Space,
-    opcode: u8,
-    rec: u32,
-) -> Turn
-    requires { ⌜ (WORDS ≤ length (now work)) × (k ≤ 128) × Gets (Token.present (now s) here) ⌝ }
-    ensures { λ r. ⌜ AnyLocals (now (s .entry)) (now (work .entry)) k rec (plainRecord (itemed opcode (spaceOf kind) (now (s .entry)) here)) (now (out .entry)) at r (now (work .entry)) (now (out .exit)) ⌝ }
-{
-    match token::known_present(s, here) {
-        IndexAt::Got(x, next) => {
-            let a = emit::put(out, at, opcode);
-            let e = operands::emit_item(s, work, out, a, kind, x, rec);
-            crate::turn::go_on(e, next, k)
+            let e = emit_index(s, work, out, a, p, l, to, x);
+            crate::turn::go_on(e, p, next, p.depth)
         }
         IndexAt::Fault(_) => Turn::Done,
     }
@@ -94,20 +79,18 @@ fn other_record(
     work: &[u32],
     out: &mut [u8],
     at: usize,
-    here: usize,
-    k: u32,
+    p: Place,
     l: Locals,
     opcode: u8,
     what: Operands,
-    rec: u32,
 ) -> Turn
-    requires { ⌜ (WORDS ≤ length (now work)) × FewLocals l × (k ≤ 128) ⌝ }
-    ensures { λ r. ⌜ Turned (now (s .entry)) (now (work .entry)) (localsIn (now (s .entry)) (now (work .entry)) l) k rec (plainRecord (Instructions.plainOf opcode (operandsIs what) (now (s .entry)) here)) (now (out .entry)) at r (now (work .entry)) (now (out .exit)) ⌝ }
+    requires { ⌜ (WORDS ≤ length (now work)) × FewLocals l × InBody p ⌝ }
+    ensures { λ r. ⌜ Turned (now (s .entry)) (now (work .entry)) (localsIn (now (s .entry)) (now (work .entry)) l) (p .depth - 1) (p .rec) (plainRecord (Instructions.plainOf opcode (operandsIs what) (now (s .entry)) (p .at))) (now (out .entry)) at r (now (work .entry)) (now (out .exit)) ⌝ }
 {
-    match expr::read_plain(s, here, opcode, what) {
-        PlainAt::Got(p, next) => {
-            let e = operands::emit_plain(s, work, out, at, l, k, p, rec);
-            crate::turn::go_on(e, next, k)
+    match expr::read_plain(s, p.at, opcode, what) {
+        PlainAt::Got(x, next) => {
+            let e = operands::emit_plain(s, work, out, at, l, p.depth - 1, x, p.rec);
+            crate::turn::go_on(e, p, next, p.depth)
         }
         PlainAt::Fault(_) => Turn::Done,
     }
@@ -118,29 +101,27 @@ pub fn plain_record(
     work: &[u32],
     out: &mut [u8],
     at: usize,
-    here: usize,
-    k: u32,
+    p: Place,
     l: Locals,
     opcode: u8,
     what: Operands,
-    rec: u32,
 ) -> Turn
-    requires { ⌜ (WORDS ≤ length (now work)) × FewLocals l × (k ≤ 128) × Gets (Instructions.plainOf opcode (operandsIs what) (now s) here) ⌝ }
-    ensures { λ r. ⌜ Turned (now (s .entry)) (now (work .entry)) (localsIn (now (s .entry)) (now (work .entry)) l) k rec (plainRecord (Instructions.plainOf opcode (operandsIs what) (now (s .entry)) here)) (now (out .entry)) at r (now (work .entry)) (now (out .exit)) ⌝ }
+    requires { ⌜ (WORDS ≤ length (now work)) × FewLocals l × InBody p × Gets (Instructions.plainOf opcode (operandsIs what) (now s) (p .at)) ⌝ }
+    ensures { λ r. ⌜ Turned (now (s .entry)) (now (work .entry)) (localsIn (now (s .entry)) (now (work .entry)) l) (p .depth - 1) (p .rec) (plainRecord (Instructions.plainOf opcode (operandsIs what) (now (s .entry)) (p .at))) (now (out .entry)) at r (now (work .entry)) (now (out .exit)) ⌝ }
 {
     match what {
-        Operands::Bare => Turn::On(emit::put(out, at, opcode), here, k),
-        Operands::LabelIdx => label_record(s, work, out, at, here, k, opcode, rec),
-        Operands::LocalIdx => local_record(s, work, out, at, here, k, l, opcode, rec),
-        Operands::FuncIdx => item_record(s, work, out, at, here, k, Space::Funcs, opcode, rec),
-        Operands::GlobalIdx => item_record(s, work, out, at, here, k, Space::Globals, opcode, rec),
-        Operands::LabelIdxs => other_record(s, work, out, at, here, k, l, opcode, what, rec),
-        Operands::MemIdx => other_record(s, work, out, at, here, k, l, opcode, what, rec),
-        Operands::MemArg => other_record(s, work, out, at, here, k, l, opcode, what, rec),
-        Operands::I32 => other_record(s, work, out, at, here, k, l, opcode, what, rec),
-        Operands::I64 => other_record(s, work, out, at, here, k, l, opcode, what, rec),
-        Operands::F32 => other_record(s, work, out, at, here, k, l, opcode, what, rec),
-        Operands::F64 => other_record(s, work, out, at, here, k, l, opcode, what, rec),
-        Operands::HeapType => other_record(s, work, out, at, here, k, l, opcode, what, rec),
+        Operands::Bare => {
+            let o = emit::put(out, at, opcode);
+            crate::turn::go_on(Emitted::To(o), p, p.at, p.depth)
+        }
+        Operands::LabelIdx => { index_record(s, work, out, at, p, l, opcode, Target::Label) }
+        Operands::LocalIdx => { index_record(s, work, out, at, p, l, opcode, Target::Local) }
+        Operands::FuncIdx => {
+            index_record(s, work, out, at, p, l, opcode, Target::Item(Space::Funcs))
+        }
+        Operands::GlobalIdx => {
+            index_record(s, work, out, at, p, l, opcode, Target::Item(Space::Globals))
+        }
+        _ => other_record(s, work, out, at, p, l, opcode, what),
     }
 }

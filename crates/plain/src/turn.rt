@@ -1,23 +1,33 @@
 // What came of one record of a body.
 use binary::Emitted;
+use syntax::Place;
 use syntax::Refusal;
 ghost use mathlib.Core.Path.{_≡_};
-ghost use Rattle.plain.specs.Turns.{turnOf};
+ghost use Prim.Native.Nat.{_<_};
+ghost use Rattle.plain.specs.Turns.{past, turnOf};
 
 pub enum Turn {
-    // the place after what was written, the place after the record, and how many blocks are open
-    On(usize, usize, u32),
+    // the place after what was written, and the running place after the record
+    On(usize, Place),
     // no instruction is here
     Done,
     Refused(Refusal),
 }
 
-// What came of an instruction: its record ends before `next`, and after it j blocks are open.
-pub fn go_on(e: Emitted, next: usize, j: u32) -> Turn
-    ensures { λ r. ⌜ r ≡ turnOf e next j ⌝ }
+// What came of an instruction: its record ends before `next`, where the place is so deep.
+pub fn go_on(e: Emitted, p: Place, next: usize, depth: u32) -> Turn
+    requires { ⌜ p .rec < 4096 ⌝ }
+    ensures { λ r. ⌜ r ≡ turnOf e (past p next depth) ⌝ }
 {
     match e {
-        Emitted::To(o) => Turn::On(o, next, j),
+        Emitted::To(o) => Turn::On(
+            o,
+            Place {
+                at: next,
+                rec: p.rec + 1,
+                depth,
+            },
+        ),
         Emitted::Refused(q) => Turn::Refused(q),
     }
 }

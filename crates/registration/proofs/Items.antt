@@ -1,18 +1,15 @@
 -- Where an item goes, and that there is room for the items that a field brings.
 use Prim.Native.Nat.{ℕ, _+_, _*_, _≤_, _<_}
-use mathlib.Core.Path.{_≡_, sym}
-use mathlib.Core.Bool.{Bool, true, false}
+use mathlib.Core.Path.{_≡_}
+use mathlib.Core.Bool.{Bool}
 use mathlib.Core.List.{List, [], _∷_}
 use mir.Syntax.{w64}
 use mir.Val.{Fits}
 use lib.ListN.{length}
-use borrow.Author.Tests.{eq-eqb, ne-eqb}
 use native.Mathlib.Omega.{arith}
-use Rattle.definition.specs.Basic.{sameBytes, isSome}
-use Rattle.definition.specs.Syntax.{Identifier, Space, tables, mems, types, elems, datas}
-use Rattle.definition.specs.Names.{Namespace, find, taken}
+use Rattle.definition.specs.Syntax.{Space, tables, mems, types, elems, datas}
 use Rattle.area.specs.Layout.{WORDS}
-use Rattle.syntax.specs.Tokens.{partOf, idOf, spaceOf}
+use Rattle.syntax.specs.Tokens.{spaceOf}
 use Rattle.syntax.specs.declared.Part.{Part}
 use Rattle.syntax.specs.declared.Space as Kind
 use Rattle.syntax.specs.Items.{countOf}
@@ -25,31 +22,9 @@ use Rattle.syntax.specs.declared.List as Code
 use Rattle.syntax.specs.declared.Field.{Field}
 use Rattle.syntax.specs.declared.Field.the-variants as F
 use Rattle.counting.specs.Counting.{oneMore, externSpaceOf, ownSpaceOf}
-use Rattle.name_table.specs.Area.{found}
-use Rattle.name_table.specs.declared.table.Found.{Found}
-use Rattle.name_table.specs.declared.table.Found.the-variants as X
 use Rattle.name_table.proofs.Tables.{base-low}
 use Rattle.registration.specs.Register.{Entry, nameless, sourceItems, brought, Fit}
 use Rattle.name_table.specs.Tables.{base}
-
--- ## Is an identifier taken?
-
-module _ (s : List ℕ) (p : Part) (ns : Namespace Identifier) where
-  -- none is not
-  pub taken-none : p .len ≡ 0 → false ≡ taken sameBytes (idOf s p) ns
-  unfolding taken
-  taken-none e = sym (rw (eq-eqb _ _ e))
-
-  module _ (name : List ℕ) (q : Found) (h : p .len ≡ 0 → ⊥) (b : name ≡ partOf s p) (told : find sameBytes name ns ≡ found q) where
-    pub taken-found : (k : ℕ) → q ≡ X.At k → true ≡ taken sameBytes (idOf s p) ns
-    unfolding taken isSome
-    taken-found k e = sym (rw (ne-eqb _ _ h, ← b, told, e))
-
-    pub taken-not : q ≡ X.Nothing → false ≡ taken sameBytes (idOf s p) ns
-    unfolding taken isSome
-    taken-not e = sym (rw (ne-eqb _ _ h, ← b, told, e))
-
-pub ruleset takens = (taken-none, taken-found, taken-not)
 
 -- ## One item
 

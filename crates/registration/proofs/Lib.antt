@@ -1,4 +1,3 @@
-pub mod Counts
 pub mod Items
 pub mod Puts
 pub mod Tables

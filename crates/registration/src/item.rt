@@ -1,6 +1,5 @@
 // One item in its table, and the items that a field brings.
 use crate::register::Registered;
-use name_table::Found;
 use syntax::Field;
 use syntax::Part;
 use syntax::Refusal;
@@ -9,31 +8,11 @@ use syntax::Source;
 use syntax::Space;
 ghost use mathlib.Core.Path.{_≡_};
 ghost use mathlib.Core.List.{[], _∷_};
-ghost use Prim.Native.Nat.{_+_, _*_, _≤_, _<_};
-ghost use lib.ListN.{length};
+ghost use Prim.Native.Nat.{_<_};
 ghost use Rattle.area.specs.Lent.{Lent};
-ghost use Rattle.definition.specs.Basic.{sameBytes};
-ghost use Rattle.definition.specs.Names as Names;
-ghost use Rattle.syntax.specs.Tokens.{idOf, spaceOf};
+ghost use Rattle.syntax.specs.Tokens.{spaceOf};
 ghost use Rattle.syntax.specs.Items.{countOf};
-ghost use Rattle.name_table.specs.Area.{names};
 ghost use Rattle.registration.specs.Register.{Fit, Puts, brought, sourceItems, nameless};
-ghost use Rattle.name_table.specs.Tables.{base};
-
-// An identifier that is there already.
-pub fn is_taken(s: &[u8], work: &[u32], base: usize, count: usize, id: Part) -> bool
-    requires { ⌜ base + 3 * count ≤ length (now work) ⌝ }
-    ensures { λ r. ⌜ r ≡ Names.taken sameBytes (idOf (now (s .entry)) id) (names count (now (s .entry)) (now (work .entry)) base) ⌝ }
-{
-    if id.len == 0 {
-        return false;
-    }
-    let name = token::bytes_of(s, id);
-    match name_table::find_name(s, work, base, count, name) {
-        Found::At(_) => true,
-        Found::Nothing => false,
-    }
-}
 
 // The next item of a space.
 fn register_item(s: &[u8], work: &mut [u32], seen: Seen, k: Space, id: Part, rec: u32) -> Registered
@@ -42,7 +21,7 @@ fn register_item(s: &[u8], work: &mut [u32], seen: Seen, k: Space, id: Part, rec
 {
     let base = name_table::table_base(k);
     let count = sources::seen::count_of(seen, k) as usize;
-    if is_taken(s, work, base, count, id) {
+    if name_table::is_taken(s, work, base, count, id) {
         return Registered::Refused(Refusal { number: 13, rec });
     }
     name_table::put_name(s, work, base + 3 * count, id);

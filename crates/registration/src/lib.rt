@@ -4,4 +4,3 @@ pub mod register;
 
 pub use item::register_field;
 pub use register::Registered;
-pub use register::put_counts;

@@ -32,23 +32,17 @@ fn known_own(s: &[u8], at: usize, id: Part, exports: List) -> FieldAt
 {
     match typeuse::known_type_use(s, at) {
         UseAt::Got(t, a) => match typeuse::known_local_list(s, a) {
-            ListAt::Got(locals, b) => {
-                return FieldAt::Got(
-                    Field::Item {
-                        id,
-                        exports,
-                        source: Source::Own(Own::Func(t, locals)),
-                    },
-                    b,
-                );
-            }
-            ListAt::Fault(e) => {
-                return FieldAt::Fault(e);
-            }
+            ListAt::Got(locals, b) => FieldAt::Got(
+                Field::Item {
+                    id,
+                    exports,
+                    source: Source::Own(Own::Func(t, locals)),
+                },
+                b,
+            ),
+            ListAt::Fault(e) => FieldAt::Fault(e),
         },
-        UseAt::Fault(e) => {
-            return FieldAt::Fault(e);
-        }
+        UseAt::Fault(e) => FieldAt::Fault(e),
     }
 }
 
@@ -81,23 +75,17 @@ fn known_extern_func(s: &[u8], at: usize, name: ImportName) -> FieldAt
 {
     match token::known_identifier(s, at) {
         PartAt::Got(id, a) => match typeuse::known_type_use(s, a) {
-            UseAt::Got(t, b) => {
-                return FieldAt::Got(
-                    Field::Import {
-                        name,
-                        id,
-                        what: Extern::Func(t),
-                    },
-                    b,
-                );
-            }
-            UseAt::Fault(e) => {
-                return FieldAt::Fault(e);
-            }
+            UseAt::Got(t, b) => FieldAt::Got(
+                Field::Import {
+                    name,
+                    id,
+                    what: Extern::Func(t),
+                },
+                b,
+            ),
+            UseAt::Fault(e) => FieldAt::Fault(e),
         },
-        PartAt::Fault(e) => {
-            return FieldAt::Fault(e);
-        }
+        PartAt::Fault(e) => FieldAt::Fault(e),
     }
 }
 
@@ -108,16 +96,10 @@ fn known_import_name(s: &[u8], at: usize) -> NameAt
 {
     match token::known_string(s, at) {
         PartAt::Got(module, a) => match token::known_string(s, a) {
-            PartAt::Got(item, b) => {
-                return NameAt::Got(ImportName { module, item }, b);
-            }
-            PartAt::Fault(e) => {
-                return NameAt::Fault(e);
-            }
+            PartAt::Got(item, b) => NameAt::Got(ImportName { module, item }, b),
+            PartAt::Fault(e) => NameAt::Fault(e),
         },
-        PartAt::Fault(e) => {
-            return NameAt::Fault(e);
-        }
+        PartAt::Fault(e) => NameAt::Fault(e),
     }
 }
 
@@ -132,15 +114,11 @@ fn known_import(s: &[u8], at: usize, seen: Seen) -> FieldAt
                 if kind == 0 {
                     return known_extern_func(s, b, name);
                 }
-                return item_records::item::read_import(s, at, seen);
+                item_records::item::read_import(s, at, seen)
             }
-            ByteAt::Fault(e) => {
-                return FieldAt::Fault(e);
-            }
+            ByteAt::Fault(e) => FieldAt::Fault(e),
         },
-        NameAt::Fault(e) => {
-            return FieldAt::Fault(e);
-        }
+        NameAt::Fault(e) => FieldAt::Fault(e),
     }
 }
 
@@ -157,10 +135,8 @@ pub fn known_field(s: &[u8], at: usize, seen: Seen) -> FieldAt
             if b == 0x03 {
                 return known_func(s, next, seen);
             }
-            return field_records::read_field(s, at, seen);
+            field_records::read_field(s, at, seen)
         }
-        ByteAt::Fault(e) => {
-            return FieldAt::Fault(e);
-        }
+        ByteAt::Fault(e) => FieldAt::Fault(e),
     }
 }

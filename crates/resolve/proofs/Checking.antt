@@ -26,7 +26,6 @@ use Rattle.deinline.specs.declared.entry.ItemIn.{ItemIn}
 use Rattle.deinline.specs.declared.entry.ItemIn.the-variants as I
 use Rattle.entries.specs.declared.EndsAt.{EndsAt}
 use Rattle.entries.specs.declared.EndsAt.the-variants as A
-use Rattle.deinline.proofs.Fields.{last-none}
 use Rattle.kept.specs.Emit.{EmitsKept}
 use Rattle.kept.specs.Parts.{partIn}
 use Rattle.kept.specs.Tally.{reached, tallies, tallyOf, Twelve, Tallied, NotTallied, Checks, Ready, ReadyThree, ChecksIn}
@@ -132,6 +131,32 @@ ready-kept s w w′ r e k h = record { recalled = recalled-scope s w w′ (usesO
 
 -- ## An entry
 
+-- only nothing has no section
+nothing-is : (e : Entry) → sectionNo e ≡ 0 → e ≡ E.Nothing
+nothing-is E.Nothing d = refl
+nothing-is (E.Type ps rs) d = absurd (omega arith)
+nothing-is (E.Import n x) d = absurd (omega arith)
+nothing-is (E.Func t) d = absurd (omega arith)
+nothing-is (E.Table t) d = absurd (omega arith)
+nothing-is (E.InlineTable w xs) d = absurd (omega arith)
+nothing-is (E.Mem l) d = absurd (omega arith)
+nothing-is (E.InlineMem w b) d = absurd (omega arith)
+nothing-is (E.Global t c) d = absurd (omega arith)
+nothing-is (E.Export n k x) d = absurd (omega arith)
+nothing-is (E.Exports es k n) d = absurd (omega arith)
+nothing-is (E.Start x) d = absurd (omega arith)
+nothing-is (E.Elem m xs) d = absurd (omega arith)
+nothing-is (E.InlineElem w n xs) d = absurd (omega arith)
+nothing-is (E.Code t ls here) d = absurd (omega arith)
+nothing-is (E.Data m b) d = absurd (omega arith)
+nothing-is (E.InlineData w n b) d = absurd (omega arith)
+
+pub entry-none : (s w : List ℕ) (r : ℕ) (e : Entry) (k : ℕ) (t : Tally) (old : Bytes) → k ≡ sectionNo e → k ≡ 0 → length old * 1 < 2 ^ 63
+    → ChecksIn (entryIn (scopeIn s w) s r e) t w old (record { tally = t; verdict = V′.Fine }) w old
+unfolding entryIn tagged answerOf tallies
+entry-none s w r e k t old d z l =
+    checks-fine _ t t w w old old (record { entries = []; is = rw (nothing-is e (sym d ∙ z)) refl; tally = refl; keeps = keeps-none old t l }) (kept-same LOCALS w)
+
 -- its section is one of the twelve
 pub in-sizes : (e : Entry) (k : ℕ) (sizes counts : List ℕ) → k ≡ sectionNo e → Twelve (tallyOf sizes counts) → k < length sizes
 in-sizes e k sizes counts d h = rw (h .sizes) (section-below e k d)
@@ -171,6 +196,13 @@ pub after-ready : (a : Answer Entries) (t : Tally) (w : List ℕ) (old : Bytes) 
     → ChecksIn a t w old q w₁ mid → q .verdict ≡ V′.Fine → Ready s w r f → Ready s w₁ r f
 after-ready a t w old q w₁ mid s r f x d h = ready-kept s w w₁ r f (fine-kept x d) h
 
+pub item-ready : (s w : List ℕ) (r : ℕ) (e e′ : Entry) → e ≡ e′ → Ready s w r e′ → Ready s w r e
+item-ready s w r e e′ d h = rw d h
+
+pub after-item : (a : Answer Entries) (t : Tally) (w : List ℕ) (old : Bytes) (q : Checked) (w₁ : List ℕ) (mid : Bytes) (s : List ℕ) (r : ℕ) (e e′ : Entry)
+    → e ≡ e′ → ChecksIn a t w old q w₁ mid → q .verdict ≡ V′.Fine → Ready s w r e′ → Ready s w₁ r e
+after-item a t w old q w₁ mid s r e e′ g x d h = rw g (after-ready a t w old q w₁ mid s r e′ x d h)
+
 -- slices of the same lengths are a tally too
 pub after-twelve : (sizes counts sizes′ counts′ : List ℕ) → Twelve (tallyOf sizes counts) → length sizes′ ≡ length sizes → length counts′ ≡ length counts → Twelve (tallyOf sizes′ counts′)
 after-twelve sizes counts sizes′ counts′ h d e = record { sizes = d ∙ h .sizes; counts = e ∙ h .counts }
@@ -179,42 +211,19 @@ after-twelve sizes counts sizes′ counts′ h d e = record { sizes = d ∙ h .s
 scope-same : (s w w′ : List ℕ) → Kept LOCALS w w′ → scopeIn s w′ ≡ scopeIn s w
 scope-same s w w′ k = scope-kept s w w′ (kept-less UNUSED LOCALS (omega arith) k)
 
--- only nothing has no section
-nothing-is : (e : Entry) → sectionNo e ≡ 0 → e ≡ E.Nothing
-nothing-is E.Nothing d = refl
-nothing-is (E.Type ps rs) d = absurd (omega arith)
-nothing-is (E.Import n x) d = absurd (omega arith)
-nothing-is (E.Func t) d = absurd (omega arith)
-nothing-is (E.Table t) d = absurd (omega arith)
-nothing-is (E.InlineTable w xs) d = absurd (omega arith)
-nothing-is (E.Mem l) d = absurd (omega arith)
-nothing-is (E.InlineMem w b) d = absurd (omega arith)
-nothing-is (E.Global t c) d = absurd (omega arith)
-nothing-is (E.Export n k x) d = absurd (omega arith)
-nothing-is (E.Exports es k n) d = absurd (omega arith)
-nothing-is (E.Start x) d = absurd (omega arith)
-nothing-is (E.Elem m xs) d = absurd (omega arith)
-nothing-is (E.InlineElem w n xs) d = absurd (omega arith)
-nothing-is (E.Code t ls here) d = absurd (omega arith)
-nothing-is (E.Data m b) d = absurd (omega arith)
-nothing-is (E.InlineData w n b) d = absurd (omega arith)
-
-module _ (s w : List ℕ) (r : ℕ) (t t₁ : Tally) (e : Entry) (old : Bytes) (v : Verdict) (w₁ : List ℕ) (mid : Bytes) (x : ChecksIn (entryIn (scopeIn s w) s r e) t w old (record { tally = t₁; verdict = v }) w₁ mid) where
+module _ (s w : List ℕ) (r : ℕ) (t t₁ : Tally) (e : Entry) (old : Bytes) (v : Verdict) (w₁ : List ℕ) (mid : Bytes) (x : ChecksIn (entryIn (scopeIn s w) s r e) t w old (record { tally = t₁; verdict = v }) w₁ mid)
+    (e′ : Entry) (is : e ≡ e′) where
   -- two entries
-  pub two-then : (f : Entry) (b : Tally) (z : Verdict) (w₂ : List ℕ) (new : Bytes) → v ≡ V′.Fine → ChecksIn (entryIn (scopeIn s w₁) s r f) t₁ w₁ mid (record { tally = b; verdict = z }) w₂ new
-      → ChecksIn (both (entryIn (scopeIn s w) s r e) (entryIn (scopeIn s w) s r f)) t w old (record { tally = b; verdict = z }) w₂ new
-  two-then f b z w₂ new d y =
-      then-by (entryIn (scopeIn s w) s r e) (entryIn (scopeIn s w) s r f) t t₁ w old v w₁ mid x b z w₂ new d
-      (let k = scope-same s w w₁ (fine-kept x d) in rw k at y)
+  pub two-then : (f f′ : Entry) (b : Tally) (z : Verdict) (w₂ : List ℕ) (new : Bytes) → v ≡ V′.Fine → f ≡ f′ → ChecksIn (entryIn (scopeIn s w₁) s r f) t₁ w₁ mid (record { tally = b; verdict = z }) w₂ new
+      → ChecksIn (both (entryIn (scopeIn s w) s r e′) (entryIn (scopeIn s w) s r f′)) t w old (record { tally = b; verdict = z }) w₂ new
+  two-then f f′ b z w₂ new d g y =
+      rw (← is, ← g)
+      (then-by (entryIn (scopeIn s w) s r e) (entryIn (scopeIn s w) s r f) t t₁ w old v w₁ mid x b z w₂ new d
+      (let k = scope-same s w w₁ (fine-kept x d) in rw k at y))
 
   pub two-not : (f : Entry) (q : Refusal) → v ≡ V′.Refused q
-      → ChecksIn (both (entryIn (scopeIn s w) s r e) (entryIn (scopeIn s w) s r f)) t w old (record { tally = t₁; verdict = V′.Refused q }) w₁ mid
-  two-not f q d = stops-by (entryIn (scopeIn s w) s r e) (entryIn (scopeIn s w) s r f) t t₁ w old v w₁ mid x q d
-
-  -- the second is nothing
-  pub two-one : (f : Entry) (k : ℕ) → v ≡ V′.Fine → k ≡ sectionNo f → k ≡ 0
-      → ChecksIn (both (entryIn (scopeIn s w) s r e) (entryIn (scopeIn s w) s r f)) t w old (record { tally = t₁; verdict = V′.Fine }) w₁ mid
-  two-one f k d g z = rw (nothing-is f (sym g ∙ z), last-none (scopeIn s w) s r (entryIn (scopeIn s w) s r e)) (rw d at x)
+      → ChecksIn (both (entryIn (scopeIn s w) s r e′) (entryIn (scopeIn s w) s r f)) t w old (record { tally = t₁; verdict = V′.Refused q }) w₁ mid
+  two-not f q d = rw (← is) (stops-by (entryIn (scopeIn s w) s r e) (entryIn (scopeIn s w) s r f) t t₁ w old v w₁ mid x q d)
 
 -- ## The entries of a field
 

@@ -5,6 +5,8 @@ use mathlib.Core.List.{List, [], _∷_, _++_, append-nil}
 use lib.ListN.{length, getD, take, drop}
 use borrow.Rule.Slice.PartMut.{putMid}
 use native.Mathlib.Omega.{arith}
+use types.Run.{OneOf, miss}
+use denote.Enum.Declared.{tagOf}
 use Rattle.definition.specs.Basic.{Answer, ok, refused, _>>=_, concatMap}
 use Rattle.definition.specs.Syntax as Syntax
 use Rattle.definition.specs.Syntax.{Bytes}
@@ -33,8 +35,10 @@ use Rattle.scope.specs.declared.types.TypeAt.the-variants as N
 use Rattle.syntax.specs.declared.Seen.{Seen}
 use Rattle.syntax.specs.declared.Own.{Own}
 use Rattle.syntax.specs.declared.Own.the-variants as O
+use Rattle.syntax.proofs.Own as OwnOf
 use Rattle.syntax.specs.declared.Source.{Source}
 use Rattle.syntax.specs.declared.Source.the-variants as S
+use Rattle.syntax.proofs.Source as SourceOf
 use Rattle.frames.specs.Locals.{Head}
 use Rattle.code.specs.Body.{Resolvable}
 use Rattle.function.specs.Function.{codeOf, funcField, typedAnswer, EmitsTyped}
@@ -48,7 +52,6 @@ use Rattle.kept.specs.declared.tally.Tally.{Tally}
 use Rattle.kept.specs.declared.tally.Verdict.{Verdict}
 use Rattle.kept.specs.declared.tally.Verdict.the-variants as V′
 use Rattle.kept.specs.declared.tally.Checked.{Checked}
-use Rattle.kept.specs.declared.entry.CodeIn.the-variants as C
 use Rattle.resolve.specs.declared.func.FuncIn.{FuncIn}
 use Rattle.resolve.specs.declared.func.FuncIn.the-variants as F
 use Rattle.kept.proofs.Keeping.{lent-here, lent-there, lent-long, reached-is, keeps-lent}
@@ -82,7 +85,7 @@ number-kept n t t′ from a b to old new w f i d e p z = tallied-lent t t′ 3 a
 
 module _ (s w : List ℕ) (r : ℕ) (t : TypeUse) (ls : Code.List) (here : ℕ) (h : Ready s w r (E.Code t ls here)) where
   pub own-body : Resolvable s w (r + 1) 0 here
-  own-body = code-body s w r (E.Code t ls here) h (C.Code t ls here) refl t ls here refl
+  own-body = code-body s w r (E.Code t ls here) h t ls here refl
 
   pub own-head : Head s t ls
   own-head = h .head
@@ -161,6 +164,22 @@ module _ (s w : List ℕ) (r : ℕ) (t : TypeUse) (q : TypeAt) (told : typeNo (s
 pub own-func : (r : FuncIn) (x : Source) (o v : Own) → x ≡ S.Own o → o ≡ v → r ≡ funcIn (S.Own v) → r ≡ funcIn x
 own-func r x o v p q d = rw (p, q) d
 
+-- the arms that are left: no other item is a function
+pub own-other : (x : Source) (o : Own) → x ≡ S.Own o → OneOf (1 ∷ 2 ∷ 3 ∷ []) (tagOf OwnOf.the-type o) → F.Other ≡ funcIn x
+own-other x o d h = rw d (go o h)
+  where
+    go : (o : Own) → OneOf (1 ∷ 2 ∷ 3 ∷ []) (tagOf OwnOf.the-type o) → F.Other ≡ funcIn (S.Own o)
+    go (O.Func t ls) h = absurd (miss (1 ∷ 2 ∷ 3 ∷ []) 0 tt h)
+    go (O.Table t) h = refl
+    go (O.Mem l) h = refl
+    go (O.Global t c) h = refl
+
+pub source-other : (x : Source) → OneOf (1 ∷ 2 ∷ 3 ∷ []) (tagOf SourceOf.the-type x) → F.Other ≡ funcIn x
+source-other (S.Own o) h = absurd (miss (1 ∷ 2 ∷ 3 ∷ []) 0 tt h)
+source-other (S.Imported n e) h = refl
+source-other (S.TableOf w xs) h = refl
+source-other (S.MemOf w b) h = refl
+
 func-is : (x : Source) (t : TypeUse) (ls : Code.List) → funcIn x ≡ F.Func t ls → x ≡ S.Own (O.Func t ls)
 func-is (S.Own (O.Func u ms)) t ls d = let a : u ≡ t = cc in let b : ms ≡ ls = cc in rw (a, b) refl
 func-is (S.Own (O.Table u)) t ls d = let z : _≡_ {A = ℕ} 0 1 = cc in absurd (omega arith)
@@ -193,12 +212,3 @@ module _ (x : Source) (seen : Seen) (here : ℕ) (q : FuncIn) (told : q ≡ func
         → ChecksIn (both (entryIn (scopeIn s w) s r (E.Func t)) (entryIn (scopeIn s w) s r (E.Code t ls here))) y w old z w′ new
         → ChecksIn (both (entryIn (scopeIn s w) s r (secondOf x seen)) (entryIn (scopeIn s w) s r (thirdOf x here))) y w old z w′ new
     item-func y old z w′ new h = rw (second-is, third-is) h
-
--- anything else
-pub item-ready : (s w : List ℕ) (r : ℕ) (e e′ : Entry) → e ≡ e′ → Ready s w r e′ → Ready s w r e
-item-ready s w r e e′ d h = rw d h
-
-pub item-two : (s w : List ℕ) (r : ℕ) (a b a′ b′ : Entry) (y : Tally) (old : Bytes) (z : Checked) (w′ : List ℕ) (new : Bytes)
-    → ChecksIn (both (entryIn (scopeIn s w) s r a) (entryIn (scopeIn s w) s r b)) y w old z w′ new → a ≡ a′ → b ≡ b′
-    → ChecksIn (both (entryIn (scopeIn s w) s r a′) (entryIn (scopeIn s w) s r b′)) y w old z w′ new
-item-two s w r a b a′ b′ y old z w′ new h d e = rw (d, e) at h

@@ -28,14 +28,18 @@ pub fn func_in(x: Source) -> FuncIn
     match x {
         Source::Own(o) => match o {
             Own::Func(t, ls) => FuncIn::Func(t, ls),
-            Own::Table(_) => FuncIn::Other,
-            Own::Mem(_) => FuncIn::Other,
-            Own::Global(_, _) => FuncIn::Other,
+            _ => FuncIn::Other,
         },
-        Source::Imported(_, _) => FuncIn::Other,
-        Source::TableOf(_, _) => FuncIn::Other,
-        Source::MemOf(_, _) => FuncIn::Other,
+        _ => FuncIn::Other,
     }
+}
+
+// An own function: its type use, its locals, where its body begins, and its record.
+pub struct Func {
+    pub ty: TypeUse,
+    pub locals: List,
+    pub body: usize,
+    pub rec: u32,
 }
 
 // The number of its type, in the function section's part.
@@ -57,17 +61,16 @@ fn keep_code(
     kept: &mut [u8],
     from: usize,
     n: TypeNo,
-    t: TypeUse,
-    ls: List,
-    here: usize,
-    rec: u32,
+    f: Func,
 ) -> Emitted
-    requires { ⌜ At (now s) (now work) rec × Ready (now s) (now work) rec (E.Code t ls here) ⌝ }
-    ensures { λ r. ⌜ KeepsCode (now (s .entry)) (now (work .entry)) rec (typeNoOf n) t ls here (now (kept .entry)) from r (now (work .exit)) (now (kept .exit)) ⌝ }
+    requires { ⌜ At (now s) (now work) (f .rec) × Ready (now s) (now work) (f .rec) (E.Code (f .ty) (f .locals) (f .body)) ⌝ }
+    ensures { λ r. ⌜ KeepsCode (now (s .entry)) (now (work .entry)) (f .rec) (typeNoOf n) (f .ty) (f .locals) (f .body) (now (kept .entry)) from r (now (work .exit)) (now (kept .exit)) ⌝ }
 {
     let a = kept::start_of(kept.len(), 10);
     let b = kept::start_of(kept.len(), 11);
-    function::emit_typed(s, work, &mut kept[a..b], from, n, t, ls, here, rec)
+    let ty = f.ty;
+    let locals = f.locals;
+    function::emit_typed(s, work, &mut kept[a..b], from, n, ty, locals, f.body, f.rec)
 }
 
 // It is kept, and tallied.
@@ -78,16 +81,13 @@ fn check_code(
     sizes: &mut [u64],
     counts: &mut [u64],
     n: TypeNo,
-    t: TypeUse,
-    ls: List,
-    here: usize,
-    rec: u32,
+    f: Func,
 ) -> Verdict
-    requires { ⌜ At (now s) (now work) rec × Ready (now s) (now work) rec (E.Code t ls here) × Twelve (tallyOf (now sizes) (now counts)) ⌝ }
-    ensures { λ r. ⌜ ChecksIn (codeEntry (now (s .entry)) (now (work .entry)) rec (typeNoOf n) t ls here) (tallyOf (now (sizes .entry)) (now (counts .entry))) (now (work .entry)) (now (kept .entry)) (checkedOf (now (sizes .exit)) (now (counts .exit)) r) (now (work .exit)) (now (kept .exit)) ⌝ }
+    requires { ⌜ At (now s) (now work) (f .rec) × Ready (now s) (now work) (f .rec) (E.Code (f .ty) (f .locals) (f .body)) × Twelve (tallyOf (now sizes) (now counts)) ⌝ }
+    ensures { λ r. ⌜ ChecksIn (codeEntry (now (s .entry)) (now (work .entry)) (f .rec) (typeNoOf n) (f .ty) (f .locals) (f .body)) (tallyOf (now (sizes .entry)) (now (counts .entry))) (now (work .entry)) (now (kept .entry)) (checkedOf (now (sizes .exit)) (now (counts .exit)) r) (now (work .exit)) (now (kept .exit)) ⌝ }
 {
     let from = sizes[10] as usize;
-    match keep_code(s, work, kept, from, n, t, ls, here, rec) {
+    match keep_code(s, work, kept, from, n, f) {
         Emitted::To(to) => {
             kept::reach_in(sizes, counts, 10, to, 1);
             Verdict::Fine
@@ -96,25 +96,23 @@ fn check_code(
     }
 }
 
-// Both, of a function whose body begins at `here`.
+// Both.
 pub fn check_func(
     s: &[u8],
     work: &mut [u32],
     kept: &mut [u8],
     sizes: &mut [u64],
     counts: &mut [u64],
-    t: TypeUse,
-    ls: List,
-    here: usize,
-    rec: u32,
+    f: Func,
 ) -> Verdict
-    requires { ⌜ At (now s) (now work) rec × Ready (now s) (now work) rec (E.Func t) × Ready (now s) (now work) rec (E.Code t ls here) × Twelve (tallyOf (now sizes) (now counts)) ⌝ }
-    ensures { λ r. ⌜ ChecksIn (both (entryIn (scopeIn (now (s .entry)) (now (work .entry))) (now (s .entry)) rec (E.Func t)) (entryIn (scopeIn (now (s .entry)) (now (work .entry))) (now (s .entry)) rec (E.Code t ls here))) (tallyOf (now (sizes .entry)) (now (counts .entry))) (now (work .entry)) (now (kept .entry)) (checkedOf (now (sizes .exit)) (now (counts .exit)) r) (now (work .exit)) (now (kept .exit)) ⌝ }
+    requires { ⌜ At (now s) (now work) (f .rec) × Ready (now s) (now work) (f .rec) (E.Func (f .ty)) × Ready (now s) (now work) (f .rec) (E.Code (f .ty) (f .locals) (f .body)) × Twelve (tallyOf (now sizes) (now counts)) ⌝ }
+    ensures { λ r. ⌜ ChecksIn (both (entryIn (scopeIn (now (s .entry)) (now (work .entry))) (now (s .entry)) (f .rec) (E.Func (f .ty))) (entryIn (scopeIn (now (s .entry)) (now (work .entry))) (now (s .entry)) (f .rec) (E.Code (f .ty) (f .locals) (f .body)))) (tallyOf (now (sizes .entry)) (now (counts .entry))) (now (work .entry)) (now (kept .entry)) (checkedOf (now (sizes .exit)) (now (counts .exit)) r) (now (work .exit)) (now (kept .exit)) ⌝ }
 {
-    match scope::type_no(s, work, t, rec) {
+    let ty = f.ty;
+    match scope::type_no(s, work, ty, f.rec) {
         TypeAt::To(n) => {
             keep_type_no(kept, sizes, counts, n);
-            check_code(s, work, kept, sizes, counts, n, t, ls, here, rec)
+            check_code(s, work, kept, sizes, counts, n, f)
         }
         TypeAt::Refused(q) => Verdict::Refused(q),
     }

@@ -2,12 +2,12 @@
 pub mod entry;
 pub mod func;
 
+use crate::func::Func;
 use crate::func::FuncIn;
 use deinline::ItemIn;
 use kept::Checked;
 use kept::Tally;
 use kept::Verdict;
-use syntax::Entry;
 use syntax::Field;
 use syntax::Seen;
 use syntax::Source;
@@ -21,6 +21,13 @@ ghost use Rattle.scope.specs.Scope.{scopeIn};
 ghost use Rattle.deinline.specs.Entry.{both, entryIn, secondOf, thirdOf, three, threeIn, entriesOf};
 ghost use Rattle.kept.specs.Tally.{Twelve, Ready, ReadyThree, ChecksIn, noTally, tallyOf, checkedOf};
 
+// Where a field stands: what was seen before it, where its head ends, and its record.
+pub struct Spot {
+    pub seen: Seen,
+    pub here: usize,
+    pub rec: u32,
+}
+
 // What an item has beside its exports. An own function's type is resolved once.
 fn check_item(
     s: &[u8],
@@ -29,35 +36,22 @@ fn check_item(
     sizes: &mut [u64],
     counts: &mut [u64],
     x: Source,
-    seen: Seen,
-    here: usize,
-    rec: u32,
+    p: Spot,
 ) -> Verdict
-    requires { ⌜ At (now s) (now work) rec × Ready (now s) (now work) rec (secondOf x seen) × Ready (now s) (now work) rec (thirdOf x here) × Twelve (tallyOf (now sizes) (now counts)) ⌝ }
-    ensures { λ r. ⌜ ChecksIn (both (entryIn (scopeIn (now (s .entry)) (now (work .entry))) (now (s .entry)) rec (secondOf x seen)) (entryIn (scopeIn (now (s .entry)) (now (work .entry))) (now (s .entry)) rec (thirdOf x here))) (tallyOf (now (sizes .entry)) (now (counts .entry))) (now (work .entry)) (now (kept .entry)) (checkedOf (now (sizes .exit)) (now (counts .exit)) r) (now (work .exit)) (now (kept .exit)) ⌝ }
+    requires { ⌜ At (now s) (now work) (p .rec) × Ready (now s) (now work) (p .rec) (secondOf x (p .seen)) × Ready (now s) (now work) (p .rec) (thirdOf x (p .here)) × Twelve (tallyOf (now sizes) (now counts)) ⌝ }
+    ensures { λ r. ⌜ ChecksIn (both (entryIn (scopeIn (now (s .entry)) (now (work .entry))) (now (s .entry)) (p .rec) (secondOf x (p .seen))) (entryIn (scopeIn (now (s .entry)) (now (work .entry))) (now (s .entry)) (p .rec) (thirdOf x (p .here)))) (tallyOf (now (sizes .entry)) (now (counts .entry))) (now (work .entry)) (now (kept .entry)) (checkedOf (now (sizes .exit)) (now (counts .exit)) r) (now (work .exit)) (now (kept .exit)) ⌝ }
 {
     match crate::func::func_in(x) {
-        FuncIn::Func(t, ls) => crate::func::check_func(
-            s,
-            work,
-            kept,
-            sizes,
-            counts,
-            t,
-            ls,
-            here,
-            rec,
-        ),
-        FuncIn::Other => crate::entry::check_two(
-            s,
-            work,
-            kept,
-            sizes,
-            counts,
-            deinline::second_of(x, seen),
-            deinline::third_of(x, here),
-            rec,
-        ),
+        FuncIn::Func(t, ls) => {
+            let f = Func {
+                ty: t,
+                locals: ls,
+                body: p.here,
+                rec: p.rec,
+            };
+            crate::func::check_func(s, work, kept, sizes, counts, f)
+        }
+        FuncIn::Other => crate::entry::check_two(s, work, kept, sizes, counts, x, p),
     }
 }
 
@@ -69,15 +63,13 @@ fn check_rest(
     sizes: &mut [u64],
     counts: &mut [u64],
     f: Field,
-    seen: Seen,
-    here: usize,
-    rec: u32,
+    p: Spot,
 ) -> Verdict
-    requires { ⌜ At (now s) (now work) rec × Ready (now s) (now work) rec (three f seen here .second) × Ready (now s) (now work) rec (three f seen here .third) × Twelve (tallyOf (now sizes) (now counts)) ⌝ }
-    ensures { λ r. ⌜ ChecksIn (both (entryIn (scopeIn (now (s .entry)) (now (work .entry))) (now (s .entry)) rec (three f seen here .second)) (entryIn (scopeIn (now (s .entry)) (now (work .entry))) (now (s .entry)) rec (three f seen here .third))) (tallyOf (now (sizes .entry)) (now (counts .entry))) (now (work .entry)) (now (kept .entry)) (checkedOf (now (sizes .exit)) (now (counts .exit)) r) (now (work .exit)) (now (kept .exit)) ⌝ }
+    requires { ⌜ At (now s) (now work) (p .rec) × Ready (now s) (now work) (p .rec) (three f (p .seen) (p .here) .second) × Ready (now s) (now work) (p .rec) (three f (p .seen) (p .here) .third) × Twelve (tallyOf (now sizes) (now counts)) ⌝ }
+    ensures { λ r. ⌜ ChecksIn (both (entryIn (scopeIn (now (s .entry)) (now (work .entry))) (now (s .entry)) (p .rec) (three f (p .seen) (p .here) .second)) (entryIn (scopeIn (now (s .entry)) (now (work .entry))) (now (s .entry)) (p .rec) (three f (p .seen) (p .here) .third))) (tallyOf (now (sizes .entry)) (now (counts .entry))) (now (work .entry)) (now (kept .entry)) (checkedOf (now (sizes .exit)) (now (counts .exit)) r) (now (work .exit)) (now (kept .exit)) ⌝ }
 {
     match deinline::item_in(f) {
-        ItemIn::Item(x) => check_item(s, work, kept, sizes, counts, x, seen, here, rec),
+        ItemIn::Item(x) => check_item(s, work, kept, sizes, counts, x, p),
         ItemIn::Other => Verdict::Fine,
     }
 }
@@ -90,23 +82,15 @@ fn check_field(
     sizes: &mut [u64],
     counts: &mut [u64],
     f: Field,
-    seen: Seen,
-    here: usize,
-    rec: u32,
+    p: Spot,
 ) -> Verdict
-    requires { ⌜ At (now s) (now work) rec × ReadyThree (now s) (now work) rec (three f seen here) × Twelve (tallyOf (now sizes) (now counts)) ⌝ }
-    ensures { λ r. ⌜ ChecksIn (threeIn (scopeIn (now (s .entry)) (now (work .entry))) (now (s .entry)) rec (three f seen here)) (tallyOf (now (sizes .entry)) (now (counts .entry))) (now (work .entry)) (now (kept .entry)) (checkedOf (now (sizes .exit)) (now (counts .exit)) r) (now (work .exit)) (now (kept .exit)) ⌝ }
+    requires { ⌜ At (now s) (now work) (p .rec) × ReadyThree (now s) (now work) (p .rec) (three f (p .seen) (p .here)) × Twelve (tallyOf (now sizes) (now counts)) ⌝ }
+    ensures { λ r. ⌜ ChecksIn (threeIn (scopeIn (now (s .entry)) (now (work .entry))) (now (s .entry)) (p .rec) (three f (p .seen) (p .here))) (tallyOf (now (sizes .entry)) (now (counts .entry))) (now (work .entry)) (now (kept .entry)) (checkedOf (now (sizes .exit)) (now (counts .exit)) r) (now (work .exit)) (now (kept .exit)) ⌝ }
 {
-    match crate::entry::check_entry(
-        s,
-        work,
-        kept,
-        sizes,
-        counts,
-        deinline::first_of(f, seen),
-        rec,
-    ) {
-        Verdict::Fine => check_rest(s, work, kept, sizes, counts, f, seen, here, rec),
+    let seen = p.seen;
+    let first = deinline::first_of(f, seen);
+    match crate::entry::check_entry(s, work, kept, sizes, counts, first, p.rec) {
+        Verdict::Fine => check_rest(s, work, kept, sizes, counts, f, p),
         Verdict::Refused(r) => Verdict::Refused(r),
     }
 }
@@ -129,7 +113,12 @@ fn check_all(
         match what {
             What::Field(f, here) => {
                 let seen = c.seen;
-                match check_field(s, work, kept, sizes, counts, f, seen, here, c.rec) {
+                let p = Spot {
+                    seen,
+                    here,
+                    rec: c.rec,
+                };
+                match check_field(s, work, kept, sizes, counts, f, p) {
                     Verdict::Fine => {
                         c = m.next;
                     }

@@ -56,7 +56,7 @@ module _ (s w : List ℕ) (k r j : ℕ) (e : Entry) (sec : j ≡ sectionNo e) (o
       where
         go : (q : EndsAt) → q ≡ A.Ends to n → Answers (answerOf (scopeIn s w) s r e) old at q new → AreaOf q w w′ → Writes (bytesIn k (tagged (sectionNo e) (answerOf (scopeIn s w) s r e))) old at to new w w′
         go (A.Refused y) d a b = let z : _≡_ {A = ℕ} 0 1 = cc in absurd (omega arith)
-        go (A.Ends y) d a b =
+        go (A.Ends x y) d a b =
             let z : _≡_ {A = ℕ} x to = cc in
             rw (← z) (record { put = put-is (a .put) (bytes-same k (sectionNo e) (answerOf (scopeIn s w) s r e) (a .entries) (sym sec ∙ same) (a .is)); area = b })
 
@@ -67,7 +67,7 @@ module _ (s w : List ℕ) (k r j : ℕ) (e : Entry) (sec : j ≡ sectionNo e) (o
       where
         go : (q : EndsAt) → q ≡ A.Refused p → Answers (answerOf (scopeIn s w) s r e) old at q new → Fine (tagged (sectionNo e) (answerOf (scopeIn s w) s r e))
             → Writes (bytesIn k (tagged (sectionNo e) (answerOf (scopeIn s w) s r e))) old at at new w w′
-        go (A.Ends y) d a f = let z : _≡_ {A = ℕ} 0 1 = cc in absurd (omega arith)
+        go (A.Ends x y) d a f = let z : _≡_ {A = ℕ} 0 1 = cc in absurd (omega arith)
         go (A.Refused y) d a f =
             let g : refusedBy y ≡ ok (f .entries) = sym (ap (tagged (sectionNo e)) a) ∙ f .is in
             let z : _≡_ {A = ℕ} 0 1 = cc in absurd (omega arith)

@@ -38,10 +38,10 @@ fn put_memory(out: &mut [u8], at: usize, m: u32) -> usize
 
 // The memory and the offset.
 fn emit_on_memory(
-    out: &mut [u8],
-    at: usize,
     s: &[u8],
     work: &[u32],
+    out: &mut [u8],
+    at: usize,
     m: u32,
     c: Plain,
     rec: u32,
@@ -50,14 +50,14 @@ fn emit_on_memory(
     ensures { λ r. ⌜ Emits (atMemory m) (Names.constOp (scopeIn (now (s .entry)) (now (work .entry))) rec (plainIs (now (s .entry)) c)) (now (out .entry)) at r (now (out .exit)) ⌝ }
 {
     let a = put_memory(out, at, m);
-    operands::emit_const(out, a, s, work, c, rec)
+    operands::emit_const(s, work, out, a, c, rec)
 }
 
 fn emit_at_memory(
-    out: &mut [u8],
-    at: usize,
     s: &[u8],
     work: &[u32],
+    out: &mut [u8],
+    at: usize,
     x: Index,
     c: Plain,
     rec: u32,
@@ -66,17 +66,17 @@ fn emit_at_memory(
     ensures { λ r. ⌜ Emits dataMode (Names.modeOf (scopeIn (now (s .entry)) (now (work .entry))) (Names.itemNo (scopeIn (now (s .entry)) (now (work .entry))) mems) rec (active (indexOf (now (s .entry)) x) (plainIs (now (s .entry)) c))) (now (out .entry)) at r (now (out .exit)) ⌝ }
 {
     match scope::item_no(s, work, Space::Mems, x, rec) {
-        Resolved::To(m) => emit_on_memory(out, at, s, work, m, c, rec),
+        Resolved::To(m) => emit_on_memory(s, work, out, at, m, c, rec),
         Resolved::Refused(r) => Emitted::Refused(r),
     }
 }
 
 // What stands before the bytes: form 1, or the memory and the offset.
 fn emit_data_mode(
-    out: &mut [u8],
-    at: usize,
     s: &[u8],
     work: &[u32],
+    out: &mut [u8],
+    at: usize,
     mode: Mode,
     rec: u32,
 ) -> Emitted
@@ -85,15 +85,15 @@ fn emit_data_mode(
 {
     match mode {
         Mode::Passive => Emitted::To(emit::put(out, at, 1)),
-        Mode::Active(x, c) => emit_at_memory(out, at, s, work, x, c, rec),
+        Mode::Active(x, c) => emit_at_memory(s, work, out, at, x, c, rec),
     }
 }
 
 pub fn emit_data(
-    out: &mut [u8],
-    at: usize,
     s: &[u8],
     work: &[u32],
+    out: &mut [u8],
+    at: usize,
     mode: Mode,
     bytes: Part,
     rec: u32,
@@ -101,7 +101,7 @@ pub fn emit_data(
     requires { ⌜ WORDS ≤ length (now work) ⌝ }
     ensures { λ r. ⌜ Emits entryOf (Names.resolve (scopeIn (now (s .entry)) (now (work .entry))) rec (dataF none (modeOf (now (s .entry)) mode) (partOf (now (s .entry)) bytes))) (now (out .entry)) at r (now (out .exit)) ⌝ }
 {
-    match emit_data_mode(out, at, s, work, mode, rec) {
+    match emit_data_mode(s, work, out, at, mode, rec) {
         Emitted::To(a) => Emitted::To(binary::put_name(out, a, s, bytes)),
         Emitted::Refused(r) => Emitted::Refused(r),
     }

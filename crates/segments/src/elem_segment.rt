@@ -51,10 +51,10 @@ fn table_no(s: &[u8], work: &[u32], x: Index, rec: u32) -> TableAt
 
 // Form 0, and the offset.
 fn emit_without_table(
-    out: &mut [u8],
-    at: usize,
     s: &[u8],
     work: &[u32],
+    out: &mut [u8],
+    at: usize,
     c: Plain,
     rec: u32,
 ) -> Emitted
@@ -62,7 +62,7 @@ fn emit_without_table(
     ensures { λ r. ⌜ Emits (atTable none) (Names.constOp (scopeIn (now (s .entry)) (now (work .entry))) rec (plainIs (now (s .entry)) c)) (now (out .entry)) at r (now (out .exit)) ⌝ }
 {
     let a = emit::put(out, at, 0);
-    operands::emit_const(out, a, s, work, c, rec)
+    operands::emit_const(s, work, out, a, c, rec)
 }
 
 // Form 2, and the item.
@@ -75,10 +75,10 @@ pub fn put_form_2(out: &mut [u8], at: usize, n: u32) -> usize
 
 // Form 2: the table, the offset, and the kind funcref.
 fn emit_with_table(
-    out: &mut [u8],
-    at: usize,
     s: &[u8],
     work: &[u32],
+    out: &mut [u8],
+    at: usize,
     n: u32,
     c: Plain,
     rec: u32,
@@ -87,17 +87,17 @@ fn emit_with_table(
     ensures { λ r. ⌜ Emits (atTable (some n)) (Names.constOp (scopeIn (now (s .entry)) (now (work .entry))) rec (plainIs (now (s .entry)) c)) (now (out .entry)) at r (now (out .exit)) ⌝ }
 {
     let a = put_form_2(out, at, n);
-    match operands::emit_const(out, a, s, work, c, rec) {
+    match operands::emit_const(s, work, out, a, c, rec) {
         Emitted::To(b) => Emitted::To(emit::put(out, b, 0)),
         Emitted::Refused(r) => Emitted::Refused(r),
     }
 }
 
 fn emit_at_table(
-    out: &mut [u8],
-    at: usize,
     s: &[u8],
     work: &[u32],
+    out: &mut [u8],
+    at: usize,
     x: Index,
     c: Plain,
     rec: u32,
@@ -106,8 +106,8 @@ fn emit_at_table(
     ensures { λ r. ⌜ Emits elemMode (Names.modeOf (scopeIn (now (s .entry)) (now (work .entry))) (Names.tableNo (scopeIn (now (s .entry)) (now (work .entry)))) rec (active (indexOf (now (s .entry)) x) (plainIs (now (s .entry)) c))) (now (out .entry)) at r (now (out .exit)) ⌝ }
 {
     match table_no(s, work, x, rec) {
-        TableAt::Absent => emit_without_table(out, at, s, work, c, rec),
-        TableAt::To(n) => emit_with_table(out, at, s, work, n, c, rec),
+        TableAt::Absent => emit_without_table(s, work, out, at, c, rec),
+        TableAt::To(n) => emit_with_table(s, work, out, at, n, c, rec),
         TableAt::Refused(r) => Emitted::Refused(r),
     }
 }
@@ -122,10 +122,10 @@ fn put_passive(out: &mut [u8], at: usize) -> usize
 
 // What stands before the functions.
 fn emit_elem_mode(
-    out: &mut [u8],
-    at: usize,
     s: &[u8],
     work: &[u32],
+    out: &mut [u8],
+    at: usize,
     mode: Mode,
     rec: u32,
 ) -> Emitted
@@ -134,15 +134,15 @@ fn emit_elem_mode(
 {
     match mode {
         Mode::Passive => Emitted::To(put_passive(out, at)),
-        Mode::Active(x, c) => emit_at_table(out, at, s, work, x, c, rec),
+        Mode::Active(x, c) => emit_at_table(s, work, out, at, x, c, rec),
     }
 }
 
 pub fn emit_elem(
-    out: &mut [u8],
-    at: usize,
     s: &[u8],
     work: &[u32],
+    out: &mut [u8],
+    at: usize,
     mode: Mode,
     funcs: List,
     rec: u32,
@@ -150,18 +150,18 @@ pub fn emit_elem(
     requires { ⌜ WORDS ≤ length (now work) ⌝ }
     ensures { λ r. ⌜ Emits entryOf (Names.resolve (scopeIn (now (s .entry)) (now (work .entry))) rec (elemF none (modeOf (now (s .entry)) mode) (listOf Token.present (now (s .entry)) funcs))) (now (out .entry)) at r (now (out .exit)) ⌝ }
 {
-    match emit_elem_mode(out, at, s, work, mode, rec) {
-        Emitted::To(a) => operands::emit_funcs(out, a, s, work, funcs, rec),
+    match emit_elem_mode(s, work, out, at, mode, rec) {
+        Emitted::To(a) => operands::emit_funcs(s, work, out, a, funcs, rec),
         Emitted::Refused(r) => Emitted::Refused(r),
     }
 }
 
 // The functions of an inline table, which is the table numbered n.
 pub fn emit_inline_elem(
-    out: &mut [u8],
-    at: usize,
     s: &[u8],
     work: &[u32],
+    out: &mut [u8],
+    at: usize,
     is64: bool,
     n: u32,
     funcs: List,
@@ -172,10 +172,10 @@ pub fn emit_inline_elem(
 {
     let offset = operands::zero_offset(s, is64);
     emit_elem(
-        out,
-        at,
         s,
         work,
+        out,
+        at,
         Mode::Active(Index::Number(n), offset),
         funcs,
         rec,

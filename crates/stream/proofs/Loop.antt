@@ -9,7 +9,6 @@ use lib.Seq.{sets, take-all, take-append-le}
 use borrow.Author.Tests.{lt-ltb, le-ltb}
 use native.Mathlib.Omega.{arith}
 use native.Mathlib.Decide.{decLe}
-use native.Mathlib.Nat.{zero-add}
 use mir.Syntax.{w32}
 use mir.Val.{Fits}
 use Rattle.definition.specs.Basic.{if_then_else_, Answer, ok, refused}
@@ -22,7 +21,7 @@ use Rattle.definition.specs.Read as Read
 use Rattle.definition.specs.Read.{bodyAfter, seenAfter, nothingSeen, recordIn, oneRecord, beginsIn, atEnd}
 use Rattle.laws.specs.Steps.{total}
 use Rattle.laws.proofs.Bodies.{end-inside}
-use Rattle.laws.proofs.Sets.{sets-append, sets-more}
+use Rattle.laws.proofs.Sets.{sets-append}
 use Rattle.syntax.specs.Refusals.{refusal, refusedBy}
 use Rattle.syntax.specs.declared.Refusal.{Refusal}
 use Rattle.area.specs.Layout.{BYTES, WORDS}
@@ -31,7 +30,7 @@ use Rattle.syntax.specs.declared.Seen.{Seen}
 use Rattle.syntax.specs.Fields.{fieldOf}
 use Rattle.syntax.specs.declared.Field.{Field}
 use Rattle.next_record.specs.Uses.{mayUse, endWord}
-use Rattle.stream.specs.Pass.{Passed, usedAfter, endOf, pass, passed, endWords, areaAfter, reading, readingArea, Walks, Reads}
+use Rattle.stream.specs.Pass.{Passed, usedAfter, endOf, pass, passed, endWords, areaAfter, reading, readingArea, firstPlace, refusedAt, Ends, Walks, Reads}
 use Rattle.next_record.specs.Places.{bodyOf, recordPast, placeAfter, movedBy, fieldRecordAt, bodyRecordAt}
 use Rattle.counting.specs.Counting.{fieldSeen}
 use Rattle.next_record.specs.Answers.{outsideAnswer, Kept, an-instr, an-end, keptOf, keptAnswer, keptAt, insideAnswer}
@@ -126,9 +125,9 @@ pub record Going (s : Bytes) (w₀ : List ℕ) (p : Place) (c : Seen) (ended : �
   pub fewer : ended ≤ p .rec
   pub long : length w ≡ length w₀
 
-pub begin : (s : Bytes) (w : List ℕ) (c : Seen) → c ≡ noneSeen → Going s w (record { at = 0; rec = 0; depth = 0 }) c 0 false w
+pub begin : (s : Bytes) (w : List ℕ) (p : Place) (c : Seen) → p ≡ firstPlace → c ≡ noneSeen → Going s w p c 0 false w
 unfolding passed nothingSeen endWords
-begin s w c e = record {
+begin s w p c d e = rw d (record {
   seen = nothingSeen;
   ends = [];
   few = omega arith;
@@ -139,7 +138,7 @@ begin s w c e = record {
   number = refl;
   fewer = omega arith;
   long = refl;
-}
+})
 
 module _ (s : Bytes) (w₀ : List ℕ) (p : Place) (c : Seen) (ended : ℕ) (used : Bool) (w : List ℕ) (v : Going s w₀ p c ended used w) (h : p .at < length s) where
   -- the definition reads the same record
@@ -328,44 +327,28 @@ module _ (s : Bytes) (w₀ : List ℕ) (p : Place) (c : Seen) (ended : ℕ) (use
   at-end : passed s ≡ record { says = total (p .rec) (atEnd (p .rec) (bodyOf (p .depth))); seen = v .seen; ends = v .ends }
   at-end = let b = v .body in v .same ∙ pass-end (p .rec) (v .seen) used (v .ends) s (p .at) (4096 - p .rec) h ∙ rw b
 
-  -- in a body it is refused
-  pub end-in-body : 0 < p .depth → Walks s w₀ (C.Refused (refusal 2 (p .rec))) w
+  pub walk-ends : (r : Count) (w′ : List ℕ) → Ends p (c .counts) w r w′ → Walks s w₀ r w′
   unfolding areaAfter
-  end-in-body d =
-      let g : passed s ≡ record { says = refused 2 (p .rec); seen = v .seen; ends = v .ends } = at-end ∙ rw (inside (p .depth) d) in
-      record { says = sym (passed-says s) ∙ ap (λ (x : Passed). x .says) g; leaves = v .area ∙ rw g }
-
-  -- outside one the counts are left
-  pub end-accepted : (w′ : List ℕ) → p .depth ≤ 0 → w′ ≡ sets w 0 (c .counts) → Walks s w₀ (C.Records (p .rec)) w′
-  unfolding areaAfter
-  end-accepted w′ d e =
-      let n : p .rec + 0 ≡ p .rec = omega arith in
-      let g : passed s ≡ record { says = ok (p .rec); seen = v .seen; ends = v .ends } = at-end ∙ rw (outside (p .depth) (omega arith), n) in
+  walk-ends r w′ e =
       let a = v .area in
-      record { says = sym (passed-says s) ∙ ap (λ (x : Passed). x .says) g; leaves = e ∙ rw (g, counts-words (v .counts), a) }
-
--- ## The counts
-
-pub record Counting (w₀ xs w : List ℕ) (i : ℕ) : Type 0 where
-  pub some : i ≤ 7
-  pub same : w ≡ sets w₀ 0 (take i xs)
-  pub long : length w ≡ length w₀
-
-pub counting-begin : (w xs : List ℕ) → Counting w xs w 0
-counting-begin w xs = record { some = omega arith; same = refl; long = refl }
-
-module _ (w₀ xs w : List ℕ) (i : ℕ) (v : Counting w₀ xs w i) (f : length xs ≡ 7) where
-  pub counting-again : i < 7 → Counting w₀ xs (set w i (getD xs i 0)) (i + 1)
-  counting-again h =
-      let a = v .same in
+      let n = e .says in
       record {
-        some = omega arith;
-        same = rw a (sym (sets-more w₀ xs 0 i (omega arith) ∙ rw zero-add));
-        long = length-set w i (getD xs i 0) ∙ v .long;
+        says = sym (passed-says s) ∙ ap (λ (x : Passed). x .says) at-end ∙ n;
+        leaves = e .leaves ∙ rw (at-end, n, counts-words (v .counts), a);
       }
 
-  pub counting-done : 7 ≤ i → w ≡ sets w₀ 0 xs
-  counting-done h = let e : i ≡ 7 = omega (arith, v .some) in let t : take i xs ≡ xs = take-all i xs (omega arith) in v .same ∙ rw t
+module _ (p : Place) (counts w : List ℕ) where
+  -- in a body it is refused
+  pub end-in-body : (r : Count) → 0 < p .depth → r ≡ refusedAt 2 p → Ends p counts w r w
+  end-in-body r d e = rw e (record { says = rw (inside (p .depth) d); leaves = refl })
+
+  -- outside one the counts are left
+  pub end-accepted : (w′ : List ℕ) → p .depth ≤ 0 → w′ ≡ sets w 0 counts → Ends p counts w (C.Records (p .rec)) w′
+  end-accepted w′ d e = let n : p .rec + 0 ≡ p .rec = omega arith in record { says = rw (outside (p .depth) (omega arith), n); leaves = e }
+
+-- what a refusal is
+pub walk-refused : (s : Bytes) (w₀ w : List ℕ) (n : ℕ) (p : Place) (r : Count) → r ≡ refusedAt n p → Walks s w₀ (refusedAt n p) w → Walks s w₀ r w
+walk-refused s w₀ w n p r e h = rw e h
 
 -- ## The second word of a body's end
 
@@ -389,6 +372,3 @@ too-short s w h l = record { says = rw (le-ltb _ _ h, lt-ltb _ _ l); leaves = rw
 pub walked : (s : Bytes) (w : List ℕ) (r : Count) (w′ : List ℕ) → length s ≤ BYTES → WORDS ≤ length w → Walks s w r w′ → Reads s w r w′
 unfolding reading readingArea
 walked s w r w′ h l v = record { says = rw (le-ltb _ _ h, le-ltb _ _ l) (v .says); leaves = rw (le-ltb _ _ h, le-ltb _ _ l) (v .leaves) }
-
-pub counting-long : (w₀ xs w : List ℕ) (i : ℕ) → Counting w₀ xs w i → length w ≡ length w₀
-counting-long w₀ xs w i v = v .long

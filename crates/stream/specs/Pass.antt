@@ -6,7 +6,8 @@ use mathlib.Core.Path.{_≡_}
 use lib.Dec.{leb, ltb}
 use lib.ListN.{length, take, set}
 use lib.Seq.{sets}
-use Rattle.syntax.specs.Refusals.{refusedBy}
+use Rattle.syntax.specs.Refusals.{refusal, refusedBy}
+use Rattle.syntax.specs.declared.Place.{Place}
 use Rattle.area.specs.Layout.{BYTES, WORDS}
 use Rattle.definition.specs.Basic.{if_then_else_, Answer, ok, refused}
 use Rattle.definition.specs.Syntax.{Bytes, Identifier, Rec, field, instr, bodyEnd}
@@ -14,6 +15,7 @@ use Rattle.definition.specs.Reader.{Step, got, fault}
 use Rattle.definition.specs.Read.{Seen, nothingSeen, seenAfter, oneRecord, atEnd, records, read}
 use Rattle.laws.specs.Steps.{total}
 use Rattle.next_record.specs.Uses.{mayUse, endWord}
+use Rattle.next_record.specs.Places.{bodyOf}
 use Rattle.counting.specs.Counting.{countWords}
 use Rattle.stream.specs.declared.pass.Count.{Count}
 use Rattle.stream.specs.declared.pass.Count.the-variants as C
@@ -85,6 +87,19 @@ reading s work =
 
 unfoldable pub readingArea : Bytes → List ℕ → List ℕ
 readingArea s w = if ltb BYTES (length s) then w else if ltb (length w) WORDS then w else areaAfter (passed s) w
+
+-- the stream's first byte and first record, outside a body
+abbrev pub firstPlace : Place
+firstPlace = record { at = 0; rec = 0; depth = 0 }
+
+-- a record is refused
+abbrev pub refusedAt : ℕ → Place → Count
+refusedAt n p = C.Refused (refusal n (p .rec))
+
+-- the stream ends at a place, with these counts of items
+pub record Ends (p : Place) (counts w : List ℕ) (r : Count) (w′ : List ℕ) : Type 0 where
+  pub says : total (p .rec) (atEnd (p .rec) (bodyOf (p .depth))) ≡ counted r
+  pub leaves : w′ ≡ areaOf (counted r) counts w
 
 -- over a stream and a work area that are long enough and not too long
 pub record Walks (s : Bytes) (w : List ℕ) (r : Count) (w′ : List ℕ) : Type 0 where

@@ -1,4 +1,5 @@
 // The pass over all records.
+use counting::put_counts;
 use counting::with_field;
 use next_record::Inside;
 use next_record::Outside;
@@ -11,11 +12,9 @@ use syntax::Seen;
 ghost use mathlib.Core.Path.{_≡_};
 ghost use Prim.Native.Nat.{_+_, _*_, _≤_, _<_, _^_};
 ghost use lib.ListN.{length};
-ghost use lib.Seq.{sets};
 ghost use Rattle.area.specs.Layout.{WORDS};
 ghost use Rattle.area.specs.Lent.{Lent};
-ghost use Rattle.stream.specs.Pass.{Reads, Walks};
-ghost use Rattle.stream.specs.Pass.{endPut};
+ghost use Rattle.stream.specs.Pass.{Reads, Walks, Ends, firstPlace, refusedAt, endPut};
 ghost use Rattle.next_record.specs.Uses.{endWord};
 
 pub enum Count {
@@ -46,47 +45,51 @@ fn put_end(work: &mut [u32], n: u32, p: Place, used: bool)
     }
 }
 
-// The counts of items, from word 0 on.
-fn put_counts(work: &mut [u32], seen: Seen)
-    requires { ⌜ WORDS ≤ length (now work) ⌝ }
-    ensures { λ _. ⌜ now (work .exit) ≡ sets (now (work .entry)) 0 (seen .counts) ⌝ }
+// The stream's first byte and first record, outside a body.
+fn start() -> Place
+    ensures { λ r. ⌜ r ≡ firstPlace ⌝ }
 {
-    let counts = seen.counts;
-    let mut i = 0;
-    while i < 7 {
-        work[i] = counts[i];
-        i += 1;
-    }
-}
-
-fn walk(s: &[u8], work: &mut [u32]) -> Count
-    requires { ⌜ Lent (now s) (now work) ⌝ }
-    ensures { λ r. ⌜ Walks (now (s .entry)) (now (work .entry)) r (now (work .exit)) ⌝ }
-{
-    let mut p = Place {
+    Place {
         at: 0,
         rec: 0,
         depth: 0,
-    };
+    }
+}
+
+// A record is refused.
+fn refused(number: u8, p: Place) -> Count
+    ensures { λ r. ⌜ r ≡ refusedAt number p ⌝ }
+{
+    Count::Refused(Refusal { number, rec: p.rec })
+}
+
+// The stream ends here: in a body it is refused, outside one the counts of items are left from word 0 on.
+fn at_end(work: &mut [u32], p: Place, seen: Seen) -> Count
+    requires { ⌜ WORDS ≤ length (now work) ⌝ }
+    ensures { λ r. ⌜ Ends p (seen .counts) (now (work .entry)) r (now (work .exit)) ⌝ }
+{
+    if 0 < p.depth {
+        return refused(2, p);
+    }
+    put_counts(work, 0, seen);
+    Count::Records(p.rec)
+}
+
+// Record by record, outside a body and in one.
+fn read_records(s: &[u8], work: &mut [u32]) -> Count
+    requires { ⌜ Lent (now s) (now work) ⌝ }
+    ensures { λ r. ⌜ Walks (now (s .entry)) (now (work .entry)) r (now (work .exit)) ⌝ }
+{
+    let mut p = start();
     let mut seen = Seen::none();
     let mut ended: u32 = 0;
     let mut used = false;
     loop {
         if s.len() <= p.at {
-            if 0 < p.depth {
-                return Count::Refused(Refusal {
-                    number: 2,
-                    rec: p.rec,
-                });
-            }
-            put_counts(work, seen);
-            return Count::Records(p.rec);
+            return at_end(work, p, seen);
         }
         if 4096 <= p.rec {
-            return Count::Refused(Refusal {
-                number: too_many(s, p),
-                rec: p.rec,
-            });
+            return refused(too_many(s, p), p);
         }
         if p.depth < 1 {
             let r = next_field(s, p, seen);
@@ -97,10 +100,7 @@ fn walk(s: &[u8], work: &mut [u32]) -> Count
                     seen = with_field(seen, f);
                 }
                 Outside::Refused(n) => {
-                    return Count::Refused(Refusal {
-                        number: n,
-                        rec: p.rec,
-                    });
+                    return refused(n, p);
                 }
             }
         } else {
@@ -117,10 +117,7 @@ fn walk(s: &[u8], work: &mut [u32]) -> Count
                     used = false;
                 }
                 Inside::Refused(n) => {
-                    return Count::Refused(Refusal {
-                        number: n,
-                        rec: p.rec,
-                    });
+                    return refused(n, p);
                 }
             }
         }
@@ -137,5 +134,5 @@ pub fn read_all(s: &[u8], work: &mut [u32]) -> Count
     if work.len() < area::WORDS {
         return Count::Refused(Refusal { number: 10, rec: 0 });
     }
-    walk(s, work)
+    read_records(s, work)
 }

@@ -2,11 +2,13 @@
 use Prim.Native.Nat.{ℕ, _+_, _≤_, min}
 use mathlib.Core.Path.{_≡_, refl, _∙_, ap}
 use mathlib.Core.Bool.{Bool, true, false}
-use mathlib.Core.List.{List, []}
+use mathlib.Core.List.{List, [], _∷_}
 use mathlib.Core.Option.{none, some}
 use lib.ListN.{length, getD, set}
 use lib.Seq.{sets, getD-set-same, getD-set-other}
 use native.Mathlib.Omega.{arith}
+use types.Run.{OneOf, miss}
+use denote.Enum.Declared.{tagOf}
 use Rattle.definition.specs.Basic.{if_then_else_, ok, refused, _>>=_, sameBytes}
 use Rattle.definition.specs.Syntax.{Bytes}
 use Rattle.definition.specs.Read.{fieldBody}
@@ -38,11 +40,11 @@ use Rattle.registration.specs.Register.{brought, Puts}
 use Rattle.registration.specs.declared.register.Registered.{Registered}
 use Rattle.registration.specs.declared.register.Registered.the-variants as R
 use Rattle.survey.proofs.Registering.{Registering, registering-begin, registering-above, registering-again, registering-stops, registering-done, counted-tables, counted-kept}
-use Rattle.survey.specs.Survey.{typesAfterOrder, typesThenNames, lateness, fineOf, Both, Takes, UseRefused, NameRefused, Reaches, Surveys, Ends}
-use Rattle.survey.specs.declared.How.{How}
-use Rattle.survey.specs.declared.How.the-variants as H
+use Rattle.survey.specs.Survey.{typesAfterOrder, typesThenNames, lateness, fineOf, Both, Takes, UseRefused, NameRefused, Ends, Reaches, Surveys, Interns}
 use Rattle.survey.specs.declared.late.Lateness.{Lateness}
 use Rattle.survey.specs.declared.late.Lateness.the-variants as L
+use Rattle.survey.specs.declared.Ended.{Ended}
+use Rattle.survey.proofs.Took as TookOf
 use Rattle.survey.specs.declared.Took.{Took}
 use Rattle.survey.specs.declared.Took.the-variants as T
 use Rattle.survey.specs.declared.Surveyed.{Surveyed}
@@ -103,11 +105,12 @@ module _ (late : Bool) (x : Standing) (t : Lateness) (e : lateness late x ≡ fi
       go false d = (refl, cc)
 
 -- a test that was made
-pub late-now : (late : Bool) (x : Standing) (b : Bool) → b ≡ isLate late x → b ≡ true → lateness late x ≡ fineOf L.Late
-late-now late x b e y = rw (← e, y)
+module _ (late : Bool) (f : Field) (x : Standing) (d : x ≡ standing f) (b : Bool) (e : b ≡ isLate late x) where
+  pub late-now : b ≡ true → lateness late (standing f) ≡ fineOf L.Late
+  late-now y = rw (← d, ← e, y)
 
-pub late-later : (late : Bool) (x : Standing) (b u : Bool) → b ≡ isLate late x → b ≡ false → u ≡ lateAfter late x → lateness late x ≡ fineOf (L.Fine u)
-late-later late x b u e y z = rw (← e, y, z)
+  pub late-later : (u : Bool) → b ≡ false → u ≡ lateAfter late x → lateness late (standing f) ≡ fineOf (L.Fine u)
+  late-later u y z = rw (← d, ← e, y, z)
 
 -- ## On for the order of imports alone
 
@@ -122,12 +125,12 @@ module _ (s w : List ℕ) (c : Cursor) (late : Bool) (v : Passing s w c late) (m
   pub passing-done : (q : Refusal) → m .what ≡ W.Done → typesThenNames (fieldsIn s) ≡ refusedBy q → Surveys s w (Y.Refused q) w
   passing-done q is e = falls-next s w q w (ordering-done s c late (v .order) m told is) e refl
 
-  module _ (f : Field) (here : ℕ) (is : m .what ≡ W.Field f here) (x : Standing) (d : x ≡ standing f) (t : Lateness) (e : lateness late x ≡ fineOf t) where
+  module _ (f : Field) (here : ℕ) (is : m .what ≡ W.Field f here) (t : Lateness) (e : lateness late (standing f) ≡ fineOf t) where
     pub passing-late : t ≡ L.Late → Surveys s w (Y.Refused (refusal 11 (c .rec))) w
-    passing-late y = falls-late s w 11 (c .rec) w (ordering-late s c late (v .order) m told f here is x d (isLate late x) refl (is-late late x t e y)) refl
+    passing-late y = falls-late s w (refusal 11 (c .rec)) w (ordering-late s c late (v .order) m told f here is (standing f) refl (isLate late (standing f)) refl (is-late late (standing f) t e y)) refl
 
     pub passing-again : (u : Bool) → t ≡ L.Fine u → Passing s w (m .next) u
-    passing-again u y = let z = is-fine late x t e u y in record { order = ordering-again s c late (v .order) m told f here is x d (isLate late x) refl u (z .0) (z .1); ahead = visit-ahead s c m told f here is w (v .ahead) }
+    passing-again u y = let z = is-fine late (standing f) t e u y in record { order = ordering-again s c late (v .order) m told f here is (standing f) refl (isLate late (standing f)) refl u (z .0) (z .1); ahead = visit-ahead s c m told f here is w (v .ahead) }
 
 -- ## On for the uses alone
 
@@ -142,7 +145,7 @@ pub using-begin : (s w : List ℕ) (c : Cursor) (k : ℕ) → Ahead s w c → k 
 using-begin s w c k a h e = record { interning = record { same = e }; ahead = a; few = h; kept = kept-same TYPES w; long = refl }
 
 module _ (s w₀ w : List ℕ) (c : Cursor) (k : ℕ) (v : Using s w₀ w c k) (m : Met) (told : visitIn (c .left) c s ≡ visitOf s m) where
-  pub using-done : m .what ≡ W.Done → Ends s w₀ (U.Types k) w
+  pub using-done : m .what ≡ W.Done → Interns s w₀ (U.Types k) w
   using-done is = record { says = interning-done s c m told w k is (v .interning); kept = v .kept }
 
   module _ (f : Field) (here : ℕ) (is : m .what ≡ W.Field f here) where
@@ -150,7 +153,7 @@ module _ (s w₀ w : List ℕ) (c : Cursor) (k : ℕ) (v : Using s w₀ w c k) (
     using-skips = field-skips s c m told f here is w (v .ahead)
 
     module _ (q : Used) (w′ : List ℕ) (used : Handles (c .rec) (endAfter (fieldBody (fieldOf s f)) (c .rec) s here) s (usesField (c .rec) (fieldOf s f) s here) w k q w′) where
-      pub using-refused : (p : Refusal) → q ≡ U.Refused p → Ends s w₀ (U.Refused p) w′
+      pub using-refused : (p : Refusal) → q ≡ U.Refused p → Interns s w₀ (U.Refused p) w′
       using-refused p e = record { says = interning-refused s c m told f here is w k q w′ used (v .interning) p e; kept = kept-then (v .kept) (refused-kept s c m told f here is w k q w′ used p e) }
 
       pub using-again : (k′ : ℕ) → q ≡ U.Types k′ → Using s w₀ w′ (m .next) k′
@@ -165,7 +168,7 @@ module _ (s w₀ w : List ℕ) (c : Cursor) (k : ℕ) (v : Using s w₀ w c k) (
           }
 
 -- what the uses ahead came to
-module _ (s w : List ℕ) (q : Used) (w′ : List ℕ) (a : Ends s w q w′) where
+module _ (s w : List ℕ) (q : Used) (w′ : List ℕ) (a : Interns s w q w′) where
   pub ends-ahead : (c : Cursor) → Ahead s w c → Ahead s w′ c
   ends-ahead c h = ahead-kept s w w′ c (a .kept) h
 
@@ -243,8 +246,8 @@ opened v = v .found
 
 module _ (s w₀ w : List ℕ) (c : Cursor) (late : Bool) (k : ℕ) (v : Surveying s w₀ w c late k) (m : Met) (told : visitIn (c .left) c s ≡ visitOf s m) where
   -- no field is left: the totals are put
-  pub surveying-done : (w₁ w₂ : List ℕ) (c′ : Cursor) (u : Bool) (j : ℕ) → m .what ≡ W.Done → w₁ ≡ set w TOTAL k → w₂ ≡ sets w₁ NAMED (c .seen .counts) → Reaches s w₀ (H.Told Y.Done) c′ u j w₂
-  unfolding Reaches Surveys typesAfterOrder typesIn _>>=_
+  pub surveying-done : (w₁ w₂ : List ℕ) (c′ : Cursor) (u : Bool) (j : ℕ) → m .what ≡ W.Done → w₁ ≡ set w TOTAL k → w₂ ≡ sets w₁ NAMED (c .seen .counts) → Reaches s w₀ (T.Types j) c′ u w₂
+  unfolding Reaches typesAfterOrder typesIn _>>=_
   surveying-done w₁ w₂ c′ u j is d e =
       let all = interning-done s c m told w k is (opened v .interning) in
       let o = ordering-done s c late (opened v .order) m told is in
@@ -271,14 +274,14 @@ module _ (s w₀ w : List ℕ) (c : Cursor) (late : Bool) (k : ℕ) (v : Surveyi
     pub surveying-skips : Skips w (c .own) (bodyUses (c .rec + 1) (bodyIn (fieldBody (fieldOf s f)) (c .rec + 1) s here))
     surveying-skips = field-skips s c m told f here is w (v .ahead)
 
-    module _ (x : Standing) (d : x ≡ standing f) (t : Lateness) (e : lateness late x ≡ fineOf t) where
-      pub surveying-late : (c′ : Cursor) (u : Bool) (j : ℕ) → t ≡ L.Late → Reaches s w₀ (H.Told (Y.Refused (refusal 11 (c .rec)))) c′ u j w
-      unfolding Reaches
-      surveying-late c′ u j y = falls-late s w₀ 11 (c .rec) w (ordering-late s c late (opened v .order) m told f here is x d (isLate late x) refl (is-late late x t e y)) (v .long)
+    module _ (t : Lateness) (e : lateness late (standing f) ≡ fineOf t) where
+      pub surveying-late : (c′ : Cursor) (u : Bool) → t ≡ L.Late → Reaches s w₀ (T.Late (c .rec)) c′ u w
+      unfolding Reaches Surveys
+      surveying-late c′ u y = falls-late s w₀ (refusal 11 (c .rec)) w (ordering-late s c late (opened v .order) m told f here is (standing f) refl (isLate late (standing f)) refl (is-late late (standing f) t e y)) (v .long)
 
       -- no import was too late up to the next field
       pub surveying-order : (u : Bool) → t ≡ L.Fine u → Ordering s (m .next) u
-      surveying-order u y = let z = is-fine late x t e u y in ordering-again s c late (opened v .order) m told f here is x d (isLate late x) refl u (z .0) (z .1)
+      surveying-order u y = let z = is-fine late (standing f) t e u y in ordering-again s c late (opened v .order) m told f here is (standing f) refl (isLate late (standing f)) refl u (z .0) (z .1)
 
     -- the uses were handled, and the items registered or not
     module _ (k′ : ℕ) (b : Registered) (w₂ : List ℕ) (y : Both s w c f here k k′ b w₂) where
@@ -337,17 +340,19 @@ module _ (q : Took) (p : Refusal) (e : q ≡ T.Use p) (s w : List ℕ) (c : Curs
   unfolding Handles Takes
   used = rw e at took
 
-  kept-on : Kept TYPES w w₁
-  kept-on = refused-kept s c m told f here is w k (U.Refused p) w₁ used p refl
+  kept-uses : Kept TYPES w w₁
+  kept-uses = refused-kept s c m told f here is w k (U.Refused p) w₁ used p refl
 
-  pub surveying-refused : (u : Bool) (j : ℕ) → Ordering s (m .next) u → Reaches s w₀ (H.Use p) (m .next) u j w₁
+  surveying-refused : (u : Bool) → Ordering s (m .next) u → Reaches s w₀ (T.Use p) (m .next) u w₁
   unfolding Reaches
-  surveying-refused u j o = record {
-    ahead = ahead-kept s w w₁ (m .next) kept-on (visit-ahead s c m told f here is w (v .ahead));
-    order = o .same;
-    says = types-fall s p (interning-refused s c m told f here is w k (U.Refused p) w₁ used (opened v .interning) p refl);
-    kept = kept-then (opened v .kept) kept-on;
-  }
+  surveying-refused u o = (
+    record {
+      ahead = ahead-kept s w w₁ (m .next) kept-uses (visit-ahead s c m told f here is w (v .ahead));
+      order = o .same;
+      says = types-fall s p (interning-refused s c m told f here is w k (U.Refused p) w₁ used (opened v .interning) p refl);
+    },
+    kept-then (opened v .kept) kept-uses,
+  )
 
 -- a name was there already
 module _ (q : Took) (p : Refusal) (k′ : ℕ) (e : q ≡ T.Name p k′) (s w : List ℕ) (c : Cursor) (f : Field) (here k : ℕ) (w₁ : List ℕ) (took : Takes s w c f here k q w₁)
@@ -356,63 +361,65 @@ module _ (q : Took) (p : Refusal) (k′ : ℕ) (e : q ≡ T.Name p k′) (s w : 
   unfolding Takes
   named = rw e at took
 
-  pub surveying-taken : (u : Bool) → Ordering s (m .next) u → Reaches s w₀ (H.Name p) (m .next) u k′ w₁
+  surveying-taken : (u : Bool) → Ordering s (m .next) u → Reaches s w₀ (T.Name p k′) (m .next) u w₁
   unfolding Reaches
-  surveying-taken u o = record {
-    ahead = goes-ahead s w₀ w c late k v m told f here is k′ (R.Refused p) w₁ named;
-    order = o .same;
-    few = named .used .few;
-    types = interns s w₀ w c late k v m told f here is k′ (R.Refused p) w₁ named .same;
-    says = stops s w₀ w c late k v m told f here is k′ (R.Refused p) w₁ named p refl;
-    kept = kept-then (opened v .kept) (both s w₀ w c late k v m told f here is k′ (R.Refused p) w₁ named);
-  }
+  surveying-taken u o = (
+    record {
+      ahead = goes-ahead s w₀ w c late k v m told f here is k′ (R.Refused p) w₁ named;
+      order = o .same;
+      few = named .used .few;
+      types = interns s w₀ w c late k v m told f here is k′ (R.Refused p) w₁ named .same;
+      says = stops s w₀ w c late k v m told f here is k′ (R.Refused p) w₁ named p refl;
+    },
+    kept-then (opened v .kept) (both s w₀ w c late k v m told f here is k′ (R.Refused p) w₁ named),
+  )
+
+-- either
+pub surveying-stops : (q : Took) → OneOf (1 ∷ 2 ∷ 3 ∷ []) (tagOf TookOf.the-type q) → (s w : List ℕ) (c : Cursor) (f : Field) (here k : ℕ) (w₁ : List ℕ) → Takes s w c f here k q w₁
+    → (m : Met) → m .what ≡ W.Field f here → visitIn (c .left) c s ≡ visitOf s m → (w₀ : List ℕ) (late : Bool) → Surveying s w₀ w c late k
+    → (u : Bool) → Ordering s (m .next) u → Reaches s w₀ q (m .next) u w₁
+unfolding Takes
+surveying-stops (T.Types k′) h = absurd (miss (1 ∷ 2 ∷ 3 ∷ []) 0 tt h)
+surveying-stops (T.Late r) h = λ s w c f here k w₁ took. absurd took
+surveying-stops (T.Use p) h = surveying-refused (T.Use p) p refl
+surveying-stops (T.Name p k′) h = surveying-taken (T.Name p k′) p k′ refl
+
+-- so it is told
+pub reaches-so : (s w : List ℕ) (q : Took) (c : Cursor) (late : Bool) (r : Ended) (w′ : List ℕ) → Ends q c late r → Reaches s w q c late w′ → Reaches s w (r .how) (r .next) (r .late) w′
+reaches-so s w q c late r w′ e h = let a = e .how in let b = e .next in let d = e .late in rw (a, b, d) h
 
 -- ## What is told then
 
-module _ (s w : List ℕ) (q : How) (c : Cursor) (late : Bool) (k : ℕ) (w₁ : List ℕ) (told : Reaches s w q c late k w₁) where
-  pub told-so : (a : Surveyed) → q ≡ H.Told a → Surveys s w a w₁
-  unfolding Reaches
-  told-so a e = rw e at told
+module _ (s w : List ℕ) (q : Took) (c : Cursor) (late : Bool) (w₁ : List ℕ) (told : Reaches s w q c late w₁) where
+  pub told-done : (k : ℕ) → q ≡ T.Types k → Surveys s w Y.Done w₁
+  unfolding Reaches Surveys
+  told-done k e = rw e at told
 
-  module _ (p : Refusal) (e : q ≡ H.Use p) where
-    use-refused : UseRefused s w c late p w₁
+  pub told-late : (r : ℕ) → q ≡ T.Late r → Surveys s w (Y.Refused (refusal 11 r)) w₁
+  unfolding Reaches Surveys
+  told-late r e = rw e at told
+
+  module _ (p : Refusal) (e : q ≡ T.Use p) where
+    reached-use : UseRefused s w₁ c late p × Kept TYPES w w₁
     unfolding Reaches
-    use-refused = rw e at told
+    reached-use = rw e at told
 
-    pub use-ahead : Ahead s w₁ c
-    use-ahead = use-refused .ahead
-
-    pub use-order : importOrder (fieldsIn s) ≡ importsFrom late (fieldsAhead c s)
-    use-order = use-refused .order
-
-    pub use-says : typesThenNames (fieldsIn s) ≡ refusedBy p
-    use-says = use-refused .says
+    pub use-refused : UseRefused s w₁ c late p
+    use-refused = reached-use .0
 
     pub use-told : (a : Surveyed) (w₂ : List ℕ) → Surveys s w₁ a w₂ → Surveys s w a w₂
-    use-told a w₂ y = surveys-since s w w₁ a w₂ (use-refused .kept) y
+    use-told a w₂ y = surveys-since s w w₁ a w₂ (reached-use .1) y
 
-  module _ (p : Refusal) (e : q ≡ H.Name p) where
-    name-refused : NameRefused s w c late k p w₁
+  module _ (p : Refusal) (k : ℕ) (e : q ≡ T.Name p k) where
+    reached-name : NameRefused s w₁ c late k p × Kept TYPES w w₁
     unfolding Reaches
-    name-refused = rw e at told
+    reached-name = rw e at told
+
+    pub name-refused : NameRefused s w₁ c late k p
+    name-refused = reached-name .0
 
     pub name-room : WORDS ≤ length w → WORDS ≤ length w₁
-    name-room h = omega (arith, name-refused .kept .long)
-
-    pub name-few : k ≤ 256
-    name-few = name-refused .few
-
-    pub name-ahead : Ahead s w₁ c
-    name-ahead = name-refused .ahead
-
-    pub name-order : importOrder (fieldsIn s) ≡ importsFrom late (fieldsAhead c s)
-    name-order = name-refused .order
-
-    pub name-types : allTypes (fieldsIn s) ≡ intern (typeTable k s w₁ TYPES) (uses (fieldsAhead c s))
-    name-types = name-refused .types
-
-    pub name-says : register sameBytes [] (fieldsIn s) ≡ refusedBy p
-    name-says = name-refused .says
+    name-room h = omega (arith, reached-name .1 .long)
 
     pub name-told : (a : Surveyed) (w₂ : List ℕ) → Surveys s w₁ a w₂ → Surveys s w a w₂
-    name-told a w₂ y = surveys-since s w w₁ a w₂ (name-refused .kept) y
+    name-told a w₂ y = surveys-since s w w₁ a w₂ (reached-name .1) y

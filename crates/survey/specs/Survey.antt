@@ -11,7 +11,7 @@ use Rattle.definition.specs.Read.{fieldBody}
 use Rattle.definition.specs.Deinline.{Numbered, importsFrom, importOrder}
 use Rattle.definition.specs.Types.{uses, intern, allTypes}
 use Rattle.definition.specs.Names.{Items, register}
-use Rattle.syntax.specs.Refusals.{refusedBy}
+use Rattle.syntax.specs.Refusals.{refusal, refusedBy}
 use Rattle.syntax.specs.declared.Refusal.{Refusal}
 use Rattle.area.specs.Layout.{TOTAL, TYPES}
 use Rattle.syntax.specs.Fields.{fieldOf}
@@ -30,8 +30,7 @@ use Rattle.registration.specs.declared.register.Registered.{Registered}
 use Rattle.registration.specs.declared.register.Registered.the-variants as R
 use Rattle.survey.specs.declared.late.Lateness.{Lateness}
 use Rattle.survey.specs.declared.late.Lateness.the-variants as L
-use Rattle.survey.specs.declared.How.{How}
-use Rattle.survey.specs.declared.How.the-variants as H
+use Rattle.survey.specs.declared.Ended.{Ended}
 use Rattle.survey.specs.declared.Took.{Took}
 use Rattle.survey.specs.declared.Took.the-variants as T
 use Rattle.survey.specs.declared.Surveyed.{Surveyed}
@@ -80,6 +79,7 @@ pub record Both (s w : List ℕ) (c : Cursor) (f : Field) (here k k′ : ℕ) (b
 
 unfoldable pub Takes : Bytes → List ℕ → Cursor → Field → ℕ → ℕ → Took → List ℕ → Type 0
 Takes s w c f here k (T.Types k′) w′ = Both s w c f here k k′ R.Done w′
+Takes s w c f here k (T.Late r) w′ = ⊥
 Takes s w c f here k (T.Use q) w′ = Stopped s (usesField (c .rec) (fieldOf s f) s here) w k q w′
 Takes s w c f here k (T.Name q k′) w′ = Both s w c f here k k′ (R.Refused q) w′
 
@@ -90,31 +90,37 @@ unfoldable pub typesThenNames : Numbered Identifier → Answer (Items Identifier
 typesThenNames fs = allTypes fs >>= λ _. register sameBytes [] fs
 
 -- a use was refused before a field
-pub record UseRefused (s w : List ℕ) (c : Cursor) (late : Bool) (q : Refusal) (w′ : List ℕ) : Type 0 where
-  pub ahead : Ahead s w′ c
+pub record UseRefused (s w : List ℕ) (c : Cursor) (late : Bool) (q : Refusal) : Type 0 where
+  pub ahead : Ahead s w c
   pub order : importOrder (fieldsIn s) ≡ importsFrom late (fieldsAhead c s)
   pub says : typesThenNames (fieldsIn s) ≡ refusedBy q
-  pub kept : Kept TYPES w w′
 
--- a name was
-pub record NameRefused (s w : List ℕ) (c : Cursor) (late : Bool) (k : ℕ) (q : Refusal) (w′ : List ℕ) : Type 0 where
-  pub ahead : Ahead s w′ c
+-- a name was, where so many types have come
+pub record NameRefused (s w : List ℕ) (c : Cursor) (late : Bool) (k : ℕ) (q : Refusal) : Type 0 where
+  pub ahead : Ahead s w c
   pub order : importOrder (fieldsIn s) ≡ importsFrom late (fieldsAhead c s)
   pub few : k ≤ 256
-  pub types : allTypes (fieldsIn s) ≡ intern (typeTable k s w′ TYPES) (uses (fieldsAhead c s))
+  pub types : allTypes (fieldsIn s) ≡ intern (typeTable k s w TYPES) (uses (fieldsAhead c s))
   pub says : register sameBytes [] (fieldsIn s) ≡ refusedBy q
-  pub kept : Kept TYPES w w′
 
-unfoldable pub Reaches : Bytes → List ℕ → How → Cursor → Bool → ℕ → List ℕ → Type 0
-Reaches s w (H.Told a) c late k w′ = Surveys s w a w′
-Reaches s w (H.Use q) c late k w′ = UseRefused s w c late q w′
-Reaches s w (H.Name q) c late k w′ = NameRefused s w c late k q w′
+-- how the walk ended
+unfoldable pub Reaches : Bytes → List ℕ → Took → Cursor → Bool → List ℕ → Type 0
+Reaches s w (T.Types k) c late w′ = Stands s w w′
+Reaches s w (T.Late r) c late w′ = Falls s w (refusal 11 r) w′
+Reaches s w (T.Use q) c late w′ = UseRefused s w′ c late q × Kept TYPES w w′
+Reaches s w (T.Name q k) c late w′ = NameRefused s w′ c late k q × Kept TYPES w w′
+
+-- so it is told
+pub record Ends (q : Took) (c : Cursor) (u : Bool) (r : Ended) : Type 0 where
+  pub how : r .how ≡ q
+  pub next : r .next ≡ c
+  pub late : r .late ≡ u
 
 -- what all types come to
 abbrev pub typed : Bytes → Used → List ℕ → Answer (List FuncType)
 typed s (U.Types k) w = ok (typeTable k s w TYPES)
 typed s (U.Refused q) w = refusedBy q
 
-pub record Ends (s w : List ℕ) (r : Used) (w′ : List ℕ) : Type 0 where
+pub record Interns (s w : List ℕ) (r : Used) (w′ : List ℕ) : Type 0 where
   pub says : allTypes (fieldsIn s) ≡ typed s r w′
   pub kept : Kept TYPES w w′

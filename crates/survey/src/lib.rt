@@ -24,7 +24,7 @@ ghost use Rattle.type_table.specs.Table.{typeTable};
 ghost use Rattle.walk.specs.Walk.{bodyIn, Ahead, begin, fieldsIn};
 ghost use Rattle.interning.specs.Uses.{Skips};
 ghost use Rattle.registration.specs.Register.{brought, Fit};
-ghost use Rattle.survey.specs.Survey.{Takes, Reaches, Surveys};
+ghost use Rattle.survey.specs.Survey.{Takes, Ends, Reaches, Surveys};
 
 // A refusal's number and record, if there is one.
 pub enum Surveyed {
@@ -32,26 +32,20 @@ pub enum Surveyed {
     Refused(Refusal),
 }
 
-// What is told, or the number and the record of a use's or a name's refusal, before which an earlier rule may come.
-enum How {
-    Told(Surveyed),
-    Use(Refusal),
-    Name(Refusal),
-}
-
-// How a walk ended; where it would go on, whether imports are too late there, and how many types there are.
-struct Ended {
-    how: How,
-    next: Cursor,
-    late: bool,
-    types: u32,
-}
-
-// How many types there are after a field, or the number and the record of a use's refusal, or those of a name's and the types.
+// How many types there are after a field; or the record of an import that comes too late; or the refusal of a use, or of a name after so
+// many types, before which an earlier rule may come.
 enum Took {
     Types(u32),
+    Late(u32),
     Use(Refusal),
     Name(Refusal, u32),
+}
+
+// How the walk ended, where it would go on, and whether imports are too late there.
+struct Ended {
+    how: Took,
+    next: Cursor,
+    late: bool,
 }
 
 // The uses of a field, and then its items.
@@ -76,10 +70,16 @@ fn put_total(work: &mut [u32], n: u32)
     work[area::TOTAL] = n;
 }
 
+fn ended_by(how: Took, next: Cursor, late: bool) -> Ended
+    ensures { λ r. ⌜ Ends how next late r ⌝ }
+{
+    Ended { how, next, late }
+}
+
 // The walk, up to its end or to the first refusal.
 fn survey_fields(s: &[u8], work: &mut [u32], declared: u32) -> Ended
     requires { ⌜ Lent (now s) (now work) × (declared ≤ 256) × Ahead (now s) (now work) begin × (typeTable declared (now s) (now work) TYPES ≡ Types.declared (fieldsIn (now s))) ⌝ }
-    ensures { λ r. ⌜ Reaches (now (s .entry)) (now (work .entry)) (r .how) (r .next) (r .late) (r .types) (now (work .exit)) ⌝ }
+    ensures { λ r. ⌜ Reaches (now (s .entry)) (now (work .entry)) (r .how) (r .next) (r .late) (now (work .exit)) ⌝ }
 {
     let mut c = walk::start();
     let mut late = false;
@@ -89,64 +89,37 @@ fn survey_fields(s: &[u8], work: &mut [u32], declared: u32) -> Ended
         let what = m.what;
         match what {
             What::Field(f, here) => {
-                match late_after(late, import_order::field_standing(f)) {
+                match late_after(late, f) {
                     Lateness::Fine(l) => {
                         late = l;
                     }
                     Lateness::Late => {
-                        return Ended {
-                            how: How::Told(Surveyed::Refused(Refusal {
-                                number: 11,
-                                rec: c.rec,
-                            })),
-                            next: c,
-                            late,
-                            types: count,
-                        };
+                        return ended_by(Took::Late(c.rec), c, late);
                     }
                 }
-                match take_field(s, work, c, f, here, count) {
+                let took = take_field(s, work, c, f, here, count);
+                match took {
                     Took::Types(k) => {
                         count = k;
                         c = m.next;
                     }
-                    Took::Use(r) => {
-                        let next = m.next;
-                        return Ended {
-                            how: How::Use(r),
-                            next,
-                            late,
-                            types: count,
-                        };
-                    }
-                    Took::Name(r, k) => {
-                        let next = m.next;
-                        return Ended {
-                            how: How::Name(r),
-                            next,
-                            late,
-                            types: k,
-                        };
+                    _ => {
+                        return ended_by(took, m.next, late);
                     }
                 }
             }
             What::Done => {
                 put_total(work, count);
-                registration::put_counts(work, c.seen);
-                return Ended {
-                    how: How::Told(Surveyed::Done),
-                    next: c,
-                    late,
-                    types: count,
-                };
+                counting::put_counts(work, area::NAMED, c.seen);
+                return ended_by(Took::Types(count), c, late);
             }
         }
     }
 }
 
-// The types of uses after the declared ones, and all names. The word `TOTAL` says how many types there are then, and the word of
-// each record that has a use without an index that use's number. The order of imports comes first over the whole stream, then the
-// types, then the names: where one of the later rules refuses, the fields ahead are asked for an earlier one.
+// The types of uses after the declared ones, and all names. The word at TOTAL says how many types there are then, and the word of each
+// record that has a use without an index that use's number. The order of imports comes first over the whole stream, then the types,
+// then the names: where one of the later rules refuses, the fields ahead are asked for an earlier one.
 pub fn survey_all(s: &[u8], work: &mut [u32], declared: u32) -> Surveyed
     requires { ⌜ Lent (now s) (now work) × (declared ≤ 256) × Ahead (now s) (now work) begin × (typeTable declared (now s) (now work) TYPES ≡ Types.declared (fieldsIn (now s))) ⌝ }
     ensures { λ r. ⌜ Surveys (now (s .entry)) (now (work .entry)) r (now (work .exit)) ⌝ }
@@ -154,8 +127,9 @@ pub fn survey_all(s: &[u8], work: &mut [u32], declared: u32) -> Surveyed
     let x = survey_fields(s, work, declared);
     let how = x.how;
     match how {
-        How::Told(a) => a,
-        How::Use(r) => late_first(s, work, x.next, x.late, r),
-        How::Name(r) => types_first(s, work, x.next, x.late, x.types, r),
+        Took::Types(_) => Surveyed::Done,
+        Took::Late(rec) => Surveyed::Refused(Refusal { number: 11, rec }),
+        Took::Use(r) => late_first(s, work, x.next, x.late, r),
+        Took::Name(r, k) => types_first(s, work, x.next, x.late, k, r),
     }
 }

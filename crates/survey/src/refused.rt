@@ -7,22 +7,17 @@ use syntax::Refusal;
 use walk::Cursor;
 use walk::What;
 ghost use mathlib.Core.Path.{_≡_};
-ghost use mathlib.Core.List.{[]};
 ghost use Prim.Native.Nat.{_≤_};
 ghost use Rattle.area.specs.Layout.{TYPES};
 ghost use Rattle.area.specs.Lent.{Lent};
-ghost use Rattle.definition.specs.Basic.{sameBytes};
-ghost use Rattle.syntax.specs.Refusals.{refusedBy};
-ghost use Rattle.definition.specs.Deinline.{importsFrom, importOrder};
 ghost use Rattle.definition.specs.Types as Types;
-ghost use Rattle.definition.specs.Names.{register};
 ghost use Rattle.type_table.specs.Table.{typeTable};
 ghost use Rattle.walk.specs.Walk.{Ahead, fieldsAhead, fieldsIn};
-ghost use Rattle.survey.specs.Survey.{Surveys, typesThenNames, Ends};
+ghost use Rattle.survey.specs.Survey.{Surveys, UseRefused, NameRefused, Interns};
 
 // A refusal of types or names, unless an import ahead comes too late.
 pub fn late_first(s: &[u8], work: &[u32], from: Cursor, past: bool, r: Refusal) -> Surveyed
-    requires { ⌜ Ahead (now s) (now work) from × (importOrder (fieldsIn (now s)) ≡ importsFrom past (fieldsAhead from (now s))) × (typesThenNames (fieldsIn (now s)) ≡ refusedBy r) ⌝ }
+    requires { ⌜ UseRefused (now s) (now work) from past r ⌝ }
     ensures { λ a. ⌜ Surveys (now (s .entry)) (now (work .entry)) a (now (work .entry)) ⌝ }
 {
     let mut c = from;
@@ -32,7 +27,7 @@ pub fn late_first(s: &[u8], work: &[u32], from: Cursor, past: bool, r: Refusal) 
         let what = m.what;
         match what {
             What::Field(f, _) => {
-                match late_after(late, import_order::field_standing(f)) {
+                match late_after(late, f) {
                     Lateness::Fine(l) => {
                         late = l;
                     }
@@ -55,7 +50,7 @@ pub fn late_first(s: &[u8], work: &[u32], from: Cursor, past: bool, r: Refusal) 
 // The uses of the fields ahead.
 fn use_ahead(s: &[u8], work: &mut [u32], from: Cursor, types: u32) -> Used
     requires { ⌜ Lent (now s) (now work) × (types ≤ 256) × Ahead (now s) (now work) from × (Types.allTypes (fieldsIn (now s)) ≡ Types.intern (typeTable types (now s) (now work) TYPES) (Types.uses (fieldsAhead from (now s)))) ⌝ }
-    ensures { λ r. ⌜ Ends (now (s .entry)) (now (work .entry)) r (now (work .exit)) ⌝ }
+    ensures { λ r. ⌜ Interns (now (s .entry)) (now (work .entry)) r (now (work .exit)) ⌝ }
 {
     let mut c = from;
     let mut count = types;
@@ -90,7 +85,7 @@ pub fn types_first(
     count: u32,
     r: Refusal,
 ) -> Surveyed
-    requires { ⌜ Lent (now s) (now work) × (count ≤ 256) × Ahead (now s) (now work) c × (importOrder (fieldsIn (now s)) ≡ importsFrom late (fieldsAhead c (now s))) × (Types.allTypes (fieldsIn (now s)) ≡ Types.intern (typeTable count (now s) (now work) TYPES) (Types.uses (fieldsAhead c (now s)))) × (register sameBytes [] (fieldsIn (now s)) ≡ refusedBy r) ⌝ }
+    requires { ⌜ Lent (now s) (now work) × NameRefused (now s) (now work) c late count r ⌝ }
     ensures { λ a. ⌜ Surveys (now (s .entry)) (now (work .entry)) a (now (work .exit)) ⌝ }
 {
     match use_ahead(s, work, c, count) {

@@ -15,21 +15,31 @@ known-type-use-requires c κs = search known-externs
 enum-known-t : tie.Need-enum-known-t
 enum-known-t c = search needs
 
-returns : tie.Need-returns
-returns c = search known-externs
-
 enum-known-e : tie.Need-enum-known-e
 enum-known-e c = search needs
 
-returns-2 : tie.Need-returns-2
-returns-2 c = search known-externs
-
 enum-known-e-2 : tie.Need-enum-known-e-2
 enum-known-e-2 c = search needs
+
+returns : tie.Need-returns
+returns c = search known-externs
+
+returns-2 : tie.Need-returns-2
+returns-2 c = search known-externs
 
 returns-3 : tie.Need-returns-3
 returns-3 c = search known-externs
 
 pub known-extern-func-spec : {M : Type 1} → statement M
 known-extern-func-spec =
-    tie.close (tie.spec known-identifier-requires enum-known-id known-type-use-requires enum-known-t returns enum-known-e returns-2 enum-known-e-2 returns-3)
+    tie.close
+    (tie.spec
+    known-identifier-requires
+    enum-known-id
+    known-type-use-requires
+    enum-known-t
+    enum-known-e
+    enum-known-e-2
+    returns
+    returns-2
+    returns-3)

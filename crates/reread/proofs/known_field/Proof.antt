@@ -27,11 +27,11 @@ returns-2 c = search known-fields
 read-field-requires : tie.Need-read-field-requires
 read-field-requires c κs = search needs
 
-returns-3 : tie.Need-returns-3
-returns-3 c = search known-fields
-
 enum-known-e : tie.Need-enum-known-e
 enum-known-e c = search needs
+
+returns-3 : tie.Need-returns-3
+returns-3 c = search known-fields
 
 returns-4 : tie.Need-returns-4
 unfolding fieldRec
@@ -39,4 +39,15 @@ returns-4 c = search (ways, byte-not)
 
 pub known-field-spec : {M : Type 1} → statement M
 known-field-spec =
-    tie.close (tie.spec read-byte-requires enum-known-b known-import-requires returns known-func-requires returns-2 read-field-requires returns-3 enum-known-e returns-4)
+    tie.close
+    (tie.spec
+    read-byte-requires
+    enum-known-b
+    known-import-requires
+    returns
+    known-func-requires
+    returns-2
+    read-field-requires
+    enum-known-e
+    returns-3
+    returns-4)

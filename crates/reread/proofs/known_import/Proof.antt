@@ -28,18 +28,18 @@ returns c = search known-imports
 read-import-requires : tie.Need-read-import-requires
 read-import-requires c κs = search needs
 
-returns-2 : tie.Need-returns-2
-returns-2 c = search needs
-
 enum-known-e : tie.Need-enum-known-e
 enum-known-e c = search needs
+
+enum-known-e-2 : tie.Need-enum-known-e-2
+enum-known-e-2 c = search needs
+
+returns-2 : tie.Need-returns-2
+returns-2 c = search needs
 
 returns-3 : tie.Need-returns-3
 unfolding importRec
 returns-3 c = search (ways, answers, source-answers) depth 12
-
-enum-known-e-2 : tie.Need-enum-known-e-2
-enum-known-e-2 c = search needs
 
 returns-4 : tie.Need-returns-4
 unfolding importRec
@@ -47,4 +47,17 @@ returns-4 c = search (ways, answers, source-answers) depth 12
 
 pub known-import-spec : {M : Type 1} → statement M
 known-import-spec =
-    tie.close (tie.spec known-import-name-requires enum-known-name read-byte-requires enum-known-kind known-extern-func-requires returns read-import-requires returns-2 enum-known-e returns-3 enum-known-e-2 returns-4)
+    tie.close
+    (tie.spec
+    known-import-name-requires
+    enum-known-name
+    read-byte-requires
+    enum-known-kind
+    known-extern-func-requires
+    returns
+    read-import-requires
+    enum-known-e
+    enum-known-e-2
+    returns-2
+    returns-3
+    returns-4)

@@ -18,19 +18,19 @@ known-string-requires-2 c κs = search known-imports
 enum-known-item : tie.Need-enum-known-item
 enum-known-item c = search needs
 
+enum-known-e : tie.Need-enum-known-e
+enum-known-e c = search needs
+
+enum-known-e-2 : tie.Need-enum-known-e-2
+enum-known-e-2 c = search needs
+
 returns : tie.Need-returns
 unfolding importName
 returns c = search (ways, answers) depth 12
 
-enum-known-e : tie.Need-enum-known-e
-enum-known-e c = search needs
-
 returns-2 : tie.Need-returns-2
 unfolding importName
 returns-2 c = search (ways, answers) depth 12
-
-enum-known-e-2 : tie.Need-enum-known-e-2
-enum-known-e-2 c = search needs
 
 returns-3 : tie.Need-returns-3
 unfolding importName
@@ -38,4 +38,14 @@ returns-3 c = search (ways, answers) depth 12
 
 pub known-import-name-spec : {M : Type 1} → statement M
 known-import-name-spec =
-    tie.close (tie.spec known-string-requires enum-known-module known-string-requires-2 enum-known-item returns enum-known-e returns-2 enum-known-e-2 returns-3)
+    tie.close
+    (tie.spec
+    known-string-requires
+    enum-known-module
+    known-string-requires-2
+    enum-known-item
+    enum-known-e
+    enum-known-e-2
+    returns
+    returns-2
+    returns-3)

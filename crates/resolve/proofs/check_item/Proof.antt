@@ -1,4 +1,4 @@
-use Rattle.resolve.proofs.Functions.{func-second, func-third, item-func, item-ready, item-two}
+use Rattle.resolve.proofs.Functions.{func-second, func-third, item-func}
 use borrow.Author.Needs.{needs}
 use Rattle.resolve.proofs.check_item.Statement.{statement}
 use Rattle.resolve.proofs.check_item.Tie as tie
@@ -15,14 +15,8 @@ check-func-requires c κs = (search needs, search func-second, search func-third
 enum-told : tie.Need-enum-told
 enum-told c = search needs
 
-second-of-requires : tie.Need-second-of-requires
-second-of-requires c κs = search needs
-
-third-of-requires : tie.Need-third-of-requires
-third-of-requires c κs = search needs
-
 check-two-requires : tie.Need-check-two-requires
-check-two-requires c κs = (search needs, search item-ready, search item-ready, search needs)
+check-two-requires c κs = search needs
 
 same-length : tie.Need-same-length
 same-length c = search needs
@@ -52,7 +46,7 @@ same-length-8 : tie.Need-same-length-8
 same-length-8 c = search needs
 
 returns-2 : tie.Need-returns-2
-returns-2 c = search item-two
+returns-2 c = search needs
 
 pub check-item-spec : {M : Type 1} → statement M
 check-item-spec =
@@ -62,8 +56,6 @@ check-item-spec =
     enum-known-t
     check-func-requires
     enum-told
-    second-of-requires
-    third-of-requires
     check-two-requires
     same-length
     same-length-2

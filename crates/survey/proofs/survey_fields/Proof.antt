@@ -1,7 +1,7 @@
 use borrow.Author.Needs.{needs}
 use Rattle.walk.proofs.Steps.{visit-less, visit-few}
 use Rattle.survey.proofs.Registering.{registering-fit}
-use Rattle.survey.proofs.Surveying.{Surveying, surveying-begin, surveying-done, surveying-skips, surveying-late, surveying-order, surveying-again, surveying-refused, surveying-taken}
+use Rattle.survey.proofs.Surveying.{Surveying, surveying-begin, surveying-done, surveying-skips, surveying-late, surveying-order, surveying-again, surveying-stops, reaches-so}
 use Rattle.survey.proofs.survey_fields.Statement.{statement}
 use Rattle.survey.proofs.survey_fields.Tie as tie
 
@@ -23,9 +23,6 @@ visit-requires c κs = search needs
 enum-known-what : tie.Need-enum-known-what Inv-loop μ-loop
 enum-known-what c = search needs
 
-field-standing-requires : tie.Need-field-standing-requires Inv-loop μ-loop
-field-standing-requires c κs = search needs
-
 late-after-requires : tie.Need-late-after-requires Inv-loop μ-loop
 late-after-requires c κs = search needs
 
@@ -35,17 +32,20 @@ enum-known-l c = search needs
 enum-told : tie.Need-enum-told Inv-loop μ-loop
 enum-told c = search needs
 
+ended-by-requires : tie.Need-ended-by-requires Inv-loop μ-loop
+ended-by-requires c κs = search needs
+
 same-length : tie.Need-same-length Inv-loop μ-loop
 same-length c = search needs
 
 returns : tie.Need-returns Inv-loop μ-loop
-returns c = search surveying-late
+returns c = search (reaches-so, surveying-late)
 
 take-field-requires : tie.Need-take-field-requires Inv-loop μ-loop
 take-field-requires c κs = (search needs, search needs, search visit-few, search surveying-skips, search registering-fit)
 
-enum-known-k : tie.Need-enum-known-k Inv-loop μ-loop
-enum-known-k c = search needs
+enum-known-took : tie.Need-enum-known-took Inv-loop μ-loop
+enum-known-took c = search needs
 
 loop-less : tie.Need-loop-less Inv-loop μ-loop
 loop-less c = search visit-less
@@ -53,23 +53,14 @@ loop-less c = search visit-less
 loop-again : tie.Need-loop-again Inv-loop μ-loop
 loop-again c = search (surveying-again, surveying-order)
 
-enum-known-r : tie.Need-enum-known-r Inv-loop μ-loop
-enum-known-r c = search needs
+ended-by-requires-2 : tie.Need-ended-by-requires-2 Inv-loop μ-loop
+ended-by-requires-2 c κs = search needs
 
 same-length-2 : tie.Need-same-length-2 Inv-loop μ-loop
 same-length-2 c = search needs
 
 returns-2 : tie.Need-returns-2 Inv-loop μ-loop
-returns-2 c = search (surveying-refused, surveying-order)
-
-enum-known-r-2 : tie.Need-enum-known-r-2 Inv-loop μ-loop
-enum-known-r-2 c = search needs
-
-same-length-3 : tie.Need-same-length-3 Inv-loop μ-loop
-same-length-3 c = search needs
-
-returns-3 : tie.Need-returns-3 Inv-loop μ-loop
-returns-3 c = search (surveying-taken, surveying-order)
+returns-2 c = search (reaches-so, surveying-stops, surveying-order)
 
 enum-told-2 : tie.Need-enum-told-2 Inv-loop μ-loop
 enum-told-2 c = search needs
@@ -80,11 +71,14 @@ put-total-requires c κs = search needs
 put-counts-requires : tie.Need-put-counts-requires Inv-loop μ-loop
 put-counts-requires c κs = search needs
 
-same-length-4 : tie.Need-same-length-4 Inv-loop μ-loop
-same-length-4 c = search needs
+ended-by-requires-3 : tie.Need-ended-by-requires-3 Inv-loop μ-loop
+ended-by-requires-3 c κs = search needs
 
-returns-4 : tie.Need-returns-4 Inv-loop μ-loop
-returns-4 c = search surveying-done
+same-length-3 : tie.Need-same-length-3 Inv-loop μ-loop
+same-length-3 c = search needs
+
+returns-3 : tie.Need-returns-3 Inv-loop μ-loop
+returns-3 c = search (reaches-so, surveying-done)
 
 pub survey-fields-spec : {M : Type 1} → statement M
 survey-fields-spec =
@@ -96,24 +90,22 @@ survey-fields-spec =
     loop-holds
     visit-requires
     enum-known-what
-    field-standing-requires
     late-after-requires
     enum-known-l
     enum-told
+    ended-by-requires
     same-length
     returns
     take-field-requires
-    enum-known-k
+    enum-known-took
     loop-less
     loop-again
-    enum-known-r
+    ended-by-requires-2
     same-length-2
     returns-2
-    enum-known-r-2
-    same-length-3
-    returns-3
     enum-told-2
     put-total-requires
     put-counts-requires
-    same-length-4
-    returns-4)
+    ended-by-requires-3
+    same-length-3
+    returns-3)

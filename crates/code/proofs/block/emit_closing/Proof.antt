@@ -3,6 +3,9 @@ use borrow.Author.Needs.{needs}
 use Rattle.code.proofs.block.emit_closing.Statement.{statement}
 use Rattle.code.proofs.block.emit_closing.Tie as tie
 
+sub-closes : tie.Need-sub-closes
+sub-closes c = search needs
+
 closes-requires : tie.Need-closes-requires
 closes-requires c κs = search needs
 
@@ -27,4 +30,12 @@ returns-2 c = search (closing-to, closing-not) depth 12
 pub emit-closing-spec : {M : Type 1} → statement M
 emit-closing-spec =
     tie.close
-    (tie.spec closes-requires enum-told put-requires enum-known-q same-length returns returns-2)
+    (tie.spec
+    sub-closes
+    closes-requires
+    enum-told
+    put-requires
+    enum-known-q
+    same-length
+    returns
+    returns-2)

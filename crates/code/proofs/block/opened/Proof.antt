@@ -9,11 +9,17 @@ emit-opens-requires c κs = search needs
 enum-known-o : tie.Need-enum-known-o
 enum-known-o c = search needs
 
+sub-open-block : tie.Need-sub-open-block
+sub-open-block c = search needs
+
 open-block-requires : tie.Need-open-block-requires
 open-block-requires c κs = search needs
 
-add-t22 : tie.Need-add-t22
-add-t22 c = search needs
+add-go-on : tie.Need-add-go-on
+add-go-on c = search needs
+
+go-on-requires : tie.Need-go-on-requires
+go-on-requires c κs = search needs
 
 enum-known-q : tie.Need-enum-known-q
 enum-known-q c = search needs
@@ -42,8 +48,10 @@ opened-spec =
     (tie.spec
     emit-opens-requires
     enum-known-o
+    sub-open-block
     open-block-requires
-    add-t22
+    add-go-on
+    go-on-requires
     enum-known-q
     same-length
     same-length-2

@@ -1,29 +1,26 @@
 use borrow.Author.Needs.{needs}
-use Rattle.code.proofs.Bodies.{Going, goings, going-begin, going-area, going-work, going-out}
+use Rattle.code.proofs.Bodies.{Going, goings, going-begin, going-area, going-inside, going-resolvable, going-less, going-work, going-out}
 use Prim.Native.Nat.{_-_}
 use Rattle.code.proofs.body.emit_body.Statement.{statement}
 use Rattle.code.proofs.body.emit_body.Tie as tie
 
 abbrev Inv-loop : tie.InvT-loop
-Inv-loop s work₀ out₀ at place rec l o₀ here₀ r₀ k₀ work out o here r k = Going s work₀ l rec place out₀ at work out o here r k
+Inv-loop s work₀ out₀ at here rec l o₀ p₀ work out o p = Going s work₀ l rec here out₀ at work out o p
 
 abbrev μ-loop : tie.MeasureT-loop
-μ-loop s work₀ out₀ at place rec l o₀ here₀ r₀ k₀ work out o here r k = 4096 - r
+μ-loop s work₀ out₀ at here rec l o₀ p₀ work out o p = 4096 - p .rec
 
 loop-holds : tie.Need-loop-holds Inv-loop μ-loop
 loop-holds c = search going-begin
 
 one-record-requires : tie.Need-one-record-requires Inv-loop μ-loop
-one-record-requires c κs = search (going-area, needs)
+one-record-requires c κs = search (going-area, going-inside, going-resolvable, needs)
 
-enum-known-p : tie.Need-enum-known-p Inv-loop μ-loop
-enum-known-p c = search needs
-
-add-r : tie.Need-add-r Inv-loop μ-loop
-add-r c = search needs
+enum-known-a : tie.Need-enum-known-a Inv-loop μ-loop
+enum-known-a c = search needs
 
 loop-less : tie.Need-loop-less Inv-loop μ-loop
-loop-less c = search needs
+loop-less c = search going-less
 
 loop-again : tie.Need-loop-again Inv-loop μ-loop
 loop-again c = search (goings) depth 12
@@ -69,8 +66,7 @@ emit-body-spec =
     μ-loop
     loop-holds
     one-record-requires
-    enum-known-p
-    add-r
+    enum-known-a
     loop-less
     loop-again
     enum-told

@@ -1,4 +1,4 @@
-use Rattle.code.proofs.Bodies.{forms, opening-uses, calling-uses, opening-gets, elsing-gets, ending-gets, plain-gets}
+use Rattle.code.proofs.Bodies.{forms, in-low, in-place, opening-uses, calling-uses, opening-gets, elsing-gets, ending-gets, plain-gets}
 use borrow.Author.Needs.{needs}
 use Rattle.code.proofs.body.one_record.Statement.{statement}
 use Rattle.code.proofs.body.one_record.Tie as tie
@@ -19,31 +19,31 @@ enum-told-2 : tie.Need-enum-told-2
 enum-told-2 c = search needs
 
 opens-record-requires : tie.Need-opens-record-requires
-opens-record-requires c κs = search (opening-uses, opening-gets, needs)
+opens-record-requires c κs = search (opening-uses, opening-gets, in-low, in-place, needs)
 
 enum-told-3 : tie.Need-enum-told-3
 enum-told-3 c = search needs
 
-else-record-requires : tie.Need-else-record-requires
-else-record-requires c κs = search (elsing-gets, needs)
+closing-record-requires : tie.Need-closing-record-requires
+closing-record-requires c κs = search (elsing-gets, in-low, in-place, needs)
 
 enum-told-4 : tie.Need-enum-told-4
 enum-told-4 c = search needs
 
-end-record-requires : tie.Need-end-record-requires
-end-record-requires c κs = search (ending-gets, needs)
+closing-record-requires-2 : tie.Need-closing-record-requires-2
+closing-record-requires-2 c κs = search (ending-gets, in-low, in-place, needs)
 
 enum-told-5 : tie.Need-enum-told-5
 enum-told-5 c = search needs
 
 indirect-record-requires : tie.Need-indirect-record-requires
-indirect-record-requires c κs = search (calling-uses, needs)
+indirect-record-requires c κs = search (calling-uses, in-low, in-place, needs)
 
 enum-known-what : tie.Need-enum-known-what
 enum-known-what c = search needs
 
 plain-record-requires : tie.Need-plain-record-requires
-plain-record-requires c κs = search (plain-gets, needs)
+plain-record-requires c κs = search (plain-gets, in-low, in-place, needs)
 
 enum-told-6 : tie.Need-enum-told-6
 enum-told-6 c = search needs
@@ -110,9 +110,9 @@ one-record-spec =
     enum-told-2
     opens-record-requires
     enum-told-3
-    else-record-requires
+    closing-record-requires
     enum-told-4
-    end-record-requires
+    closing-record-requires-2
     enum-told-5
     indirect-record-requires
     enum-known-what

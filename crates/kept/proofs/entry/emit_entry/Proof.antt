@@ -1,25 +1,16 @@
-use Rattle.kept.proofs.Emitting.{code-use, code-body, code-head, code-emits, other-emits, ready-uses}
+use Rattle.kept.proofs.Emitting.{code-use, code-body, code-head, code-emits, not-code, other-emits, ready-uses}
 use borrow.Author.Needs.{needs}
 use Rattle.kept.proofs.entry.emit_entry.Statement.{statement}
 use Rattle.kept.proofs.entry.emit_entry.Tie as tie
 
-code-in-requires : tie.Need-code-in-requires
-code-in-requires c κs = search needs
-
-enum-known-c : tie.Need-enum-known-c
-enum-known-c c = search needs
+enum-known-e : tie.Need-enum-known-e
+enum-known-e c = search needs
 
 emit-func-requires : tie.Need-emit-func-requires
 emit-func-requires c κs = (search needs, search code-use, search code-body, search code-head)
 
 one-end-requires : tie.Need-one-end-requires
 one-end-requires c κs = search needs
-
-enum-told : tie.Need-enum-told
-enum-told c = search needs
-
-emit-other-requires : tie.Need-emit-other-requires
-emit-other-requires c κs = (search needs, search ready-uses)
 
 same-length : tie.Need-same-length
 same-length c = search needs
@@ -29,6 +20,9 @@ same-length-2 c = search needs
 
 returns : tie.Need-returns
 returns c = search code-emits
+
+emit-other-requires : tie.Need-emit-other-requires
+emit-other-requires c κs = (search needs, search not-code, search ready-uses)
 
 same-length-3 : tie.Need-same-length-3
 same-length-3 c = search needs
@@ -43,15 +37,13 @@ pub emit-entry-spec : {M : Type 1} → statement M
 emit-entry-spec =
     tie.close
     (tie.spec
-    code-in-requires
-    enum-known-c
+    enum-known-e
     emit-func-requires
     one-end-requires
-    enum-told
-    emit-other-requires
     same-length
     same-length-2
     returns
+    emit-other-requires
     same-length-3
     same-length-4
     returns-2)

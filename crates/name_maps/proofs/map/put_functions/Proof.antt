@@ -9,8 +9,11 @@ Inv-loop s work out₀ at left₀ place₀ x₀ out left place x = Naming s work
 abbrev μ-loop : tie.MeasureT-loop
 μ-loop s work out₀ at left₀ place₀ x₀ out left place x = left
 
-function-count-requires : tie.Need-function-count-requires Inv-loop μ-loop
-function-count-requires c κs = search needs
+name-count-requires : tie.Need-name-count-requires Inv-loop μ-loop
+name-count-requires c κs = search needs
+
+table-base-requires : tie.Need-table-base-requires Inv-loop μ-loop
+table-base-requires c κs = search needs
 
 begin-requires : tie.Need-begin-requires Inv-loop μ-loop
 begin-requires c κs = search needs
@@ -45,7 +48,8 @@ put-functions-spec =
     (tie.spec
     Inv-loop
     μ-loop
-    function-count-requires
+    name-count-requires
+    table-base-requires
     begin-requires
     loop-holds
     put-place-requires

@@ -6,8 +6,11 @@ use Rattle.plain.proofs.record.other_record.Tie as tie
 read-plain-requires : tie.Need-read-plain-requires
 read-plain-requires c κs = search needs
 
-enum-known-p : tie.Need-enum-known-p
-enum-known-p c = search needs
+enum-known-x : tie.Need-enum-known-x
+enum-known-x c = search needs
+
+sub-emit-plain : tie.Need-sub-emit-plain
+sub-emit-plain c = search needs
 
 emit-plain-requires : tie.Need-emit-plain-requires
 emit-plain-requires c κs = search needs
@@ -32,7 +35,8 @@ other-record-spec =
     tie.close
     (tie.spec
     read-plain-requires
-    enum-known-p
+    enum-known-x
+    sub-emit-plain
     emit-plain-requires
     go-on-requires
     enum-told

@@ -1,11 +1,14 @@
 use Rattle.kept.proofs.Emitting.{section-below}
-use Rattle.resolve.proofs.Checking.{in-sizes, entry-fine, entry-not}
+use Rattle.resolve.proofs.Checking.{in-sizes, entry-none, entry-fine, entry-not}
 use borrow.Author.Needs.{needs}
 use Rattle.resolve.proofs.entry.check_entry.Statement.{statement}
 use Rattle.resolve.proofs.entry.check_entry.Tie as tie
 
 section-of-requires : tie.Need-section-of-requires
 section-of-requires c κs = search needs
+
+returns : tie.Need-returns
+returns c = search entry-none
 
 cast-from : tie.Need-cast-from
 cast-from c = search needs
@@ -40,8 +43,8 @@ same-length-3 c = search needs
 same-length-4 : tie.Need-same-length-4
 same-length-4 c = search needs
 
-returns : tie.Need-returns
-returns c = search entry-fine
+returns-2 : tie.Need-returns-2
+returns-2 c = search entry-fine
 
 same-length-5 : tie.Need-same-length-5
 same-length-5 c = search needs
@@ -49,14 +52,15 @@ same-length-5 c = search needs
 same-length-6 : tie.Need-same-length-6
 same-length-6 c = search needs
 
-returns-2 : tie.Need-returns-2
-returns-2 c = search entry-not
+returns-3 : tie.Need-returns-3
+returns-3 c = search entry-not
 
 pub check-entry-spec : {M : Type 1} → statement M
 check-entry-spec =
     tie.close
     (tie.spec
     section-of-requires
+    returns
     cast-from
     mul-from
     slice-read-from
@@ -68,7 +72,7 @@ check-entry-spec =
     same-length-2
     same-length-3
     same-length-4
-    returns
+    returns-2
     same-length-5
     same-length-6
-    returns-2)
+    returns-3)

@@ -1,4 +1,4 @@
-use Rattle.resolve.proofs.Functions.{own-func}
+use Rattle.resolve.proofs.Functions.{own-func, own-other, source-other}
 use borrow.Author.Needs.{needs}
 use Rattle.resolve.proofs.func.func_in.Statement.{statement}
 use Rattle.resolve.proofs.func.func_in.Tie as tie
@@ -9,61 +9,14 @@ enum-known-x c = search needs
 enum-known-o : tie.Need-enum-known-o
 enum-known-o c = search needs
 
-enum-told : tie.Need-enum-told
-enum-told c = search needs
-
-enum-told-2 : tie.Need-enum-told-2
-enum-told-2 c = search needs
-
-enum-told-3 : tie.Need-enum-told-3
-enum-told-3 c = search needs
-
-enum-told-4 : tie.Need-enum-told-4
-enum-told-4 c = search needs
-
-enum-told-5 : tie.Need-enum-told-5
-enum-told-5 c = search needs
-
-enum-told-6 : tie.Need-enum-told-6
-enum-told-6 c = search needs
-
 returns : tie.Need-returns
 returns c = search own-func
 
 returns-2 : tie.Need-returns-2
-returns-2 c = search needs
+returns-2 c = search own-other
 
 returns-3 : tie.Need-returns-3
-returns-3 c = search needs
-
-returns-4 : tie.Need-returns-4
-returns-4 c = search needs
-
-returns-5 : tie.Need-returns-5
-returns-5 c = search needs
-
-returns-6 : tie.Need-returns-6
-returns-6 c = search needs
-
-returns-7 : tie.Need-returns-7
-returns-7 c = search needs
+returns-3 c = search source-other
 
 pub func-in-spec : {M : Type 1} → statement M
-func-in-spec =
-    tie.close
-    (tie.spec
-    enum-known-x
-    enum-known-o
-    enum-told
-    enum-told-2
-    enum-told-3
-    enum-told-4
-    enum-told-5
-    enum-told-6
-    returns
-    returns-2
-    returns-3
-    returns-4
-    returns-5
-    returns-6
-    returns-7)
+func-in-spec = tie.close (tie.spec enum-known-x enum-known-o returns returns-2 returns-3)

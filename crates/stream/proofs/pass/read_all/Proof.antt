@@ -9,8 +9,8 @@ returns c = search (too-long, too-short, walked) depth 6
 returns-2 : tie.Need-returns-2
 returns-2 c = search (too-long, too-short, walked) depth 6
 
-walk-requires : tie.Need-walk-requires
-walk-requires c κs = search needs
+read-records-requires : tie.Need-read-records-requires
+read-records-requires c κs = search needs
 
 same-length : tie.Need-same-length
 same-length c = search needs
@@ -19,4 +19,4 @@ returns-3 : tie.Need-returns-3
 returns-3 c = search (too-long, too-short, walked) depth 6
 
 pub read-all-spec : {M : Type 1} → statement M
-read-all-spec = tie.close (tie.spec returns returns-2 walk-requires same-length returns-3)
+read-all-spec = tie.close (tie.spec returns returns-2 read-records-requires same-length returns-3)

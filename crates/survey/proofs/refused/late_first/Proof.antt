@@ -5,10 +5,10 @@ use Rattle.survey.proofs.refused.late_first.Statement.{statement}
 use Rattle.survey.proofs.refused.late_first.Tie as tie
 
 abbrev Inv-loop : tie.InvT-loop
-Inv-loop s work past n r c₀ late₀ c late = Passing s work c late
+Inv-loop s work past r c₀ late₀ c late = Passing s work c late
 
 abbrev μ-loop : tie.MeasureT-loop
-μ-loop s work past n r c₀ late₀ c late = c .left
+μ-loop s work past r c₀ late₀ c late = c .left
 
 loop-holds : tie.Need-loop-holds Inv-loop μ-loop
 loop-holds c = search passing-begin
@@ -18,9 +18,6 @@ visit-requires c κs = search needs
 
 enum-known-what : tie.Need-enum-known-what Inv-loop μ-loop
 enum-known-what c = search needs
-
-field-standing-requires : tie.Need-field-standing-requires Inv-loop μ-loop
-field-standing-requires c κs = search needs
 
 late-after-requires : tie.Need-late-after-requires Inv-loop μ-loop
 late-after-requires c κs = search needs
@@ -55,7 +52,6 @@ late-first-spec =
     loop-holds
     visit-requires
     enum-known-what
-    field-standing-requires
     late-after-requires
     enum-known-l
     enum-told

@@ -1,7 +1,7 @@
-use Rattle.scope.proofs.Items.{count-place, count-few, count-all}
+use Rattle.name_table.proofs.Tables.{count-place, count-few, count-all}
 use borrow.Author.Needs.{needs}
-use Rattle.scope.proofs.item.name_count.Statement.{statement}
-use Rattle.scope.proofs.item.name_count.Tie as tie
+use Rattle.name_table.proofs.spaces.name_count.Statement.{statement}
+use Rattle.name_table.proofs.spaces.name_count.Tie as tie
 
 space-code-requires : tie.Need-space-code-requires
 space-code-requires c κs = search needs

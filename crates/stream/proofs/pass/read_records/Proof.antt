@@ -1,8 +1,8 @@
 use Prim.Native.Nat.{_-_}
-use Rattle.stream.proofs.Loop.{Going, begin, end-in-body, end-accepted, full-walk, less-field, again-field, refused-field, less-instr, again-first, again-second, end-fits, end-few, ended-fits, less-end, again-end, refused-instr}
+use Rattle.stream.proofs.Loop.{Going, begin, walk-ends, walk-refused, full-walk, less-field, again-field, refused-field, less-instr, again-first, again-second, end-fits, end-few, ended-fits, less-end, again-end, refused-instr}
 use borrow.Author.Needs.{needs}
-use Rattle.stream.proofs.pass.walk.Statement.{statement}
-use Rattle.stream.proofs.pass.walk.Tie as tie
+use Rattle.stream.proofs.pass.read_records.Statement.{statement}
+use Rattle.stream.proofs.pass.read_records.Tie as tie
 
 abbrev Inv-loop : tie.InvT-loop
 Inv-loop s work₀ p₀ seen₀ ended₀ used₀ work p seen ended used = Going s work₀ p seen ended used work
@@ -10,35 +10,35 @@ Inv-loop s work₀ p₀ seen₀ ended₀ used₀ work p seen ended used = Going 
 abbrev μ-loop : tie.MeasureT-loop
 μ-loop s work₀ p₀ seen₀ ended₀ used₀ work p seen ended used = 4097 - p .rec
 
+start-requires : tie.Need-start-requires Inv-loop μ-loop
+start-requires c κs = search needs
+
 none-requires : tie.Need-none-requires Inv-loop μ-loop
 none-requires c κs = search needs
 
 loop-holds : tie.Need-loop-holds Inv-loop μ-loop
 loop-holds c = search begin
 
+at-end-requires : tie.Need-at-end-requires Inv-loop μ-loop
+at-end-requires c κs = search needs
+
 same-length : tie.Need-same-length Inv-loop μ-loop
 same-length c = search needs
 
 returns : tie.Need-returns Inv-loop μ-loop
-returns c = search end-in-body
+returns c = search walk-ends
 
-put-counts-requires : tie.Need-put-counts-requires Inv-loop μ-loop
-put-counts-requires c κs = search needs
+too-many-requires : tie.Need-too-many-requires Inv-loop μ-loop
+too-many-requires c κs = search needs
+
+refused-requires : tie.Need-refused-requires Inv-loop μ-loop
+refused-requires c κs = search needs
 
 same-length-2 : tie.Need-same-length-2 Inv-loop μ-loop
 same-length-2 c = search needs
 
 returns-2 : tie.Need-returns-2 Inv-loop μ-loop
-returns-2 c = search end-accepted
-
-too-many-requires : tie.Need-too-many-requires Inv-loop μ-loop
-too-many-requires c κs = search needs
-
-same-length-3 : tie.Need-same-length-3 Inv-loop μ-loop
-same-length-3 c = search needs
-
-returns-3 : tie.Need-returns-3 Inv-loop μ-loop
-returns-3 c = search full-walk
+returns-2 c = search (walk-refused, full-walk)
 
 next-field-requires : tie.Need-next-field-requires Inv-loop μ-loop
 next-field-requires c κs = search needs
@@ -58,11 +58,14 @@ loop-again c = search again-field
 enum-known-what-2 : tie.Need-enum-known-what-2 Inv-loop μ-loop
 enum-known-what-2 c = search needs
 
-same-length-4 : tie.Need-same-length-4 Inv-loop μ-loop
-same-length-4 c = search needs
+refused-requires-2 : tie.Need-refused-requires-2 Inv-loop μ-loop
+refused-requires-2 c κs = search needs
 
-returns-4 : tie.Need-returns-4 Inv-loop μ-loop
-returns-4 c = search refused-field
+same-length-3 : tie.Need-same-length-3 Inv-loop μ-loop
+same-length-3 c = search needs
+
+returns-3 : tie.Need-returns-3 Inv-loop μ-loop
+returns-3 c = search (walk-refused, refused-field)
 
 next-instr-requires : tie.Need-next-instr-requires Inv-loop μ-loop
 next-instr-requires c κs = search needs
@@ -100,36 +103,40 @@ loop-again-4 c = search again-end
 enum-known-what-4 : tie.Need-enum-known-what-4 Inv-loop μ-loop
 enum-known-what-4 c = search needs
 
-same-length-5 : tie.Need-same-length-5 Inv-loop μ-loop
-same-length-5 c = search needs
+refused-requires-3 : tie.Need-refused-requires-3 Inv-loop μ-loop
+refused-requires-3 c κs = search needs
 
-returns-5 : tie.Need-returns-5 Inv-loop μ-loop
-returns-5 c = search refused-instr
+same-length-4 : tie.Need-same-length-4 Inv-loop μ-loop
+same-length-4 c = search needs
 
-pub walk-spec : {M : Type 1} → statement M
-walk-spec =
+returns-4 : tie.Need-returns-4 Inv-loop μ-loop
+returns-4 c = search (walk-refused, refused-instr)
+
+pub read-records-spec : {M : Type 1} → statement M
+read-records-spec =
     tie.close
     (tie.spec
     Inv-loop
     μ-loop
+    start-requires
     none-requires
     loop-holds
+    at-end-requires
     same-length
     returns
-    put-counts-requires
+    too-many-requires
+    refused-requires
     same-length-2
     returns-2
-    too-many-requires
-    same-length-3
-    returns-3
     next-field-requires
     enum-known-what
     with-field-requires
     loop-less
     loop-again
     enum-known-what-2
-    same-length-4
-    returns-4
+    refused-requires-2
+    same-length-3
+    returns-3
     next-instr-requires
     enum-known-what-3
     loop-less-2
@@ -142,5 +149,6 @@ walk-spec =
     loop-less-4
     loop-again-4
     enum-known-what-4
-    same-length-5
-    returns-5)
+    refused-requires-3
+    same-length-4
+    returns-4)

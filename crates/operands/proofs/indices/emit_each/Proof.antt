@@ -1,16 +1,14 @@
 use borrow.Author.Needs.{needs}
 use Rattle.operands.proofs.Turns.{Resolving, each-begin, each-again, each-halts, each-fault, each-done, each-long}
-use Rattle.operands.specs.Operands.{depthBytes}
-use Rattle.scope.specs.Scope.{scopeIn, labelsIn}
-use Rattle.definition.specs.Names.{depthOf}
-use Rattle.operands.proofs.indices.emit_each_label.Statement.{statement}
-use Rattle.operands.proofs.indices.emit_each_label.Tie as tie
+use Rattle.operands.specs.Operands.{bytesOf, targetOf}
+use Rattle.operands.proofs.indices.emit_each.Statement.{statement}
+use Rattle.operands.proofs.indices.emit_each.Tie as tie
 
 abbrev Inv-loop : tie.InvT-loop
-Inv-loop out₀ at s work blocks rec o₀ here₀ left₀ out o here left = Resolving (depthOf (scopeIn s work) (labelsIn s work blocks) rec) depthBytes s here₀ left₀ out₀ at here left o out
+Inv-loop s work out₀ at to rec o₀ here₀ left₀ out o here left = Resolving (targetOf s work to rec) (bytesOf to) s here₀ left₀ out₀ at here left o out
 
 abbrev μ-loop : tie.MeasureT-loop
-μ-loop out₀ at s work blocks rec o₀ here₀ left₀ out o here left = left
+μ-loop s work out₀ at to rec o₀ here₀ left₀ out o here left = left
 
 loop-holds : tie.Need-loop-holds Inv-loop μ-loop
 loop-holds c = search each-begin
@@ -21,8 +19,8 @@ read-present-requires c κs = search needs
 enum-known-x : tie.Need-enum-known-x Inv-loop μ-loop
 enum-known-x c = search needs
 
-emit-depth-requires : tie.Need-emit-depth-requires Inv-loop μ-loop
-emit-depth-requires c κs = search needs
+emit-index-requires : tie.Need-emit-index-requires Inv-loop μ-loop
+emit-index-requires c κs = search needs
 
 enum-known-a : tie.Need-enum-known-a Inv-loop μ-loop
 enum-known-a c = search needs
@@ -60,8 +58,8 @@ same-length-3 c = search each-long
 returns-3 : tie.Need-returns-3 Inv-loop μ-loop
 returns-3 c = search each-done
 
-pub emit-each-label-spec : {M : Type 1} → statement M
-emit-each-label-spec =
+pub emit-each-spec : {M : Type 1} → statement M
+emit-each-spec =
     tie.close
     (tie.spec
     Inv-loop
@@ -69,7 +67,7 @@ emit-each-label-spec =
     loop-holds
     read-present-requires
     enum-known-x
-    emit-depth-requires
+    emit-index-requires
     enum-known-a
     sub-left
     loop-less

@@ -1,7 +1,7 @@
-use Rattle.registration.proofs.Items.{takens}
+use Rattle.name_table.proofs.Walk.{takens}
 use borrow.Author.Needs.{needs}
-use Rattle.registration.proofs.item.is_taken.Statement.{statement}
-use Rattle.registration.proofs.item.is_taken.Tie as tie
+use Rattle.name_table.proofs.table.is_taken.Statement.{statement}
+use Rattle.name_table.proofs.table.is_taken.Tie as tie
 
 returns : tie.Need-returns
 returns c = search (takens) depth 12

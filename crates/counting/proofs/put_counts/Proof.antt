@@ -1,14 +1,14 @@
 use Prim.Native.Nat.{_-_}
-use Rattle.stream.proofs.Loop.{Counting, counting-begin, counting-again, counting-done, counting-long}
+use Rattle.counting.proofs.Words.{Counting, counting-begin, counting-again, counting-done, counting-long}
 use borrow.Author.Needs.{needs}
-use Rattle.stream.proofs.pass.put_counts.Statement.{statement}
-use Rattle.stream.proofs.pass.put_counts.Tie as tie
+use Rattle.counting.proofs.put_counts.Statement.{statement}
+use Rattle.counting.proofs.put_counts.Tie as tie
 
 abbrev Inv-loop : tie.InvT-loop
-Inv-loop work₀ counts i₀ work i = Counting work₀ counts work i
+Inv-loop work₀ at counts i₀ work i = Counting work₀ counts at work i
 
 abbrev μ-loop : tie.MeasureT-loop
-μ-loop work₀ counts i₀ work i = 7 - i
+μ-loop work₀ at counts i₀ work i = 7 - i
 
 loop-holds : tie.Need-loop-holds Inv-loop μ-loop
 loop-holds c = search counting-begin
@@ -18,6 +18,9 @@ mul-work c = search needs
 
 array-read-work : tie.Need-array-read-work Inv-loop μ-loop
 array-read-work c = search needs
+
+add-work : tie.Need-add-work Inv-loop μ-loop
+add-work c = search needs
 
 mul-work-2 : tie.Need-mul-work-2 Inv-loop μ-loop
 mul-work-2 c = search needs
@@ -49,6 +52,7 @@ put-counts-spec =
     loop-holds
     mul-work
     array-read-work
+    add-work
     mul-work-2
     slice-write-work
     add-i
