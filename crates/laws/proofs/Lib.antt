@@ -11,6 +11,7 @@ pub mod Passing
 pub mod Readers
 pub mod Reading
 pub mod Sets
+pub mod Smallest
 pub mod Table
 pub mod Uses
 pub mod Ways
