@@ -1,3 +1,4 @@
+pub mod Asked
 pub mod Backwards
 pub mod Bodies
 pub mod Declared
