@@ -14,5 +14,6 @@ pub mod Reading
 pub mod Sets
 pub mod Smallest
 pub mod Table
+pub mod TypeSection
 pub mod Uses
 pub mod Ways
