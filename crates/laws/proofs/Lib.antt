@@ -6,6 +6,7 @@ pub mod Exits
 pub mod GroupCount
 pub mod Groups
 pub mod Interning
+pub mod NoTypeTooMany
 pub mod OneSpelling
 pub mod Passes
 pub mod Passing
