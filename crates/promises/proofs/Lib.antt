@@ -3,4 +3,5 @@ pub mod OneAnswer
 pub mod Demand1
 pub mod Demand3
 pub mod NamesAfter
+pub mod Types
 pub mod Shutouts

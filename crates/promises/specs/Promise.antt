@@ -5,7 +5,9 @@ use Prim.Native.Nat.{ℕ, _<_}
 use lib.ListN.{length, take, getD, replicate}
 use Rattle.definition.specs.Basic.{Answer, ok, refused}
 use Rattle.definition.specs.Syntax.{Bytes, Identifier, Rec}
+use Rattle.definition.specs.Read.{read}
 use Rattle.definition.specs.Assemble.{Outcome}
+use Rattle.laws.specs.TypeLists.{NoTypeTooMany}
 use Rattle.renaming.specs.Renamed.{namesOf}
 use Rattle.writers.specs.declared.Said.{Said}
 
@@ -59,3 +61,13 @@ pub record NamesAfter (section : Bytes) (a b : Outcome) : Type 0 where
   pub number′ : b .number ≡ 0
   pub rec : a .rec ≡ b .rec
   pub bytes : take (a .written) (a .output) ≡ take (b .written) (b .output) ++ section
+
+-- ## No type too many (document 02, §14)
+
+-- the call has accepted the stream and written a module: the types in its section 1 begin with the declared ones in order, hold an equal signature for
+-- each use that takes or adds a type, and no list that does so has fewer (crates/laws/specs/TypeLists.antt)
+pub record FewestTypes (s : Bytes) (o : Outcome) : Type 0 where
+  pub number : o .number ≡ 0
+  pub records : List (Rec Identifier)
+  pub reads : read s ≡ ok records
+  pub types : NoTypeTooMany records (take (o .written) (o .output))
