@@ -8,6 +8,7 @@ pub mod Groups
 pub mod Interning
 pub mod NoTypeTooMany
 pub mod OneSpelling
+pub mod OneTypeList
 pub mod Passes
 pub mod Passing
 pub mod Readers

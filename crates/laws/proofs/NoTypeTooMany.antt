@@ -21,6 +21,7 @@ use Rattle.laws.proofs.Interning.{came, intern-keeps}
 use Rattle.laws.proofs.Smallest.{Enough, least, enough}
 use Rattle.laws.proofs.Asked.{declared-records, uses-records}
 use Rattle.laws.proofs.TypeSection.{module-holds}
+use Rattle.laws.proofs.OneTypeList.{one-type-list}
 
 -- ## Over the definition
 
@@ -74,7 +75,13 @@ pub module-smallest : (s : Bytes) (rs : List (Rec Identifier)) → read s ≡ ok
     → (is : List Item) → itemsIn Γ (deinline rs) ≡ ok is → (bs : Bytes) → (at bs 0 ≡ some 1 → ⊥) → NoTypeTooMany rs (module′ is ++ bs)
 module-smallest s rs e eq Γ f is g bs n =
     let a = scope-types eq (deinline rs) Γ f in
-    record { types = Γ .allTypes; held = module-holds Γ (deinline rs) is bs a g n; smallest = smallest s rs e (Γ .allTypes) a }
+    let h = module-holds Γ (deinline rs) is bs a g n in
+    record {
+      types = Γ .allTypes;
+      held = h;
+      only = λ ts k. one-type-list ts (Γ .allTypes) (module′ is ++ bs) k h;
+      smallest = smallest s rs e (Γ .allTypes) a;
+    }
 
 nothing-first : at {A = ℕ} [] 0 ≡ some 1 → ⊥
 unfolding at

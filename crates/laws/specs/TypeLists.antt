@@ -115,10 +115,11 @@ pub record HoldsTypes (ts : List FuncType) (m : Bytes) : Type 0 where
   pub is : m ≡ Binary.preamble ++ Binary.sectionOf 1 (map Binary.funcType ts) ++ after
   pub no-other : at after 0 ≡ some 1 → ⊥
 
--- the types in section 1 of a module are the smallest list
+-- the types in section 1 of a module, and no others are in it, are the smallest list
 pub record NoTypeTooMany {I : Type 0} (rs : List (Rec I)) (m : Bytes) : Type 0 where
   pub types : List FuncType
   pub held : HoldsTypes types m
+  pub only : (ts : List FuncType) → HoldsTypes ts m → ts ≡ types
   pub smallest : Smallest rs types
 
 -- whatever a maker writes of the records of a stream: what each call has to show
