@@ -8,7 +8,7 @@ use lib.Dec.{eqb, leb}
 use lib.ListN.{length}
 use borrow.Author.Tests.{leb-true, leb-false}
 use native.Mathlib.Omega.{arith}
-use Rattle.definition.specs.Basic.{if_then_else_, Answer, ok, refused, concatMap}
+use Rattle.definition.specs.Basic.{if_then_else_, ok, concatMap}
 use Rattle.definition.specs.Syntax as Syntax
 use Rattle.definition.specs.Syntax.{Bytes, Identifier, Space, FuncType, ExternType, Index, absent, number, named, TypeUse, Instr, Own, Source, FieldRec, Rec, field, instr, bodyEnd}
 use Rattle.definition.specs.Reader.{Step, got, fault, onward, require, give, byte, _>>=_, _>>_}
@@ -18,7 +18,7 @@ use Rattle.definition.specs.Read.{Seen, seenAfter, bodyAfter, ownBody, sourceBo
 use Rattle.definition.specs.Spaces.{sourceSpace, brings, count}
 use Rattle.definition.specs.Deinline.{Numbered, sourceFields, fieldsOf, bodyOf, deinlineFrom, deinline}
 use Rattle.definition.specs.Types.{Uses, signature, isShort, unlessIndexed, useOf, instrUses, bodyUses, externUses, ownUses, fieldUses, uses, declaredBy, declared, usedAt}
-use Rattle.laws.specs.TypeLists.{askedBy, useAsks, instrAsks, externAsks, ownAsks, sourceAsks, fieldAsks, asks, asked, fieldDeclares, declares, declaredIn}
+use Rattle.laws.specs.TypeLists.{askedBy, useAsks, instrAsks, externAsks, ownAsks, sourceAsks, fieldAsks, asked, fieldDeclares, declaredIn}
 use Rattle.laws.proofs.Backwards.{came, passed}
 use Rattle.laws.proofs.Reading.{records-end, records-full, accepted-next}
 use Rattle.laws.proofs.Declared.{declared-append, item-declares}

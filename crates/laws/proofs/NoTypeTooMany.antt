@@ -1,13 +1,13 @@
 -- No type too many (document 02, §14): the types of an accepted stream serve it, no list that does has fewer, and they are what section 1 holds.
 use Prim.Native.Nat.{ℕ, _≤_}
-use mathlib.Core.Path.{_≡_, refl, ap, _∙_, sym}
+use mathlib.Core.Path.{_≡_, ap, _∙_, sym}
 use mathlib.Core.Bool.{Bool, true, false}
 use mathlib.Core.List.{List, [], _∷_, _++_, append-nil}
-use mathlib.Core.Option.{none, some}
+use mathlib.Core.Option.{some}
 use lib.Dec.{leb}
 use lib.ListN.{length}
 use native.Mathlib.Omega.{arith}
-use Rattle.definition.specs.Basic.{if_then_else_, Answer, ok, refused, _>>=_, sameBytes, at}
+use Rattle.definition.specs.Basic.{if_then_else_, ok, refused, _>>=_, sameBytes, at}
 use Rattle.definition.specs.Syntax.{Bytes, Identifier, funcs, FuncType, Rec, Item}
 use Rattle.definition.specs.Read.{read}
 use Rattle.definition.specs.Deinline.{Numbered, importOrder, deinline}
@@ -18,7 +18,7 @@ use Rattle.definition.specs.NameSection.{functions, customOf, subsections, name
 use Rattle.definition.specs.Assemble.{scope, itemsIn, items, resolved, fitting, moduleIn, namedModuleIn}
 use Rattle.laws.specs.TypeLists.{Serves, Smallest, NoTypeTooMany, WritesSmallest}
 use Rattle.laws.proofs.Interning.{came, intern-keeps}
-use Rattle.laws.proofs.Smallest.{Enough, least, enough}
+use Rattle.laws.proofs.Smallest.{least, enough}
 use Rattle.laws.proofs.Asked.{declared-records, uses-records}
 use Rattle.laws.proofs.TypeSection.{module-holds}
 use Rattle.laws.proofs.OneTypeList.{one-type-list}

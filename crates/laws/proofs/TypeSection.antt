@@ -3,22 +3,21 @@ use mathlib.Core.Path.{_≡_, refl, ap, _∙_, sym}
 use Prim.Native.Nat.{ℕ}
 use mathlib.Core.Bool.{Bool, true, false, not, _&&_, false≢true}
 use mathlib.Core.List.{List, [], _∷_, _++_, map, map-append, append-assoc}
-use mathlib.Core.Option.{Option, none, some}
+use mathlib.Core.Option.{some}
 use lib.Dec.{eqb}
 use lib.ListN.{length, drop}
 use lib.Seq.{drop-append-seam}
 use borrow.Author.Tests.{eqb-false}
-use native.Mathlib.Omega.{arith}
-use Rattle.definition.specs.Basic.{if_then_else_, Answer, ok, refused, _>>=_, each, concatMap, at}
+use Rattle.definition.specs.Basic.{if_then_else_, Answer, ok, _>>=_, each, concatMap, at}
 use Rattle.definition.specs.Syntax.{Bytes, Instr, FuncType, Own, ownFunc, ownTable, ownMem, ownGlobal, Field, typeF, importF, ownF, exportF, startF, elemF, dataF}
-use Rattle.definition.specs.Syntax.{Item, typeI, importI, funcI, tableI, memI, globalI, exportI, startI, elemI, dataI}
+use Rattle.definition.specs.Syntax.{Item, typeI}
 use Rattle.definition.specs.Deinline.{Numbered}
 use Rattle.definition.specs.Types.{declaredBy, declared, uses, allTypes}
 use Rattle.definition.specs.Names.{Scope, ownItem, resolve, resolveAll}
 use Rattle.definition.specs.Binary.{funcType, entries, inSection, section, sectionOf, sectionNumbers, sections, preamble, module′}
 use Rattle.definition.specs.Assemble.{itemsIn}
 use Rattle.laws.specs.TypeLists.{HoldsTypes}
-use Rattle.laws.proofs.Interning.{Keeps, came, intern-keeps}
+use Rattle.laws.proofs.Interning.{came, intern-keeps}
 
 -- the entries of section 1 among some entries
 abbrev typesIn : Item → List Bytes
