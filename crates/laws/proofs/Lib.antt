@@ -2,6 +2,7 @@ pub mod Asked
 pub mod Backwards
 pub mod Bodies
 pub mod Declared
+pub mod Equal
 pub mod Exits
 pub mod GroupCount
 pub mod Groups

@@ -12,13 +12,10 @@ use native.Mathlib.Omega.{arith}
 use Rattle.definition.specs.Basic.{if_then_else_, ok, refused, same, sameBytes, firstAt, later, at}
 use Rattle.definition.specs.Syntax.{FuncType}
 use Rattle.definition.specs.Types.{sameType, typeAt, takeOrAdd, intern, Uses}
+use Rattle.laws.proofs.Equal.{and-true}
 use Rattle.laws.proofs.Interning.{first-passes, same-type-itself, Has, came, intern-has}
 
 -- ## Equal signatures are one
-
-and-true : (s t : Bool) → (s && t) ≡ true → (s ≡ true) × (t ≡ true)
-and-true true t e = (refl, e)
-and-true false t e = absurd (false≢true e)
 
 same-is : (a b : List ℕ) → sameBytes a b ≡ true → a ≡ b
 unfolding sameBytes same

@@ -15,6 +15,7 @@ use native.Mathlib.Omega.{arith}
 use native.Mathlib.Decide.{decLe}
 use native.Mathlib.Numerals.{add-one}
 use Rattle.definition.specs.Basic.{if_then_else_, same, sameBytes, firstAt, later, isSome, ok, refused}
+use Rattle.laws.proofs.Equal.{same-eq}
 use Rattle.definition.specs.Syntax.{Identifier}
 use Rattle.definition.specs.Names.{carries, find, numberIn, taken, Namespace}
 use Rattle.syntax.specs.Tokens.{part, partOf, idOf, indexOf}
@@ -39,24 +40,9 @@ differ (x ∷ xs) (y ∷ ys) h = go (eqb x y) (differ xs ys (λ e. h (ap suc e))
     go true e = e
     go false e = refl
 
-both-true : (a b : Bool) → (a && b) ≡ true → (a ≡ true) × (b ≡ true)
-both-true true b e = (refl, e)
-both-true false b e = (e, absurd (false≢true e))
-
 not-true : (b : Bool) → (b ≡ true → ⊥) → false ≡ b
 not-true true h = absurd (h refl)
 not-true false h = refl
-
--- equal bytes are the same list
-bytes-are : (xs ys : List ℕ) → sameBytes xs ys ≡ true → xs ≡ ys
-unfolding sameBytes same
-bytes-are [] [] e = refl
-bytes-are [] (y ∷ ys) e = absurd (false≢true e)
-bytes-are (x ∷ xs) [] e = absurd (false≢true e)
-bytes-are (x ∷ xs) (y ∷ ys) e =
-    let h = both-true (eqb x y) (sameBytes xs ys) e in
-    let p = eqb-true x y (h .0) in
-    let q = bytes-are xs ys (h .1) in cc
 
 -- what is left from `i` on decides
 pub record Same (a b : List ℕ) (i : ℕ) : Type 0 where
@@ -120,7 +106,7 @@ module _ (s w name : List ℕ) (at tag : ℕ) (g : tag ≡ tagOf name) where
       go : (a b : Bool) → (a ≡ true → getD w (at + 2) 0 ≡ tagOf there) → false ≡ carries sameBytes name (if a then (if b then none else some there) else none)
       go false b f = refl
       go true true f = refl
-      go true false f = not-true (sameBytes name there) (λ e. d (f refl ∙ sym (ap tagOf (bytes-are name there e)) ∙ sym g))
+      go true false f = not-true (sameBytes name there) (λ e. d (f refl ∙ sym (ap tagOf (same-eq name there e)) ∙ sym g))
 
   module _ (len : ℕ) (l : len ≡ getD w (at + 1) 0) where
     -- an entry of length 0 is no identifier
@@ -145,7 +131,7 @@ module _ (s w name : List ℕ) (at tag : ℕ) (g : tag ≡ tagOf name) where
             → sameBytes name there ≡ carries sameBytes name (if a then (if b then none else some there) else none)
         go true true e f = absurd (false≢true (sym e))
         go true false e f = refl
-        go false b e f = sym (not-true (sameBytes name there) (λ q. f refl (d ∙ g ∙ ap tagOf (bytes-are name there q))))
+        go false b e f = sym (not-true (sameBytes name there) (λ q. f refl (d ∙ g ∙ ap tagOf (same-eq name there q))))
 
 -- an entry that was written says its identifier
 part-clipped : (s : List ℕ) (at len : ℕ) → part s (min at (length s)) len ≡ part s at len

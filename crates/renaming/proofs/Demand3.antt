@@ -15,7 +15,7 @@ use Rattle.renaming.specs.Shape.{shape, mapRec}
 use Rattle.renaming.specs.Kinds.{Kind, names}
 use Rattle.renaming.specs.Renamed.{Alike, Renamed, SaysTheSame}
 use Rattle.renaming.proofs.Examples.{first, second, renamed}
-use Rattle.renaming.proofs.Equal.{same-eq, eq-same, both-ways}
+use Rattle.laws.proofs.Equal.{same-eq, eq-same, both-ways}
 use Rattle.renaming.proofs.Whole.{resolved-same}
 use Rattle.renaming.proofs.Listed.{names-map}
 use Rattle.renaming.proofs.Places.{places, naming, named-back}
