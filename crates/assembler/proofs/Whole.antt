@@ -17,7 +17,7 @@ use Rattle.kept.specs.declared.tally.Verdict.{Verdict}
 use Rattle.kept.specs.declared.tally.Verdict.the-variants as V′
 use Rattle.sections.specs.Write.{Writable, Held, allEntries, moduleItems}
 use Rattle.name_section.specs.Section.{namesIn}
-use Rattle.passes.specs.Passes.{Ready}
+use Rattle.passes.specs.Passes.{Prepared}
 use Rattle.passes.specs.Passes.{makes, writes, ReadyBy, Prepares}
 use Rattle.writers.specs.Does.{heard, Does}
 use Rattle.assembler.specs.Run.{Runs, outcomeOf}
@@ -25,10 +25,10 @@ use Rattle.writers.specs.declared.Said.{Said}
 use Rattle.passes.specs.declared.Passed.{Passed}
 
 module _ (s w : List ℕ) (p : Passed) (w₁ b : List ℕ) (h : Prepares s w p w₁ b) (v : Verdict) (g : v ≡ p .verdict) where
-  is-ready : v ≡ V′.Fine → Ready s p w₁ b
+  is-ready : v ≡ V′.Fine → Prepared s p w₁ b
   is-ready e = go (p .verdict) (sym g ∙ e) (h .ready)
     where
-      go : (u : Verdict) → u ≡ V′.Fine → ReadyBy u s p w₁ b → Ready s p w₁ b
+      go : (u : Verdict) → u ≡ V′.Fine → ReadyBy u s p w₁ b → Prepared s p w₁ b
       go u f z = rw f at z
 
   pub run-writable : v ≡ V′.Fine → Writable s w₁

@@ -38,7 +38,7 @@ unfoldable pub fromFields : Numbered Identifier → Answer Found
 fromFields fs = typesAfterOrder fs >>= λ ts. fromTypes fs ts
 
 -- what a writer asks for: the items as the work area has them, their tally, and the bytes of their entries that were kept
-pub record Ready (s : List ℕ) (p : Passed) (w kept : List ℕ) : Type 0 where
+pub record Prepared (s : List ℕ) (p : Passed) (w kept : List ℕ) : Type 0 where
   pub writable : Writable s w
   pub tally : p .tally ≡ tallies noTally (allEntries (p .declared) s w)
   pub held : Held kept (allEntries (p .declared) s w)
@@ -47,7 +47,7 @@ pub record Ready (s : List ℕ) (p : Passed) (w kept : List ℕ) : Type 0 where
 pub record Holds (a : Answer Found) (count : ℕ) (s : List ℕ) (p : Passed) (w kept : List ℕ) : Type 0 where
   pub found : a ≡ ok (scopeIn s w, moduleItems (p .declared) s w)
   pub records : p .count ≡ count
-  pub ready : Ready s p w kept
+  pub ready : Prepared s p w kept
 
 abbrev pub PassesBy : Verdict → Answer Found → ℕ → List ℕ → Passed → List ℕ → List ℕ → Type 0
 PassesBy V′.Fine a count s p w kept = Holds a count s p w kept
@@ -75,7 +75,7 @@ saidBy V′.Fine count room bs = say count (fitting room count bs)
 saidBy (V′.Refused q) count room bs = refusal (q .number) (q .rec)
 
 abbrev pub ReadyBy : Verdict → List ℕ → Passed → List ℕ → List ℕ → Type 0
-ReadyBy V′.Fine s p w kept = Ready s p w kept
+ReadyBy V′.Fine s p w kept = Prepared s p w kept
 ReadyBy (V′.Refused q) s p w kept = Unit {0}
 
 -- all passes: what is left of either call is its writer

@@ -22,7 +22,7 @@ use Rattle.deinline.specs.Entry.{Entries, sectionNo, answerOf, usesOf, tagged, 
 use Rattle.syntax.specs.declared.Entry.{Entry}
 use Rattle.deinline.specs.declared.entry.Three.{Three}
 use Rattle.kept.specs.Content.{Fine, bytesIn}
-use Rattle.sections.specs.Write.{Writes, Ready, ReadyThree, lastTwo}
+use Rattle.sections.specs.Write.{Writes, Emittable, EmittableThree, lastTwo}
 use Rattle.entries.specs.Listed.{Answers}
 use Rattle.kept.specs.Emit.{AreaOf, EmitsEntry}
 use Rattle.kept.proofs.Keeping.{section-own, section-other, section-append, joined-append}
@@ -61,7 +61,7 @@ module _ (s w : List ℕ) (k r j : ℕ) (e : Entry) (sec : j ≡ sectionNo e) (o
             rw (← z) (record { put = put-is (a .put) (bytes-same k (sectionNo e) (answerOf (scopeIn s w) s r e) (a .entries) (sym sec ∙ same) (a .is)); area = b })
 
     -- an entry that is not refused
-    pub entry-refused : (p : Refusal) → q ≡ A.Refused p → Ready s w r e → Writes (bytesIn k (entryIn (scopeIn s w) s r e)) old at at new w w′
+    pub entry-refused : (p : Refusal) → q ≡ A.Refused p → Emittable s w r e → Writes (bytesIn k (entryIn (scopeIn s w) s r e)) old at at new w w′
     unfolding entryIn Answers tagged
     entry-refused p d v = go q d (told .answers) (v .fine)
       where
@@ -101,12 +101,12 @@ types-same s w w′ k = types-kept s w w′ LOCALS k (omega arith)
 pub recalled-same : (s w w′ : List ℕ) (us : Uses) → Kept LOCALS w w′ → Recalled w (typesIn s w) us → Recalled w′ (typesIn s w′) us
 recalled-same s w w′ us k u = recalled-scope s w w′ us (kept-less UNUSED LOCALS (omega arith) k) u
 
-module _ (s w : List ℕ) (r : ℕ) (x : Three) (v : ReadyThree s w r x) where
+module _ (s w : List ℕ) (r : ℕ) (x : Three) (v : EmittableThree s w r x) where
   fine-rest : Fine (lastTwo (scopeIn s w) s r x)
   unfolding threeIn lastTwo
   fine-rest = fine-second (entryIn (scopeIn s w) s r (x .first)) (both (entryIn (scopeIn s w) s r (x .second)) (entryIn (scopeIn s w) s r (x .third))) (v .fine)
 
-  pub ready-first : Ready s w r (x .first)
+  pub ready-first : Emittable s w r (x .first)
   unfolding threeIn
   ready-first = record {
     stream = v .stream;
@@ -118,7 +118,7 @@ module _ (s w : List ℕ) (r : ℕ) (x : Three) (v : ReadyThree s w r x) where
     fine = fine-first (entryIn (scopeIn s w) s r (x .first)) (both (entryIn (scopeIn s w) s r (x .second)) (entryIn (scopeIn s w) s r (x .third))) (v .fine);
   }
 
-  pub ready-second : Ready s w r (x .second)
+  pub ready-second : Emittable s w r (x .second)
   unfolding lastTwo
   ready-second = record {
     stream = v .stream;
@@ -132,7 +132,7 @@ module _ (s w : List ℕ) (r : ℕ) (x : Three) (v : ReadyThree s w r x) where
 
   module _ (w₁ bs old : List ℕ) (at a : ℕ) (mid : List ℕ) (p : Writes bs old at a mid w w₁) where
     -- after the one before it
-    pub ready-third : Ready s w₁ r (x .third)
+    pub ready-third : Emittable s w₁ r (x .third)
     unfolding lastTwo
     ready-third =
         let d = scope-same s w w₁ (p .area) in
@@ -146,7 +146,7 @@ module _ (s w : List ℕ) (r : ℕ) (x : Three) (v : ReadyThree s w r x) where
           fine = rw d (fine-second (entryIn (scopeIn s w) s r (x .second)) (entryIn (scopeIn s w) s r (x .third)) fine-rest);
         }
 
-    pub ready-still : ReadyThree s w₁ r x
+    pub ready-still : EmittableThree s w₁ r x
     ready-still =
         let d = scope-same s w w₁ (p .area) in
         record {
@@ -189,7 +189,7 @@ module _ (s w : List ℕ) (r : ℕ) (x : Three) (v : ReadyThree s w r x) where
         }
 
 -- the entries are those that the code makes of a field
-pub ready-is : (s w : List ℕ) (r : ℕ) (x y : Three) → x ≡ y → ReadyThree s w r y → ReadyThree s w r x
+pub ready-is : (s w : List ℕ) (r : ℕ) (x y : Three) → x ≡ y → EmittableThree s w r y → EmittableThree s w r x
 ready-is s w r x y e v = rw e v
 
 pub three-is : (s w : List ℕ) (k r : ℕ) (x y : Three) (old : Bytes) (at q : ℕ) (new w′ : List ℕ) → x ≡ y

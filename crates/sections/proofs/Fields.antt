@@ -30,7 +30,7 @@ use Rattle.deinline.specs.declared.entry.Three.{Three}
 use Rattle.deinline.proofs.Fields.{entries-append, entries-here}
 use Rattle.deinline.proofs.Uses.{All, AllThree, uses-here, HeadThree, head-here, WholeThree, whole-here}
 use Rattle.kept.specs.Content.{Fine, bytesIn}
-use Rattle.sections.specs.Write.{Writes, ReadyThree, Writable}
+use Rattle.sections.specs.Write.{Writes, EmittableThree, Writable}
 use Rattle.sections.proofs.Emitting.{fine-first, fine-second, bytes-both, scope-same, recalled-same}
 
 -- ## Uses
@@ -156,7 +156,7 @@ module _ (k : ℕ) (s w₀ old : List ℕ) (at : ℕ) (c : Cursor) (o : ℕ) (ou
       fine-both : Fine (both (threeIn (scopeIn s w) s (c .rec) now) (entriesOf (scopeIn s w) (fieldsAhead (m .next) s)))
       fine-both = subst Fine parts (v .fine)
 
-      pub emitting-ready : ReadableMet s (m .what) → ReadyThree s w (c .rec) (three f (c .seen) here)
+      pub emitting-ready : ReadableMet s (m .what) → EmittableThree s w (c .rec) (three f (c .seen) here)
       emitting-ready known = record {
         stream = v .stream;
         room = v .room;

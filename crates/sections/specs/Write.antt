@@ -26,7 +26,7 @@ pub record Writes (bs old : Bytes) (at r : ℕ) (new : Bytes) (w w′ : List ℕ
   pub area : Kept LOCALS w w′
 
 -- an entry that is not refused, and all that resolving it needs
-pub record Ready (s w : List ℕ) (r : ℕ) (e : Entry) : Type 0 where
+pub record Emittable (s w : List ℕ) (r : ℕ) (e : Entry) : Type 0 where
   pub stream : length s ≤ BYTES
   pub room : WORDS ≤ length w
   pub below : r < 4096
@@ -36,7 +36,7 @@ pub record Ready (s w : List ℕ) (r : ℕ) (e : Entry) : Type 0 where
   pub fine : Fine (entryIn (scopeIn s w) s r e)
 
 -- the same for the entries of a field
-pub record ReadyThree (s w : List ℕ) (r : ℕ) (x : Three) : Type 0 where
+pub record EmittableThree (s w : List ℕ) (r : ℕ) (x : Three) : Type 0 where
   pub stream : length s ≤ BYTES
   pub room : WORDS ≤ length w
   pub below : r < 4096

@@ -12,7 +12,7 @@ ghost use Rattle.walk.specs.Walk.{fieldsIn};
 ghost use Rattle.scope.specs.Scope.{scopeIn};
 ghost use Rattle.deinline.specs.Entry.{three, entryIn, threeIn, entriesOf};
 ghost use Rattle.kept.specs.Content.{bytesIn};
-ghost use Rattle.sections.specs.Write.{Writes, Ready, ReadyThree, lastTwo, Writable};
+ghost use Rattle.sections.specs.Write.{Writes, Emittable, EmittableThree, lastTwo, Writable};
 
 // An entry, if it is one of the section.
 fn emit_in(
@@ -24,7 +24,7 @@ fn emit_in(
     e: Entry,
     rec: u32,
 ) -> usize
-    requires { ⌜ Ready (now s) (now work) rec e ⌝ }
+    requires { ⌜ Emittable (now s) (now work) rec e ⌝ }
     ensures { λ r. ⌜ Writes (bytesIn k (entryIn (scopeIn (now (s .entry)) (now (work .entry))) (now (s .entry)) rec e)) (now (out .entry)) at r (now (out .exit)) (now (work .entry)) (now (work .exit)) ⌝ }
 {
     if deinline::section_of(e) != k {
@@ -45,7 +45,7 @@ fn emit_two(
     x: Three,
     rec: u32,
 ) -> usize
-    requires { ⌜ ReadyThree (now s) (now work) rec x ⌝ }
+    requires { ⌜ EmittableThree (now s) (now work) rec x ⌝ }
     ensures { λ r. ⌜ Writes (bytesIn k (lastTwo (scopeIn (now (s .entry)) (now (work .entry))) (now (s .entry)) rec x)) (now (out .entry)) at r (now (out .exit)) (now (work .entry)) (now (work .exit)) ⌝ }
 {
     let second = x.second;
@@ -63,7 +63,7 @@ fn emit_three(
     x: Three,
     rec: u32,
 ) -> usize
-    requires { ⌜ ReadyThree (now s) (now work) rec x ⌝ }
+    requires { ⌜ EmittableThree (now s) (now work) rec x ⌝ }
     ensures { λ r. ⌜ Writes (bytesIn k (threeIn (scopeIn (now (s .entry)) (now (work .entry))) (now (s .entry)) rec x)) (now (out .entry)) at r (now (out .exit)) (now (work .entry)) (now (work .exit)) ⌝ }
 {
     let first = x.first;
@@ -82,7 +82,7 @@ fn emit_field(
     f: Field,
     here: usize,
 ) -> usize
-    requires { ⌜ ReadyThree (now s) (now work) (c .rec) (three f (c .seen) here) ⌝ }
+    requires { ⌜ EmittableThree (now s) (now work) (c .rec) (three f (c .seen) here) ⌝ }
     ensures { λ r. ⌜ Writes (bytesIn k (threeIn (scopeIn (now (s .entry)) (now (work .entry))) (now (s .entry)) (c .rec) (three f (c .seen) here))) (now (out .entry)) at r (now (out .exit)) (now (work .entry)) (now (work .exit)) ⌝ }
 {
     let seen = c.seen;
