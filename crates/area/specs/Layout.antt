@@ -1,5 +1,5 @@
 -- Where things stand in the work area: the same names as in src/lib.rt.
-use Prim.Native.Nat.{ℕ}
+use Prim.Native.Nat.{ℕ, _+_, _*_}
 use Rattle.definition.specs.Assemble.{longestStream, leastWork}
 
 -- how many words the work area has at least, and how many bytes a stream has at most
@@ -8,6 +8,22 @@ WORDS = leastWork
 
 abbrev pub BYTES : ℕ
 BYTES = longestStream
+
+-- how many items each index space has, by its code
+abbrev pub COUNTS : ℕ
+COUNTS = 0
+
+-- of these, how many types the fields declare
+abbrev pub DECLARED : ℕ
+DECLARED = 4
+
+-- where the bodies of own functions end, two words each
+abbrev pub ENDS : ℕ
+ENDS = 8
+
+-- the first word of the n-th body's end
+abbrev pub endAt : ℕ → ℕ
+endAt n = ENDS + 2 * n
 
 -- the table of types, five words each
 abbrev pub TYPES : ℕ

@@ -7,6 +7,12 @@ pub const WORDS: usize = 16384;
 
 pub const BYTES: usize = 65536;
 
+// How many items each index space has, by its code.
+pub const COUNTS: usize = 0;
+// Of these, how many types the fields declare.
+pub const DECLARED: usize = 4;
+// Where the bodies of own functions end, two words each.
+pub const ENDS: usize = 8;
 // The table of types, five words each.
 pub const TYPES: usize = 520;
 // For each record the number of the type of its use.

@@ -1,3 +1,4 @@
+pub mod Putting
 pub mod Emitting
 pub mod Immediates
 pub mod Parts

@@ -11,14 +11,14 @@ ghost use Rattle.syntax.specs.Tokens.{partOf, spaceOf};
 ghost use Rattle.syntax.specs.Items.{nameOf};
 
 // The bytes of a part.
-pub fn put_part(out: &mut [u8], at: usize, s: &[u8], p: Part) -> usize
+pub fn put_part(s: &[u8], out: &mut [u8], at: usize, p: Part) -> usize
     ensures { λ r. ⌜ Put (now (out .entry)) at (partOf (now (s .entry)) p) r (now (out .exit)) ⌝ }
 {
     emit::copy(out, at, token::bytes_of(s, p))
 }
 
 // Their length, and the bytes: a name, or a segment's data.
-pub fn put_name(out: &mut [u8], at: usize, s: &[u8], p: Part) -> usize
+pub fn put_name(s: &[u8], out: &mut [u8], at: usize, p: Part) -> usize
     ensures { λ r. ⌜ Put (now (out .entry)) at (Binary.sized (partOf (now (s .entry)) p)) r (now (out .exit)) ⌝ }
 {
     let bytes = token::bytes_of(s, p);
@@ -27,11 +27,11 @@ pub fn put_name(out: &mut [u8], at: usize, s: &[u8], p: Part) -> usize
 }
 
 // The two names of an import.
-pub fn put_import_name(out: &mut [u8], at: usize, s: &[u8], n: ImportName) -> usize
+pub fn put_import_name(s: &[u8], out: &mut [u8], at: usize, n: ImportName) -> usize
     ensures { λ r. ⌜ Put (now (out .entry)) at (Binary.sized (nameOf (now (s .entry)) n .module-name) ++ Binary.sized (nameOf (now (s .entry)) n .item-name)) r (now (out .exit)) ⌝ }
 {
-    let a = put_name(out, at, s, n.module);
-    put_name(out, a, s, n.item)
+    let a = put_name(s, out, at, n.module);
+    put_name(s, out, a, n.item)
 }
 
 // The byte that an export has for a space.
@@ -42,10 +42,10 @@ fn space_byte(k: Space) -> u8
 }
 
 // An export: its name, and the item that is exported.
-pub fn put_export(out: &mut [u8], at: usize, s: &[u8], name: Part, k: Space, n: u32) -> usize
+pub fn put_export(s: &[u8], out: &mut [u8], at: usize, name: Part, k: Space, n: u32) -> usize
     ensures { λ r. ⌜ Put (now (out .entry)) at (Binary.sized (partOf (now (s .entry)) name) ++ (code (spaceOf k) ∷ Binary.u n)) r (now (out .exit)) ⌝ }
 {
-    let a = put_name(out, at, s, name);
+    let a = put_name(s, out, at, name);
     let b = emit::put(out, a, space_byte(k));
     leb::put_u(out, b, n as u64)
 }

@@ -22,7 +22,7 @@ use Rattle.syntax.specs.declared.Space as Kind
 use Rattle.syntax.specs.declared.Space.the-variants as K
 use Rattle.syntax.specs.declared.Index as Place
 use Rattle.syntax.specs.CoreTypes.{globalTypeIs}
-use Rattle.syntax.specs.Plain.{plainIs}
+use Rattle.syntax.specs.Plain.{constantAt}
 use Rattle.syntax.specs.declared.ImportName.{ImportName}
 use Rattle.syntax.specs.declared.Mode as Segment
 use Rattle.syntax.specs.TypeUses.{listOf, useOf}
@@ -43,7 +43,8 @@ use Rattle.import_export.specs.Entry.{entryOf, exportEntries}
 use Rattle.counting.specs.Counting.{externSpaceOf, ownSpaceOf}
 use Rattle.counting.proofs.Counts.{extern-brings, own-brings}
 use Rattle.deinline.specs.Entry.{oneOf, typeBytes, answerOf, Entries, entriesOf, tagged, both, entryIn, threeIn, firstOf, itemIn, secondOf, thirdOf, threeOf, three}
-use Rattle.function.specs.Function.{codeOf, funcField}
+use Rattle.binary.specs.Code.{codeOf}
+use Rattle.instr.specs.Functions.{funcField}
 use Rattle.syntax.specs.declared.Entry.{Entry}
 use Rattle.syntax.specs.declared.Entry.the-variants as E
 
@@ -256,7 +257,7 @@ module _ (Γ : Scope Identifier) (s : Bytes) (r : ℕ) where
   own-three es i (O.Func t ls) seen n here = item-three es K.Funcs n _ (E.Func t) (E.Code t ls here) (entries-one Γ r _ ∙ function-both Γ r i (useOf s t) (listOf Token.param s ls) (bodyFrom (4096 - (r + 1)) 0 s here))
   own-three es i (O.Table t) seen n here = item-three es K.Tables n _ (E.Table t) E.Nothing (item-one _ (E.Table t) refl)
   own-three es i (O.Mem l) seen n here = item-three es K.Mems n _ (E.Mem l) E.Nothing (item-one _ (E.Mem l) refl)
-  own-three es i (O.Global t c) seen n here = item-three es K.Globals n _ (E.Global t c) E.Nothing (item-one _ (E.Global t c) (single 6 _ (global-single Γ r i (globalTypeIs t) (plainIs s c) [])))
+  own-three es i (O.Global t c) seen n here = item-three es K.Globals n _ (E.Global t c) E.Nothing (item-one _ (E.Global t c) (single 6 _ (global-single Γ r i (globalTypeIs t) (constantAt s c) [])))
 
   extern-three : (es : Code.List) (i : Option Identifier) (m : ImportName) (x : Extern) (n : ℕ)
       → entriesOf Γ (map (λ x. (r, x)) (map (λ e. exportF e (spaceOf (externSpaceOf x)) (number n)) (listOf Token.string s es) ++ (importF (nameOf s m) i (externIs s x) ∷ [])))

@@ -19,12 +19,11 @@ use Rattle.syntax.specs.declared.Field.{Field}
 use Rattle.syntax.specs.declared.Field.the-variants as F
 use Rattle.syntax.proofs.Field as FieldOf
 use Rattle.counting.specs.Counting.{sourceSpaceOf}
-use Rattle.deinline.specs.Entry.{sectionNo, exportsOf, firstOf, secondOf, thirdOf, itemIn, secondIn, thirdIn, threeOf, three}
+use Rattle.deinline.specs.Entry.{sectionNo, exportsOf, firstOf, secondOf, thirdOf, itemIn}
 use Rattle.syntax.specs.declared.Entry.{Entry}
 use Rattle.syntax.specs.declared.Entry.the-variants as E
 use Rattle.deinline.specs.declared.entry.ItemIn.{ItemIn}
 use Rattle.deinline.specs.declared.entry.ItemIn.the-variants as I
-use Rattle.deinline.specs.declared.entry.Three.{Three}
 
 pub is-section : (n : ℕ) (e v : Entry) → e ≡ v → n ≡ sectionNo v → n ≡ sectionNo e
 is-section n e v p d = rw p d
@@ -75,19 +74,3 @@ module _ (r : Entry) (x : Source) (here : ℕ) where
 
   pub third-own : (o v : Own) → x ≡ S.Own o → o ≡ v → r ≡ thirdOf (S.Own v) here → r ≡ thirdOf x here
   third-own o v p q d = rw (p, q) d
-
--- ## All three, by what is found in a field
-
-module _ (r : Three) (e : Entry) (i : ItemIn) (seen : Seen) (here : ℕ) where
-  -- an item has two more
-  pub more-item : (x : Source) (a b : Entry) → r ≡ threeOf e a b → i ≡ I.Item x → a ≡ secondOf x seen → b ≡ thirdOf x here → r ≡ threeOf e (secondIn i seen) (thirdIn i here)
-  more-item x a b g is p q = rw (is, ← p, ← q) g
-
-  -- any other field has none
-  pub more-other : r ≡ threeOf e E.Nothing E.Nothing → i ≡ I.Other → r ≡ threeOf e (secondIn i seen) (thirdIn i here)
-  more-other g is = rw is g
-
-  -- the entries of the field that it was found in
-  pub more-all : (f : Field) → r ≡ threeOf e (secondIn i seen) (thirdIn i here) → e ≡ firstOf f seen → i ≡ itemIn f → r ≡ three f seen here
-  unfolding three
-  more-all f g d told = rw (← d, ← told) g

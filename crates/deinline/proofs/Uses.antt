@@ -29,8 +29,7 @@ use Rattle.walk.specs.Walk.{wholeField, fieldsHere}
 use Rattle.instr.specs.Bodies.{bodyFrom}
 use Rattle.walk.specs.declared.Cursor.{Cursor}
 use Rattle.type_table.specs.Table.{Recalled}
-use Rattle.deinline.specs.Entry.{usesOf, HeadIn, WholeIn, firstOf, itemIn, secondOf, thirdOf, three}
-use Rattle.deinline.specs.declared.entry.Three.{Three}
+use Rattle.deinline.specs.Entry.{usesOf, HeadIn, WholeIn, firstOf, itemIn, secondOf, thirdOf, Three, three}
 
 -- ## Every use
 

@@ -19,7 +19,7 @@ use Rattle.syntax.specs.CoreTypes.{limitsIs, tableTypeIs, globalTypeIs}
 use Rattle.syntax.specs.TypeUses.{listOf, useOf}
 use Rattle.syntax.specs.declared.List as Code
 use Rattle.syntax.specs.declared.TypeUse.{TypeUse}
-use Rattle.syntax.specs.Plain.{plainIs}
+use Rattle.syntax.specs.Plain.{constantAt}
 use Rattle.syntax.specs.Items.{countOf, nameOf, externIs}
 use Rattle.syntax.specs.declared.Seen.{Seen}
 use Rattle.syntax.specs.declared.Own.{Own}
@@ -31,15 +31,15 @@ use Rattle.syntax.specs.Fields.{modeOf}
 use Rattle.syntax.specs.declared.Field.{Field}
 use Rattle.syntax.specs.declared.Field.the-variants as F
 use Rattle.instr.specs.Bodies.{bodyFrom, wholeBody}
+use Rattle.instr.specs.Functions.{funcField}
 use Rattle.frames.specs.Locals.{Head}
 use Rattle.import_export.specs.Entry.{entryOf, exportEntries}
-use Rattle.function.specs.Function.{codeOf, funcField}
+use Rattle.binary.specs.Code.{codeOf}
 use Rattle.counting.specs.Counting.{sourceSpaceOf}
 use Rattle.syntax.specs.declared.Entry.{Entry}
 use Rattle.syntax.specs.declared.Entry.the-variants as E
 use Rattle.deinline.specs.declared.entry.ItemIn.{ItemIn}
 use Rattle.deinline.specs.declared.entry.ItemIn.the-variants as I
-use Rattle.deinline.specs.declared.entry.Three.{Three}
 
 abbrev pub sectionNo : Entry → ℕ
 sectionNo E.Nothing = 0
@@ -80,7 +80,7 @@ answerOf Γ s r (E.Table t) = ok (tableType (tableTypeIs t) ∷ [])
 answerOf Γ s r (E.InlineTable w xs) = ok (tableType (record { element = 0x70; limits = exactly w (length (listOf Token.present s xs)) }) ∷ [])
 answerOf Γ s r (E.Mem l) = ok (limits (limitsIs l) ∷ [])
 answerOf Γ s r (E.InlineMem w d) = ok (limits (exactly w (pages (length (partOf s d)))) ∷ [])
-answerOf Γ s r (E.Global t c) = oneOf entryOf (resolve Γ r (Syntax.ownF none (Syntax.ownGlobal (globalTypeIs t) (plainIs s c)) []))
+answerOf Γ s r (E.Global t c) = oneOf entryOf (resolve Γ r (Syntax.ownF none (Syntax.ownGlobal (globalTypeIs t) (constantAt s c)) []))
 answerOf Γ s r (E.Export n k x) = oneOf entryOf (resolve Γ r (Syntax.exportF (partOf s n) (spaceOf k) (indexOf s x)))
 answerOf Γ s r (E.Exports es k n) = ok (exportEntries (spaceOf k) n (listOf Token.string s es))
 answerOf Γ s r (E.Start x) = oneOf entryOf (resolve Γ r (Syntax.startF (indexOf s x)))
@@ -188,6 +188,12 @@ secondIn I.Other seen = E.Nothing
 abbrev pub thirdIn : ItemIn → ℕ → Entry
 thirdIn (I.Item x) here = thirdOf x here
 thirdIn I.Other here = E.Nothing
+
+-- in the order in which the definition resolves them
+pub record Three : Type 0 where
+  pub first : Entry
+  pub second : Entry
+  pub third : Entry
 
 abbrev pub threeOf : Entry → Entry → Entry → Three
 threeOf a b c = record { first = a; second = b; third = c }

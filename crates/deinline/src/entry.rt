@@ -10,14 +10,20 @@ use syntax::List;
 use syntax::Mode;
 use syntax::Own;
 use syntax::Part;
-use syntax::Plain;
 use syntax::Seen;
 use syntax::Source;
 use syntax::Space;
 use syntax::TableType;
 use syntax::TypeUse;
 ghost use mathlib.Core.Path.{_≡_};
-ghost use Rattle.deinline.specs.Entry.{sectionNo, exportsOf, firstOf, itemIn, secondOf, thirdOf, secondIn, thirdIn, threeOf, three};
+ghost use Rattle.deinline.specs.Entry.{sectionNo, exportsOf, firstOf, itemIn, secondOf, thirdOf};
+
+// Where a field stands: what was seen before it, where its head ends, and its record.
+pub struct Spot {
+    pub seen: Seen,
+    pub here: usize,
+    pub rec: u32,
+}
 
 // The number of an entry's section; 0 where there is none.
 pub fn section_of(e: Entry) -> u8
@@ -125,38 +131,4 @@ pub fn third_of(x: Source, here: usize) -> Entry
         Source::TableOf(w, xs) => Entry::InlineTable(w, xs),
         Source::MemOf(w, d) => Entry::InlineMem(w, d),
     }
-}
-
-// The entries of a field, in the order in which the definition resolves them.
-pub struct Three {
-    pub first: Entry,
-    pub second: Entry,
-    pub third: Entry,
-}
-
-fn together(first: Entry, second: Entry, third: Entry) -> Three
-    ensures { λ r. ⌜ r ≡ threeOf first second third ⌝ }
-{
-    Three {
-        first,
-        second,
-        third,
-    }
-}
-
-// The first entry, and those of an item.
-fn with_item(first: Entry, i: ItemIn, seen: Seen, here: usize) -> Three
-    ensures { λ r. ⌜ r ≡ threeOf first (secondIn i seen) (thirdIn i here) ⌝ }
-{
-    match i {
-        ItemIn::Item(x) => together(first, second_of(x, seen), third_of(x, here)),
-        ItemIn::Other => together(first, Entry::Nothing, Entry::Nothing),
-    }
-}
-
-// The entries of a field whose head ends at `here`.
-pub fn entries_of(f: Field, seen: Seen, here: usize) -> Three
-    ensures { λ r. ⌜ r ≡ three f seen here ⌝ }
-{
-    with_item(first_of(f, seen), item_in(f), seen, here)
 }

@@ -2,8 +2,7 @@
 pub mod entry;
 
 pub use entry::ItemIn;
-pub use entry::Three;
-pub use entry::entries_of;
+pub use entry::Spot;
 pub use entry::first_of;
 pub use entry::item_in;
 pub use entry::second_of;

@@ -30,8 +30,7 @@ use Rattle.syntax.specs.declared.GlobalType.{GlobalType}
 use Rattle.syntax.specs.TypeUses.{listOf, useOf}
 use Rattle.syntax.specs.declared.List as Code
 use Rattle.syntax.specs.declared.TypeUse.{TypeUse}
-use Rattle.syntax.specs.Plain.{plainIs}
-use Rattle.syntax.specs.declared.Plain.{Plain}
+use Rattle.syntax.specs.Plain.{constantAt}
 use Rattle.syntax.specs.Items.{nameOf, externIs}
 use Rattle.syntax.specs.declared.ImportName.{ImportName}
 use Rattle.syntax.specs.declared.Extern.{Extern}
@@ -131,7 +130,7 @@ module _ (Γ : Scope Identifier) (s : Bytes) (r : ℕ) (e : Entry) (old : List �
       unfolding answerOf
       arm-func t d w g = rw d (one-emits typeBytes _ old at q x new w g)
 
-      pub arm-global : (t : GlobalType) (c : Plain) → e ≡ E.Global t c → Emits entryOf (resolve Γ r (ownF none (ownGlobal (globalTypeIs t) (plainIs s c)) [])) old at q new → x ≡ oneEnd q → Arm x new
+      pub arm-global : (t : GlobalType) (c : ℕ) → e ≡ E.Global t c → Emits entryOf (resolve Γ r (ownF none (ownGlobal (globalTypeIs t) (constantAt s c)) [])) old at q new → x ≡ oneEnd q → Arm x new
       unfolding answerOf
       arm-global t c d w g = rw d (one-emits entryOf _ old at q x new w g)
 

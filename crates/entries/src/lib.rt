@@ -59,7 +59,7 @@ fn emit_type_no(s: &[u8], work: &[u32], out: &mut [u8], at: usize, t: TypeUse, r
 }
 
 // The table that holds just the functions of its segment.
-fn put_inline_table(out: &mut [u8], at: usize, s: &[u8], is64: bool, funcs: List) -> usize
+fn put_inline_table(s: &[u8], out: &mut [u8], at: usize, is64: bool, funcs: List) -> usize
     ensures { λ r. ⌜ Put (now (out .entry)) at (Binary.tableType (record { element = 0x70; limits = Deinline.exactly is64 (length (listOf Token.present (now (s .entry)) funcs)) })) r (now (out .exit)) ⌝ }
 {
     binary_types::put_inline_table(out, at, is64, operands::count_indices(s, funcs))
@@ -73,7 +73,7 @@ fn count_bytes(s: &[u8], bytes: Part) -> u32
 }
 
 // The memory that holds just the bytes of its segment.
-fn put_inline_mem(out: &mut [u8], at: usize, s: &[u8], is64: bool, bytes: Part) -> usize
+fn put_inline_mem(s: &[u8], out: &mut [u8], at: usize, is64: bool, bytes: Part) -> usize
     ensures { λ r. ⌜ Put (now (out .entry)) at (Binary.limits (Deinline.exactly is64 (Deinline.pages (length (partOf (now (s .entry)) bytes))))) r (now (out .exit)) ⌝ }
 {
     binary_types::put_exactly(out, at, is64, binary_types::pages(count_bytes(s, bytes)))
@@ -90,7 +90,7 @@ fn emit_late(s: &[u8], work: &[u32], out: &mut [u8], at: usize, e: Entry, rec: u
             return one_end(r);
         }
         Entry::Exports(es, k, n) => {
-            let r = import_export::put_exports(out, at, s, es, k, n);
+            let r = import_export::put_exports(s, out, at, es, k, n);
             return all_ends(r);
         }
         Entry::Start(x) => {
@@ -110,7 +110,7 @@ fn emit_late(s: &[u8], work: &[u32], out: &mut [u8], at: usize, e: Entry, rec: u
             return one_end(r);
         }
         Entry::InlineData(is64, n, bytes) => {
-            let o = segments::put_inline_data(out, at, s, is64, n, bytes);
+            let o = segments::put_inline_data(s, out, at, is64, n, bytes);
             return EndsAt::Ends(o, 1);
         }
         // none is left: code and the sections before are ruled out
@@ -130,7 +130,7 @@ pub fn emit_other(s: &[u8], work: &[u32], out: &mut [u8], at: usize, e: Entry, r
             return EndsAt::Ends(at, 0);
         }
         Entry::Type(params, results) => {
-            let o = import_export::put_func_type(out, at, s, params, results);
+            let o = import_export::put_func_type(s, out, at, params, results);
             return EndsAt::Ends(o, 1);
         }
         Entry::Import(name, what) => {
@@ -146,7 +146,7 @@ pub fn emit_other(s: &[u8], work: &[u32], out: &mut [u8], at: usize, e: Entry, r
             return EndsAt::Ends(o, 1);
         }
         Entry::InlineTable(is64, funcs) => {
-            let o = put_inline_table(out, at, s, is64, funcs);
+            let o = put_inline_table(s, out, at, is64, funcs);
             return EndsAt::Ends(o, 1);
         }
         Entry::Mem(l) => {
@@ -154,7 +154,7 @@ pub fn emit_other(s: &[u8], work: &[u32], out: &mut [u8], at: usize, e: Entry, r
             return EndsAt::Ends(o, 1);
         }
         Entry::InlineMem(is64, bytes) => {
-            let o = put_inline_mem(out, at, s, is64, bytes);
+            let o = put_inline_mem(s, out, at, is64, bytes);
             return EndsAt::Ends(o, 1);
         }
         Entry::Global(t, c) => {

@@ -1,6 +1,9 @@
 // Instructions that open and close no block and have no type use, and constants.
+pub mod constant;
 pub mod pass;
 
+pub use constant::const_at;
+pub use constant::pass_const;
 pub use pass::pass_plain;
 use syntax::ByteAt;
 use syntax::Elem;

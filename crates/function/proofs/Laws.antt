@@ -38,7 +38,8 @@ use Rattle.frames.specs.declared.locals.LocalsAt.{LocalsAt}
 use Rattle.frames.specs.declared.locals.LocalsAt.the-variants as L
 use Rattle.code.specs.Body.{Resolvable, EmitsBody}
 use Rattle.code.proofs.Bodies.{resolvable-kept}
-use Rattle.function.specs.Function.{funcField, bodyAnswer, codeBytes, sizedBytes, EmitsCode, Measured, MeasuresCode, MeasuresSized, EmitsAgain, typedAnswer, EmitsTyped, EmitsFunc}
+use Rattle.instr.specs.Functions.{funcField}
+use Rattle.function.specs.Function.{bodyAnswer, codeBytes, sizedBytes, EmitsCode, Measured, MeasuresCode, MeasuresSized, EmitsAgain, typedAnswer, EmitsTyped, EmitsFunc}
 use Rattle.syntax.specs.declared.TypeNo as Number
 use Rattle.function.proofs.Sized.{sized-place, put-beyond, put-short, put-again, put-moved, moved-room}
 

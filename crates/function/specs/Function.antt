@@ -2,16 +2,15 @@
 use Prim.Native.Nat.{ℕ, _+_, _-_}
 use mathlib.Core.Path.{_≡_}
 use mathlib.Core.List.{List, [], _++_}
-use mathlib.Core.Option.{none}
 use lib.ListN.{length}
-use Rattle.definition.specs.Basic.{Answer, ok, refused, _>>=_}
+use Rattle.definition.specs.Basic.{Answer, ok, _>>=_}
 use Rattle.definition.specs.Syntax as Syntax
-use Rattle.definition.specs.Syntax.{Bytes, Identifier, Op, Item}
+use Rattle.definition.specs.Syntax.{Bytes, Op, Item}
 use Rattle.definition.specs.Token as Token
 use Rattle.definition.specs.Names.{localsOf, distinctLocals, body, resolve}
 use Rattle.syntax.specs.Refusals.{refusedBy}
 use Rattle.type_table.specs.Table.{typesIn}
-use Rattle.definition.specs.Binary.{u, vec, run, runs, expr, sized, func-code}
+use Rattle.definition.specs.Binary.{u, vec, run, runs, expr, sized}
 use Rattle.area.specs.Layout.{LABELS, LOCALS}
 use Rattle.syntax.specs.TypeUses.{listOf, useOf}
 use Rattle.syntax.specs.declared.List as Code
@@ -19,29 +18,14 @@ use Rattle.syntax.specs.declared.TypeUse.{TypeUse}
 use Rattle.emit.specs.Put.{past}
 use Rattle.area.specs.Kept.{Kept}
 use Rattle.runs.specs.Locals.{localTypes}
+use Rattle.binary.specs.Code.{codeOf}
 use Rattle.binary.specs.Emits.{Emits}
 use Rattle.binary.specs.declared.Emitted.{Emitted}
 use Rattle.binary.specs.declared.Emitted.the-variants as E
 use Rattle.instr.specs.Bodies.{bodyFrom}
+use Rattle.instr.specs.Functions.{funcField}
 use Rattle.scope.specs.Scope.{scopeIn, localsIn}
 use Rattle.scope.specs.declared.Locals.{Locals}
-
--- the code of a function among its entries
-abbrev pub codeOf : Item → Bytes
-codeOf (Syntax.typeI t) = []
-codeOf (Syntax.importI n d) = []
-codeOf (Syntax.funcI n ls os) = func-code ls os
-codeOf (Syntax.tableI t) = []
-codeOf (Syntax.memI l) = []
-codeOf (Syntax.globalI t o) = []
-codeOf (Syntax.exportI n k x) = []
-codeOf (Syntax.startI x) = []
-codeOf (Syntax.elemI m ns) = []
-codeOf (Syntax.dataI m d) = []
-
--- an own function whose body begins at `here`; `r` is its record
-unfoldable pub funcField : Bytes → ℕ → TypeUse → Code.List → ℕ → Syntax.Field Identifier
-funcField s r t ls here = Syntax.ownF none (Syntax.ownFunc (useOf s t) (listOf Token.param s ls)) (bodyFrom (4096 - (r + 1)) 0 s here)
 
 -- the body, resolved
 unfoldable pub bodyAnswer : Bytes → List ℕ → ℕ → ℕ → Locals → Answer (List Op)

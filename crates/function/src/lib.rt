@@ -37,7 +37,7 @@ fn emit_code(
     requires { ⌜ Lent (now s) (now work) × FewLocals l × (rec < 4096) × Resolvable (now s) (now work) (rec + 1) 0 here × Readable (now s) ls ⌝ }
     ensures { λ r. ⌜ EmitsCode (codeBytes (now (s .entry)) ls) (bodyAnswer (now (s .entry)) (now (work .entry)) rec here l) (now (work .entry)) (now (out .entry)) at r (now (work .exit)) (now (out .exit)) ⌝ }
 {
-    let a = runs::put_runs(out, at, s, ls);
+    let a = runs::put_runs(s, out, at, ls);
     match code::emit_body(s, work, out, a, here, rec + 1, l) {
         Emitted::To(b) => Emitted::To(emit::put(out, b, 0x0B)),
         Emitted::Refused(q) => Emitted::Refused(q),

@@ -1,16 +1,15 @@
 -- Laws of lists of value types.
-use Prim.Native.Nat.{ℕ, _-_, _*_, _^_, _≤_, _<_}
+use Prim.Native.Nat.{ℕ, _-_, _≤_, _<_}
 use mathlib.Core.Path.{_≡_, refl, sym, _∙_, ap}
 use mathlib.Core.Bool.{Bool, true, false}
-use mathlib.Core.List.{List, [], _∷_, _++_, append-assoc, append-nil}
+use mathlib.Core.List.{List, [], _∷_}
 use lib.ListN.{length}
-use native.Mathlib.Omega.{arith}
 use Rattle.definition.specs.Basic.{concatMap}
 use Rattle.definition.specs.Syntax.{Bytes}
 use Rattle.definition.specs.Token.{param, valType}
 use Rattle.definition.specs.Binary.{u, byte, vec, funcType}
 use Rattle.emit.specs.Put.{Put}
-use Rattle.emit.proofs.Laws.{put-none, put-then, put-cons, put-is}
+use Rattle.emit.proofs.Laws.{put-then, put-cons, put-is}
 use Rattle.syntax.specs.Tokens.{byteAt}
 use Rattle.syntax.specs.declared.ByteAt.{ByteAt}
 use Rattle.syntax.specs.declared.ByteAt.the-variants as B
@@ -22,6 +21,7 @@ use Rattle.syntax.specs.declared.LocalAt.the-variants as L
 use Rattle.type_table.specs.Table.{typed, typesOf, signatureOf}
 use Rattle.type_table.specs.declared.entry.Signature.{Signature}
 use Rattle.type_table.proofs.Lists.{types-are}
+use Rattle.binary.proofs.Putting.{Putting, putting-more, putting-done}
 use Rattle.operands.proofs.Elements.{elements-none, elements-more, elements-fault}
 
 -- ## One value type
@@ -42,30 +42,13 @@ pub ruleset type-reads = (after-id, no-id, without-id)
 -- ## `put_each_type`
 
 -- some are put, and so many are left
-pub record Typing (s : Bytes) (named : Bool) (at count : ℕ) (old : List ℕ) (place o here left : ℕ) (out : List ℕ) : Type 0 where
-  pub done : Bytes
-  pub so-far : Put old place done o out
-  pub same : done ++ elements (typed named) s here left ≡ elements (typed named) s at count
+module _ (s : Bytes) (named : Bool) (here left : ℕ) {old : List ℕ} {place : ℕ} {all : List ℕ} {o : ℕ} {out : List ℕ} (v : Putting old place all (elements (typed named) s here left) o out) where
+  pub types-again : (q : ByteAt) → typed named s here ≡ byteAt q → (t next r : ℕ) (new : List ℕ) → 0 < left → q ≡ B.Got t next → Put out o (t ∷ []) r new → Putting old place all (elements (typed named) s next (left - 1)) r new
+  types-again q told t next r new h d p = putting-more v (t ∷ []) (elements (typed named) s next (left - 1)) r new (elements-more (typed named) s here left t next h (told ∙ ap byteAt d)) p
 
-pub types-begin : (s : Bytes) (named : Bool) (at count : ℕ) (old : List ℕ) (place : ℕ) → length old * 1 < 2 ^ 63 → Typing s named at count old place place at count old
-types-begin s named at count old place h = record { done = []; so-far = put-none place (omega arith); same = refl }
-
-module _ {s : Bytes} {named : Bool} {at count : ℕ} {old : List ℕ} {place o here left : ℕ} {out : List ℕ} (v : Typing s named at count old place o here left out) where
-  -- the buffer keeps its length
-  pub types-long : length out ≡ length old
-  types-long = v .so-far .long
-
-  pub types-again : (q : ByteAt) → typed named s here ≡ byteAt q → (t next r : ℕ) (new : List ℕ) → 0 < left → q ≡ B.Got t next → Put out o (t ∷ []) r new → Typing s named at count old place r next (left - 1) new
-  types-again q told t next r new h d p = record {
-    done = v .done ++ (t ∷ []);
-    so-far = put-then (v .so-far) p;
-    same = append-assoc (v .done) (t ∷ []) (elements (typed named) s next (left - 1))
-        ∙ (let e : elements (typed named) s here left ≡ t ∷ elements (typed named) s next (left - 1) = elements-more (typed named) s here left t next h (told ∙ ap byteAt d) in rw e at (v .same));
-  }
-
-module _ (s : Bytes) (named : Bool) (l : Code.List) {old : List ℕ} {place o here left : ℕ} {out : List ℕ} (v : Typing s named (l .at) (l .count) old place o here left out) where
+module _ (s : Bytes) (named : Bool) (l : Code.List) (here left : ℕ) {old : List ℕ} {place o : ℕ} {out : List ℕ} (v : Putting old place (elements (typed named) s (l .at) (l .count)) (elements (typed named) s here left) o out) where
   none-left : elements (typed named) s here left ≡ [] → Put old place (typesOf named s l) o out
-  none-left e = put-is (v .so-far) (sym (append-nil (v .done)) ∙ (rw e at (v .same)) ∙ sym (types-are named s l))
+  none-left e = put-is (putting-done v e) (sym (types-are named s l))
 
   pub types-done : left ≤ 0 → Put old place (typesOf named s l) o out
   types-done h = none-left (elements-none (typed named) s here left h)

@@ -38,13 +38,13 @@ pub fn emit_export(
     ensures { λ r. ⌜ Emits entryOf (Names.resolve (scopeIn (now (s .entry)) (now (work .entry))) rec (exportF (partOf (now (s .entry)) name) (spaceOf k) (indexOf (now (s .entry)) x))) (now (out .entry)) at r (now (out .exit)) ⌝ }
 {
     match scope::item_no(s, work, k, x, rec) {
-        Resolved::To(n) => Emitted::To(binary::put_export(out, at, s, name, k, n)),
+        Resolved::To(n) => Emitted::To(binary::put_export(s, out, at, name, k, n)),
         Resolved::Refused(r) => Emitted::Refused(r),
     }
 }
 
 // The exports that stand inline, each of the item numbered n.
-pub fn put_exports(out: &mut [u8], at: usize, s: &[u8], exports: List, k: Space, n: u32) -> Ends
+pub fn put_exports(s: &[u8], out: &mut [u8], at: usize, exports: List, k: Space, n: u32) -> Ends
     ensures { λ r. ⌜ Lists (exportEntries (spaceOf k) n (listOf Token.string (now (s .entry)) exports)) (now (out .entry)) at r (now (out .exit)) ⌝ }
 {
     let mut to = at;
@@ -54,7 +54,7 @@ pub fn put_exports(out: &mut [u8], at: usize, s: &[u8], exports: List, k: Space,
     while 0 < left {
         match token::read_string(s, here) {
             PartAt::Got(name, next) => {
-                to = binary::put_export(out, to, s, name, k, n);
+                to = binary::put_export(s, out, to, name, k, n);
                 count += 1;
                 here = next;
                 left -= 1;

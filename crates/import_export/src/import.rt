@@ -97,6 +97,6 @@ pub fn emit_import(
     requires { ⌜ (WORDS ≤ length (now work)) × Recalled (now work) (typesIn (now s) (now work)) (Types.usedAt rec (Types.externUses (externIs (now s) what))) ⌝ }
     ensures { λ r. ⌜ Emits entryOf (Names.resolve (scopeIn (now (s .entry)) (now (work .entry))) rec (importF (nameOf (now (s .entry)) name) none (externIs (now (s .entry)) what))) (now (out .entry)) at r (now (out .exit)) ⌝ }
 {
-    let a = binary::put_import_name(out, at, s, name);
+    let a = binary::put_import_name(s, out, at, name);
     emit_extern(s, work, out, a, what, rec)
 }

@@ -25,7 +25,7 @@ fn read_type(s: &[u8], at: usize, named: bool) -> ByteAt
 }
 
 // The value types of a list, without their count.
-fn put_each_type(out: &mut [u8], at: usize, s: &[u8], named: bool, l: List) -> usize
+fn put_each_type(s: &[u8], out: &mut [u8], at: usize, named: bool, l: List) -> usize
     ensures { λ r. ⌜ Put (now (out .entry)) at (typesOf named (now (s .entry)) l) r (now (out .exit)) ⌝ }
 {
     let mut o = at;
@@ -46,30 +46,30 @@ fn put_each_type(out: &mut [u8], at: usize, s: &[u8], named: bool, l: List) -> u
     o
 }
 
-fn put_types(out: &mut [u8], at: usize, s: &[u8], named: bool, l: List) -> usize
+fn put_types(s: &[u8], out: &mut [u8], at: usize, named: bool, l: List) -> usize
     ensures { λ r. ⌜ Put (now (out .entry)) at (Binary.vec Binary.byte (typesOf named (now (s .entry)) l)) r (now (out .exit)) ⌝ }
 {
     let n = type_table::list::count_types(s, named, l);
     let a = leb::put_u(out, at, n as u64);
-    put_each_type(out, a, s, named, l)
+    put_each_type(s, out, a, named, l)
 }
 
-pub fn put_signature(out: &mut [u8], at: usize, s: &[u8], x: Signature) -> usize
+pub fn put_signature(s: &[u8], out: &mut [u8], at: usize, x: Signature) -> usize
     ensures { λ r. ⌜ Put (now (out .entry)) at (Binary.funcType (signatureOf (now (s .entry)) x)) r (now (out .exit)) ⌝ }
 {
     let a = emit::put(out, at, 0x60);
-    let b = put_types(out, a, s, x.named, x.params);
-    put_types(out, b, s, false, x.results)
+    let b = put_types(s, out, a, x.named, x.params);
+    put_types(s, out, b, false, x.results)
 }
 
 // A declared type: no identifier stands before its parameters.
-pub fn put_func_type(out: &mut [u8], at: usize, s: &[u8], params: List, results: List) -> usize
+pub fn put_func_type(s: &[u8], out: &mut [u8], at: usize, params: List, results: List) -> usize
     ensures { λ r. ⌜ Put (now (out .entry)) at (Binary.funcType (record { params = listOf Token.valType (now (s .entry)) params; results = listOf Token.valType (now (s .entry)) results })) r (now (out .exit)) ⌝ }
 {
     put_signature(
+        s,
         out,
         at,
-        s,
         Signature {
             named: false,
             params,

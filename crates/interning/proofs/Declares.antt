@@ -14,7 +14,7 @@ use Rattle.definition.specs.Records.{fieldRec}
 use Rattle.definition.specs.Spaces.{externSpace, ownSpace, sourceSpace, segments, brings}
 use Rattle.definition.specs.Deinline.{Numbered, fieldsOf}
 use Rattle.definition.specs.Types.{declaredBy, declared}
-use Rattle.area.specs.Layout.{TYPES}
+use Rattle.area.specs.Layout.{DECLARED, TYPES}
 use Rattle.syntax.specs.TypeUses.{listOf}
 use Rattle.syntax.specs.declared.List as Code
 use Rattle.syntax.specs.Tokens.{idOf}
@@ -160,7 +160,7 @@ module _ (s : Bytes) (w₀ w : List ℕ) (c : Cursor) (count : ℕ) (v : Declari
   }
 
   -- all that were counted are there
-  pub declaring-found : (total : ℕ) → total ≡ getD w₀ 4 0 → getD w₀ 4 0 ≡ length (declared (fieldsIn s)) → total ≤ count → DeclaredAll s w₀ count w
+  pub declaring-found : (total : ℕ) → total ≡ getD w₀ DECLARED 0 → getD w₀ DECLARED 0 ≡ length (declared (fieldsIn s)) → total ≤ count → DeclaredAll s w₀ count w
   declaring-found total e f h =
       let a = length-append (typeTable count s w TYPES) (declared (fieldsAhead c s)) in
       let b = ap length (v .same) in

@@ -6,6 +6,7 @@ use walk::What;
 ghost use mathlib.Core.Path.{_≡_};
 ghost use Prim.Native.Nat.{_+_, _≤_, _<_};
 ghost use lib.ListN.{length, getD};
+ghost use Rattle.area.specs.Layout.{DECLARED};
 ghost use Rattle.area.specs.Lent.{Lent};
 ghost use Rattle.definition.specs.Types as Types;
 ghost use Rattle.type_table.specs.Table.{Adds};
@@ -70,10 +71,10 @@ fn declare(s: &[u8], work: &mut [u32], count: u32, f: Field) -> u32
 
 // All of them, in their order. Reading has left how many there are, and the walk ends with the last of them.
 pub fn declare_all(s: &[u8], work: &mut [u32]) -> u32
-    requires { ⌜ Lent (now s) (now work) × Ahead (now s) (now work) begin × (getD (now work) 4 0 ≡ length (Types.declared (fieldsIn (now s)))) ⌝ }
+    requires { ⌜ Lent (now s) (now work) × Ahead (now s) (now work) begin × (getD (now work) DECLARED 0 ≡ length (Types.declared (fieldsIn (now s)))) ⌝ }
     ensures { λ r. ⌜ DeclaredAll (now (s .entry)) (now (work .entry)) r (now (work .exit)) ⌝ }
 {
-    let total = area::word(work, 4);
+    let total = area::word(work, area::DECLARED);
     let mut c = walk::start();
     let mut count: u32 = 0;
     while count < total {

@@ -4,8 +4,7 @@ use syntax::Index;
 use syntax::IndexAt;
 use syntax::Mode;
 use syntax::ModeAt;
-use syntax::Plain;
-use syntax::PlainAt;
+use syntax::Skip;
 ghost use mathlib.Core.Path.{_≡_};
 ghost use Rattle.definition.specs.Records as Records;
 ghost use Rattle.syntax.specs.Fields.{modeAt};
@@ -14,11 +13,11 @@ fn active_mode(s: &[u8], at: usize) -> ModeAt
     ensures { λ r. ⌜ Records.activeMode (now (s .entry)) at ≡ modeAt (now (s .entry)) r ⌝ }
 {
     match token::read_optional(s, at) {
-        IndexAt::Got(x, a) => match expr::read_const(s, a) {
-            PlainAt::Got(offset, b) => {
-                return ModeAt::Got(Mode::Active(x, offset), b);
+        IndexAt::Got(x, a) => match expr::pass_const(s, a) {
+            Skip::Past(b) => {
+                return ModeAt::Got(Mode::Active(x, a), b);
             }
-            PlainAt::Fault(e) => {
+            Skip::Fault(e) => {
                 return ModeAt::Fault(e);
             }
         },

@@ -1,6 +1,6 @@
 -- An entry of any kind is emitted.
 use Prim.Native.Nat.{ℕ, _+_, _-_, _≤_, _<_}
-use mathlib.Core.Path.{_≡_, refl, sym, _∙_}
+use mathlib.Core.Path.{_≡_, refl, sym}
 use mathlib.Core.List.{List, [], _∷_, _++_, append-nil}
 use lib.ListN.{length, take, drop}
 use mir.Syntax.{w8}
@@ -27,7 +27,8 @@ use Rattle.scope.specs.Scope.{scopeIn}
 use Rattle.scope.proofs.Frames.{recalled-left, recalled-right}
 use Rattle.frames.specs.Locals.{Head}
 use Rattle.code.specs.Body.{Resolvable}
-use Rattle.function.specs.Function.{codeOf, EmitsFunc}
+use Rattle.binary.specs.Code.{codeOf}
+use Rattle.function.specs.Function.{EmitsFunc}
 use Rattle.deinline.specs.Entry.{oneOf, sectionNo, answerOf, usesOf}
 use Rattle.entries.specs.Listed.{Answers, NotCode, oneEnd}
 use Rattle.syntax.specs.declared.Entry.{Entry}

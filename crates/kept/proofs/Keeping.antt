@@ -13,11 +13,12 @@ use borrow.Author.Tests.{leb-true, leb-false, eq-eqb, ne-eqb, eqb-true, eqb-fals
 use borrow.Rule.Slice.PartMut.{putMid, same-len-mid, mid-len, take-put, drop-put}
 use native.Mathlib.Nat.{le-trans, mul-le-mul-left}
 use native.Mathlib.Omega.{arith}
-use Rattle.definition.specs.Basic.{if_then_else_, concatMap}
+use Rattle.definition.specs.Basic.{concatMap}
 use Rattle.definition.specs.Syntax.{Bytes}
 use Rattle.definition.specs.Binary.{inSection, joined}
 use Rattle.laws.proofs.Exits.{if-either}
 use Rattle.laws.proofs.Table.{everywhere}
+use Rattle.laws.proofs.TypeSection.{section-append}
 use Rattle.emit.specs.Put.{past, Put}
 use Rattle.emit.proofs.Laws.{put-none, put-then}
 use Rattle.deinline.specs.Entry.{Entries}
@@ -163,12 +164,6 @@ pub section-other : (j k : ℕ) (bs : List Bytes) → (j ≡ k → ⊥) → inSe
 unfolding inSection
 section-other j k [] d = refl
 section-other j k (b ∷ bs) d = rw (ne-eqb j k d) (section-other j k bs d)
-
-pub section-append : (k : ℕ) (es fs : Entries) → inSection k (es ++ fs) ≡ inSection k es ++ inSection k fs
-unfolding inSection
-section-append k [] fs = refl
-section-append k ((j, b) ∷ es) fs =
-    ap (λ (z : List Bytes). (if eqb k j then b ∷ [] else []) ++ z) (section-append k es fs) ∙ sym (append-assoc (if eqb k j then b ∷ [] else []) (inSection k es) (inSection k fs))
 
 pub joined-append : (xs ys : List Bytes) → joined (xs ++ ys) ≡ joined xs ++ joined ys
 unfolding joined concatMap

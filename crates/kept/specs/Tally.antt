@@ -12,9 +12,8 @@ use Rattle.emit.specs.Put.{past, Put}
 use Rattle.area.specs.Layout.{LOCALS}
 use Rattle.area.specs.Kept.{Kept}
 use Rattle.type_table.specs.Table.{typesIn, Recalled}
-use Rattle.deinline.specs.Entry.{Entries, usesOf, HeadIn, WholeIn}
+use Rattle.deinline.specs.Entry.{Entries, usesOf, HeadIn, WholeIn, Three}
 use Rattle.syntax.specs.declared.Entry.{Entry}
-use Rattle.deinline.specs.declared.entry.Three.{Three}
 use Rattle.kept.specs.Parts.{partIn}
 use Rattle.kept.specs.declared.tally.Tally.{Tally}
 use Rattle.kept.specs.declared.tally.Verdict.{Verdict}

@@ -53,7 +53,7 @@ module _ {I : Type 0} (Γ : Scope I) (r : ℕ) where
 
 -- ## All fields
 
-section-append : (k : ℕ) (xs ys : List (ℕ × Bytes)) → inSection k (xs ++ ys) ≡ inSection k xs ++ inSection k ys
+pub section-append : (k : ℕ) (xs ys : List (ℕ × Bytes)) → inSection k (xs ++ ys) ≡ inSection k xs ++ inSection k ys
 unfolding inSection
 section-append k [] ys = refl
 section-append k ((j, b) ∷ xs) ys = rw (section-append k xs ys, append-assoc (if eqb k j then b ∷ [] else [])) refl

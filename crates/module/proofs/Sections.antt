@@ -2,7 +2,7 @@
 use Prim.Native.Nat.{ℕ, zero, suc, _+_, _-_, _*_, _^_, _≤_, _<_}
 use mathlib.Core.Path.{_≡_, refl, sym, _∙_, ap}
 use mathlib.Core.Bool.{false}
-use mathlib.Core.List.{List, [], _∷_, _++_, map, append-assoc, append-nil}
+use mathlib.Core.List.{List, [], _∷_, _++_, map, append-assoc}
 use lib.Dec.{eqb}
 use lib.ListN.{length, drop, getD, length-append}
 use native.Mathlib.Decide.{decLe}
@@ -14,6 +14,7 @@ use Rattle.definition.specs.Names.{resolveAll}
 use Rattle.definition.specs.Binary.{u, sized, funcType, entries, inSection, joined, content, sectionOf, section, preamble, module′}
 use Rattle.emit.specs.Put.{Put, past}
 use Rattle.emit.proofs.Laws.{put-none, put-then, put-is, put-skip}
+use Rattle.binary.proofs.Putting.{Putting, putting-begin, putting-more, putting-done, putting-long}
 use Rattle.area.specs.Layout.{LOCALS, TYPES, WORDS}
 use Rattle.area.specs.Kept.{Kept}
 use Rattle.area.proofs.Kept.{kept-same, kept-then, kept-less}
@@ -25,7 +26,8 @@ use Rattle.deinline.specs.Entry.{Entries, entriesOf}
 use Rattle.kept.specs.Tally.{tallies, noTally}
 use Rattle.kept.specs.Content.{kept, bytesIn, typeEntries}
 use Rattle.kept.specs.declared.tally.Tally.{Tally}
-use Rattle.kept.proofs.Keeping.{section-append, joined-append}
+use Rattle.laws.proofs.TypeSection.{section-append}
+use Rattle.kept.proofs.Keeping.{joined-append}
 use Rattle.module.specs.Length.{Counted, contentLen, moduleLen, sectionsFrom}
 use Rattle.sections.specs.Added.{typeBytes}
 use Rattle.sections.specs.Write.{Writes, Writable, Held, Counts, allEntries, addedIn, keptItems, moduleItems}
@@ -65,10 +67,12 @@ pub writable-same : (s w w′ : List ℕ) → Kept LOCALS w w′ → Writable s 
 writable-same s w w′ k v =
     let d = scope-same s w w′ k in
     record {
-      stream = v .stream;
-      room = rw (k .long) (v .room);
-      ahead = ahead-kept s w w′ begin (kept-less TYPES LOCALS (omega arith) k) (v .ahead);
-      recalled = recalled-same s w w′ _ k (v .recalled);
+      left = record {
+        stream = v .left .stream;
+        room = rw (k .long) (v .left .room);
+        ahead = ahead-kept s w w′ begin (kept-less TYPES LOCALS (omega arith) k) (v .left .ahead);
+        recalled = recalled-same s w w′ _ k (v .left .recalled);
+      };
       fine = rw d (v .fine);
     }
 
@@ -81,7 +85,7 @@ past-more at m n = omega arith
 
 module _ (k declared : ℕ) (s w w′ old : List ℕ) (at : ℕ) where
   pub area-room : (bs new : Bytes) (a : ℕ) → Writable s w → Writes bs old at a new w w′ → WORDS ≤ length w′
-  area-room bs new a v p = rw (p .area .long) (v .room)
+  area-room bs new a v p = rw (p .area .long) (v .left .room)
 
   -- those of the fields, and those of the added types
   pub entries-put : (mid new : Bytes) (a b : ℕ) → Writes (bytesIn k (entriesOf (scopeIn s w) (fieldsIn s))) old at a mid w w′ → Put mid a (addedIn k declared s w′) b new
@@ -202,9 +206,7 @@ pub record Sectioning (t : Tally) (declared : ℕ) (kept s w₀ old : List ℕ) 
   pub held : Held kept (allEntries declared s w)
   pub counted : Counted t (allEntries declared s w)
   pub area : Kept LOCALS w₀ w
-  pub done : Bytes
-  pub so-far : Put old at done o out
-  pub same : done ++ sectionsFrom left k (allEntries declared s w) ≡ sectionsFrom 11 1 (allEntries declared s w₀)
+  pub put : Putting old at (sectionsFrom 11 1 (allEntries declared s w₀)) (sectionsFrom left k (allEntries declared s w)) o out
 
 pub sections-begin : (t : Tally) (declared : ℕ) (kept s w old : List ℕ) (at : ℕ) → Writable s w → Held kept (allEntries declared s w) → Counted t (allEntries declared s w) → length old * 1 < 2 ^ 63
     → Sectioning t declared kept s w old at 11 1 at old w
@@ -214,18 +216,16 @@ sections-begin t declared kept s w old at v k c h = record {
   held = k;
   counted = c;
   area = kept-same LOCALS w;
-  done = [];
-  so-far = put-none at (omega arith);
-  same = refl;
+  put = putting-begin old at (sectionsFrom 11 1 (allEntries declared s w)) (sectionsFrom 11 1 (allEntries declared s w)) h refl;
 }
 
 module _ (t : Tally) (declared : ℕ) (kept s w₀ old : List ℕ) (at left k o : ℕ) (out w : List ℕ) (v : Sectioning t declared kept s w₀ old at left k o out w) where
   pub sections-again : (r : ℕ) (new w′ : List ℕ) → 0 < left → Writes (section (allEntries declared s w) k) out o r new w w′
       → Sectioning t declared kept s w₀ old at (left - 1) (k + 1) r new w′
   unfolding sectionsFrom
-  sections-again r new w′ h p = go left h (v .sum) (v .same)
+  sections-again r new w′ h p = go left h (v .sum) (v .put)
     where
-      go : (n : ℕ) → 0 < n → n + k ≡ 12 → v .done ++ sectionsFrom n k (allEntries declared s w) ≡ sectionsFrom 11 1 (allEntries declared s w₀)
+      go : (n : ℕ) → 0 < n → n + k ≡ 12 → Putting old at (sectionsFrom 11 1 (allEntries declared s w₀)) (sectionsFrom n k (allEntries declared s w)) o out
           → Sectioning t declared kept s w₀ old at (n - 1) (k + 1) r new w′
       go zero h d e = absurd (omega arith)
       go (suc n) h d e =
@@ -237,22 +237,20 @@ module _ (t : Tally) (declared : ℕ) (kept s w₀ old : List ℕ) (at left k o 
             held = rw z (v .held);
             counted = rw z (v .counted);
             area = kept-then (v .area) (p .area);
-            done = v .done ++ section (allEntries declared s w) k;
-            so-far = put-then (v .so-far) (p .put);
-            same = rw z (append-assoc (v .done) (section (allEntries declared s w) k) (sectionsFrom n (k + 1) (allEntries declared s w)) ∙ e);
+            put = rw z (putting-more e (section (allEntries declared s w) k) (sectionsFrom n (k + 1) (allEntries declared s w)) r new refl (p .put));
           })
 
   pub sections-done : left ≤ 0 → Writes (sectionsFrom 11 1 (allEntries declared s w₀)) old at o out w₀ w
   unfolding sectionsFrom
-  sections-done h = go left h (v .same)
+  sections-done h = go left h (v .put)
     where
-      go : (n : ℕ) → n ≤ 0 → v .done ++ sectionsFrom n k (allEntries declared s w) ≡ sectionsFrom 11 1 (allEntries declared s w₀)
+      go : (n : ℕ) → n ≤ 0 → Putting old at (sectionsFrom 11 1 (allEntries declared s w₀)) (sectionsFrom n k (allEntries declared s w)) o out
           → Writes (sectionsFrom 11 1 (allEntries declared s w₀)) old at o out w₀ w
-      go zero h e = record { put = put-is (v .so-far) (sym (append-nil (v .done)) ∙ e); area = v .area }
+      go zero h e = record { put = putting-done e refl; area = v .area }
       go (suc n) h e = absurd (omega arith)
 
   pub sections-long : length out ≡ length old
-  sections-long = v .so-far .long
+  sections-long = putting-long (v .put)
 
   pub sections-area : length w ≡ length w₀
   sections-area = v .area .long

@@ -45,7 +45,7 @@ fn put_again(
     requires { ⌜ Writable (now s) (now work) × (size ≡ past 0 (length (Binary.joined (Binary.inSection k (allEntries declared (now s) (now work)))))) ⌝ }
     ensures { λ r. ⌜ Writes (Binary.joined (Binary.inSection k (allEntries declared (now (s .entry)) (now (work .entry))))) (now (out .entry)) at r (now (out .exit)) (now (work .entry)) (now (work .exit)) ⌝ }
 {
-    let a = emit_fields(k, s, work, out, at, emit::tally(at, size));
+    let a = emit_fields(s, work, out, at, k, emit::tally(at, size));
     put_added(k, declared, s, work, out, a)
 }
 

@@ -36,7 +36,7 @@ use Rattle.scope.specs.Scope.{scopeIn}
 use Rattle.scope.proofs.Frames.{recalled-left, recalled-right}
 use Rattle.deinline.specs.Entry.{usesOf, itemIn, secondOf, three}
 use Rattle.deinline.proofs.Uses.{RecalledThree, recalled-here}
-use Rattle.sections.specs.Write.{Writable}
+use Rattle.deinline.specs.Surveyed.{Surveyed}
 use Rattle.definition.specs.NameSection as Definition
 use Rattle.definition.specs.NameSection.{NameMap, namedFrom, importedFunction, functionIn, functions, unlessEmpty, localNamesFrom, indirectNameAssoc}
 use Rattle.name_maps.specs.Maps.{first, Adds, LocalNames, Few, functionOfOwn, functionOfSource, functionOf, ownLocals, broughtLocals, RecalledOf}
@@ -175,7 +175,7 @@ begin-left : 0 + begin .left ≤ 4096
 unfolding begin
 begin-left = omega arith
 
-pub walking-begin : (s w old : List ℕ) (here : ℕ) (c : Cursor) (x : Reached) → c ≡ begin → x ≡ first here 0 → Writable s w → length old * 1 < 2 ^ 63 → Walking s w old here c x old
+pub walking-begin : (s w old : List ℕ) (here : ℕ) (c : Cursor) (x : Reached) → c ≡ begin → x ≡ first here 0 → Surveyed s w → length old * 1 < 2 ^ 63 → Walking s w old here c x old
 unfolding fieldsIn localNamesFrom
 walking-begin s w old here c x e d v h = rw (e, d) (record {
   room = v .room;

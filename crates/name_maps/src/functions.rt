@@ -26,7 +26,7 @@ ghost use Rattle.syntax.specs.Resolved.{typeNoOf};
 ghost use Rattle.walk.specs.Walk.{fieldsIn};
 ghost use Rattle.scope.specs.Scope.{scopeIn};
 ghost use Rattle.frames.specs.Locals.{idsOf};
-ghost use Rattle.sections.specs.Write.{Writable};
+ghost use Rattle.deinline.specs.Surveyed.{Surveyed};
 ghost use Rattle.definition.specs.NameSection.{namedFrom, functions};
 ghost use Rattle.name_maps.specs.Maps.{first, Names, LocalNames, Few, functionOfExtern, functionOfOwn, functionOfSource, functionOf, ownLocals, broughtLocals, RecalledOf};
 
@@ -229,7 +229,7 @@ fn put_function(
 
 // Those of all functions. Each has a number, the imported ones too.
 pub fn put_locals(s: &[u8], work: &[u32], out: &mut [u8], at: usize) -> Reached
-    requires { ⌜ Writable (now s) (now work) ⌝ }
+    requires { ⌜ Surveyed (now s) (now work) ⌝ }
     ensures { λ r. ⌜ LocalNames (functions (scopeIn (now (s .entry)) (now (work .entry))) (fieldsIn (now (s .entry)))) (first at 0) (now (out .entry)) r (now (out .exit)) ⌝ }
 {
     let mut c = walk::start();

@@ -34,7 +34,7 @@ pub fn begin(at: usize, number: u64) -> Reached
 }
 
 // One place more. It is an entry where it carries an identifier.
-fn put_next(out: &mut [u8], x: Reached, s: &[u8], id: Part) -> Reached
+fn put_next(s: &[u8], out: &mut [u8], x: Reached, id: Part) -> Reached
     requires { ⌜ Few 8589934592 x ⌝ }
     ensures { λ r. ⌜ Names (idOf (now (s .entry)) id ∷ []) x (now (out .entry)) r (now (out .exit)) ⌝ }
 {
@@ -47,7 +47,7 @@ fn put_next(out: &mut [u8], x: Reached, s: &[u8], id: Part) -> Reached
         };
     }
     let a = leb::put_u(out, x.at, x.number);
-    let at = binary::names::put_name(out, a, s, id);
+    let at = binary::names::put_name(s, out, a, id);
     Reached {
         at,
         number,
@@ -79,7 +79,7 @@ fn put_place(s: &[u8], work: &[u32], out: &mut [u8], x: Reached, place: usize) -
     ensures { λ r. ⌜ Names (entry (now (s .entry)) (now (work .entry)) place ∷ []) x (now (out .entry)) r (now (out .exit)) ⌝ }
 {
     let id = entry_at(s, work, place);
-    put_next(out, x, s, id)
+    put_next(s, out, x, id)
 }
 
 // The names of all functions.
@@ -109,7 +109,7 @@ pub fn put_list(s: &[u8], out: &mut [u8], from: Reached, l: List) -> Reached
     while 0 < left {
         match typeuse::read_local(s, at) {
             LocalAt::Got(p, next) => {
-                x = put_next(out, x, s, p.id);
+                x = put_next(s, out, x, p.id);
                 at = next;
                 left -= 1;
             }

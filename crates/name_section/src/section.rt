@@ -82,7 +82,7 @@ fn put_length(k: u8, t: Tally, out: &mut [u8], at: usize) -> usize
 }
 
 // Subsection 1. An empty one is omitted.
-fn put_first(t: Tally, s: &[u8], work: &[u32], out: &mut [u8], at: usize) -> usize
+fn put_first(s: &[u8], work: &[u32], out: &mut [u8], at: usize, t: Tally) -> usize
     requires { ⌜ Writable (now s) (now work) × NameTally (now s) (now work) t ⌝ }
     ensures { λ r. ⌜ Put (now (out .entry)) at (Binary.sectionOf 1 (functionEntries (now (s .entry)) (now (work .entry)))) r (now (out .exit)) ⌝ }
 {
@@ -98,7 +98,7 @@ fn put_first(t: Tally, s: &[u8], work: &[u32], out: &mut [u8], at: usize) -> usi
 }
 
 // Subsection 2, likewise.
-fn put_second(t: Tally, s: &[u8], work: &[u32], out: &mut [u8], at: usize) -> usize
+fn put_second(s: &[u8], work: &[u32], out: &mut [u8], at: usize, t: Tally) -> usize
     requires { ⌜ Writable (now s) (now work) × NameTally (now s) (now work) t ⌝ }
     ensures { λ r. ⌜ Put (now (out .entry)) at (Binary.sectionOf 2 (localEntries (now (s .entry)) (now (work .entry)))) r (now (out .exit)) ⌝ }
 {
@@ -121,7 +121,7 @@ fn put_title(out: &mut [u8], at: usize) -> usize
 }
 
 // An empty section is omitted.
-pub fn put_name_section(t: Tally, s: &[u8], work: &[u32], out: &mut [u8], at: usize) -> usize
+pub fn put_name_section(s: &[u8], work: &[u32], out: &mut [u8], at: usize, t: Tally) -> usize
     requires { ⌜ Writable (now s) (now work) × NameTally (now s) (now work) t ⌝ }
     ensures { λ r. ⌜ Put (now (out .entry)) at (namesIn (now (s .entry)) (now (work .entry))) r (now (out .exit)) ⌝ }
 {
@@ -131,6 +131,6 @@ pub fn put_name_section(t: Tally, s: &[u8], work: &[u32], out: &mut [u8], at: us
     }
     let a = put_head(0, emit::tally(5, n), out, at);
     let b = put_title(out, a);
-    let c = put_first(t, s, work, out, b);
-    put_second(t, s, work, out, c)
+    let c = put_first(s, work, out, b, t);
+    put_second(s, work, out, c, t)
 }

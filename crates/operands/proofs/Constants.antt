@@ -1,6 +1,6 @@
 -- Laws of constants.
 use Prim.Native.Nat.{ℕ}
-use mathlib.Core.Path.{_≡_, refl, sym, _∙_}
+use mathlib.Core.Path.{_≡_, sym, _∙_}
 use mathlib.Core.Bool.{Bool, true, false}
 use mathlib.Core.List.{List, [], _∷_}
 use Rattle.definition.specs.Syntax as Syntax
@@ -10,7 +10,7 @@ use Rattle.definition.specs.Binary.{imm, instruction}
 use Rattle.syntax.specs.declared.Refusal.{Refusal}
 use Rattle.emit.specs.Put.{Put}
 use Rattle.emit.proofs.Laws.{put-cons}
-use Rattle.syntax.specs.Plain.{plainIs}
+use Rattle.syntax.specs.Plain.{plainIs, constantAt}
 use Rattle.syntax.specs.declared.Plain.{Plain}
 use Rattle.name_table.specs.Area as Area
 use Rattle.scope.specs.Scope.{scopeIn, localsIn, labelsIn}
@@ -28,22 +28,22 @@ use Rattle.operands.specs.Operands.{constBytes, zeroOp}
 abbrev noLocals : Locals
 noLocals = record { nameless = 0; count = 0 }
 
-module _ (s w : List ℕ) (rec : ℕ) (c : Plain) (old : List ℕ) (at : ℕ) (q : Emitted) (mid : List ℕ)
-    (told : Emits instruction (plainOp (scopeIn s w) (localsIn s w noLocals) (labelsIn s w 0) rec (plainIs s c)) old at q mid) where
-  same : plainOp (scopeIn s w) (localsIn s w noLocals) (labelsIn s w 0) rec (plainIs s c) ≡ constOp (scopeIn s w) rec (plainIs s c)
+module _ (s w : List ℕ) (rec : ℕ) (c : ℕ) (p : Plain) (is : plainIs s p ≡ constantAt s c) (old : List ℕ) (at : ℕ) (q : Emitted) (mid : List ℕ)
+    (told : Emits instruction (plainOp (scopeIn s w) (localsIn s w noLocals) (labelsIn s w 0) rec (plainIs s p)) old at q mid) where
+  same : plainOp (scopeIn s w) (localsIn s w noLocals) (labelsIn s w 0) rec (plainIs s p) ≡ constOp (scopeIn s w) rec (constantAt s c)
   unfolding constOp localsIn labelsIn Area.names Area.labels
-  same = refl
+  same = rw is
 
-  pub const-to : (o r : ℕ) (new : List ℕ) → q ≡ E.To o → Put mid o (0x0B ∷ []) r new → Emits constBytes (constOp (scopeIn s w) rec (plainIs s c)) old at (E.To r) new
+  pub const-to : (o r : ℕ) (new : List ℕ) → q ≡ E.To o → Put mid o (0x0B ∷ []) r new → Emits constBytes (constOp (scopeIn s w) rec (constantAt s c)) old at (E.To r) new
   unfolding constBytes
-  const-to o r new d p =
-      let v = was-wrote instruction (plainOp (scopeIn s w) (localsIn s w noLocals) (labelsIn s w 0) rec (plainIs s c)) old at mid q o told d in
-      wrote constBytes (constOp (scopeIn s w) rec (plainIs s c)) old at new (v .value) r (put-expr (v .value) (v .put) p) (sym same ∙ v .is)
+  const-to o r new d e =
+      let v = was-wrote instruction (plainOp (scopeIn s w) (localsIn s w noLocals) (labelsIn s w 0) rec (plainIs s p)) old at mid q o told d in
+      wrote constBytes (constOp (scopeIn s w) rec (constantAt s c)) old at new (v .value) r (put-expr (v .value) (v .put) e) (sym same ∙ v .is)
 
-  pub const-not : (r : Refusal) → q ≡ E.Refused r → Emits constBytes (constOp (scopeIn s w) rec (plainIs s c)) old at (E.Refused r) mid
+  pub const-not : (r : Refusal) → q ≡ E.Refused r → Emits constBytes (constOp (scopeIn s w) rec (constantAt s c)) old at (E.Refused r) mid
   const-not r d =
-      halts constBytes (constOp (scopeIn s w) rec (plainIs s c)) old at mid r
-      (sym same ∙ has-halted instruction (plainOp (scopeIn s w) (localsIn s w noLocals) (labelsIn s w 0) rec (plainIs s c)) old at mid q r told d)
+      halts constBytes (constOp (scopeIn s w) rec (constantAt s c)) old at mid r
+      (sym same ∙ has-halted instruction (plainOp (scopeIn s w) (localsIn s w noLocals) (labelsIn s w 0) rec (plainIs s p)) old at mid q r told d)
 
 -- ## Offset 0
 

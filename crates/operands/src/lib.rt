@@ -6,7 +6,6 @@ pub mod operand;
 
 pub use constant::emit_const;
 pub use constant::put_zero_offset;
-pub use constant::zero_offset;
 pub use indices::count_indices;
 pub use indices::emit_func;
 pub use indices::emit_funcs;

@@ -112,7 +112,7 @@ fn emit_operand(
         Operand::Access(e, o, x) => emit_access(s, work, out, at, e, o, x, rec),
         Operand::Int32(n) => Emitted::To(leb::put_i32(out, at, n)),
         Operand::Int64(n) => Emitted::To(leb::put_i64(out, at, n)),
-        Operand::Raw(p) => Emitted::To(binary::put_part(out, at, s, p)),
+        Operand::Raw(p) => Emitted::To(binary::put_part(s, out, at, p)),
         Operand::Heap(t) => Emitted::To(emit::put(out, at, t)),
     }
 }

@@ -12,7 +12,7 @@ use Rattle.definition.specs.Basic.{if_then_else_, Answer, ok, refused}
 use Rattle.definition.specs.Syntax.{Bytes, Identifier, Rec}
 use Rattle.definition.specs.Read.{read}
 use Rattle.laws.specs.Steps.{total}
-use Rattle.area.specs.Layout.{BYTES, TYPES, WORDS}
+use Rattle.area.specs.Layout.{BYTES, COUNTS, ENDS, TYPES, WORDS}
 use Rattle.stream.specs.Pass.{passed, endWords, areaAfter, counted, reading, readingArea, Reads}
 use Rattle.counting.specs.Counting.{countWords}
 use Rattle.stream.specs.declared.pass.Count.{Count}
@@ -29,15 +29,15 @@ drop-sets : (n i : ℕ) (l vs : List ℕ) → i + length vs ≤ n → drop n (se
 drop-sets n i l [] h = refl
 drop-sets n i l (v ∷ vs) h = drop-sets n (suc i) (set l i v) vs (omega arith) ∙ drop-set-lt n l i v (omega arith)
 
--- the words from 8 up to `TYPES`
-middle : (l : List ℕ) → 8 ≤ length l → drop 8 (take TYPES l) ≡ take 512 (drop 8 l)
-middle l h = ap (drop 8) (take-add 8 512 l) ∙ drop-at (take 8 l) (take 512 (drop 8 l)) 8 (length-take-le 8 l h)
+-- the words from `ENDS` up to `TYPES`
+middle : (l : List ℕ) → ENDS ≤ length l → drop ENDS (take TYPES l) ≡ take 512 (drop ENDS l)
+middle l h = ap (drop ENDS) (take-add ENDS 512 l) ∙ drop-at (take ENDS l) (take 512 (drop ENDS l)) ENDS (length-take-le ENDS l h)
 
--- words that are written from word 8 on
-written : (w es : List ℕ) → 8 + length es ≤ length w → drop 8 (sets w 8 es) ≡ es ++ drop (8 + length es) w
+-- words that are written from `ENDS` on
+written : (w es : List ℕ) → ENDS + length es ≤ length w → drop ENDS (sets w ENDS es) ≡ es ++ drop (ENDS + length es) w
 written w es h =
-    ap (drop 8) (sets-eq es w 8 h ∙ append-assoc (take 8 w) es (drop (8 + length es) w))
-    ∙ drop-at (take 8 w) (es ++ drop (8 + length es) w) 8 (length-take-le 8 w (omega arith))
+    ap (drop ENDS) (sets-eq es w ENDS h ∙ append-assoc (take ENDS w) es (drop (ENDS + length es) w))
+    ∙ drop-at (take ENDS w) (es ++ drop (ENDS + length es) w) ENDS (length-take-le ENDS w (omega arith))
 
 begins-with : (es more : List ℕ) → length es ≤ 512 → take 512 (es ++ more) ≡ es ++ take (512 - length es) more
 begins-with es more h = let e : 512 ≡ length es + (512 - length es) = omega arith in ap (λ n. take n (es ++ more)) e ∙ take-append-add es more (512 - length es)
@@ -46,21 +46,21 @@ begins-with es more h = let e : 512 ≡ length es + (512 - length es) = omega ar
 
 -- the area that reading an accepted stream leaves
 pub area-is : (s : Bytes) (w : List ℕ) (rs : List (Rec Identifier)) → read s ≡ ok rs
-    → areaAfter (passed s) w ≡ sets (sets w 8 (endsFrom 4096 begin s)) 0 (countWords (passed s .seen))
+    → areaAfter (passed s) w ≡ sets (sets w ENDS (endsFrom 4096 begin s)) COUNTS (countWords (passed s .seen))
 unfolding areaAfter endWords
 area-is s w rs e =
     let a : passed s .says ≡ ok (0 + length rs) = passed-says s ∙ ap (total 0) e in
     let b : take 512 (passed s .ends) ≡ endsFrom 4096 begin s = ap (take 512) (ends-in s rs e) ∙ take-all 512 (endsFrom 4096 begin s) (ends-few s rs e) in
     rw (a, b)
 
--- its words from 8 up to `TYPES` begin with the ends
+-- its words from `ENDS` up to `TYPES` begin with the ends
 module _ (s : Bytes) (w : List ℕ) (l : WORDS ≤ length w) (es cs : List ℕ) (few : length es ≤ 512) (seven : length cs ≡ 7) where
-  words-are : drop 8 (take TYPES (sets (sets w 8 es) 0 cs)) ≡ es ++ take (512 - length es) (drop (8 + length es) w)
+  words-are : drop ENDS (take TYPES (sets (sets w ENDS es) COUNTS cs)) ≡ es ++ take (512 - length es) (drop (ENDS + length es) w)
   words-are =
-      let a : 8 ≤ length (sets (sets w 8 es) 0 cs) = rw (length-sets (sets w 8 es) 0 cs, length-sets w 8 es) (omega arith) in
-      middle (sets (sets w 8 es) 0 cs) a
-      ∙ ap (take 512) (drop-sets 8 0 (sets w 8 es) cs (omega arith) ∙ written w es (omega arith))
-      ∙ begins-with es (drop (8 + length es) w) few
+      let a : ENDS ≤ length (sets (sets w ENDS es) COUNTS cs) = rw (length-sets (sets w ENDS es) COUNTS cs, length-sets w ENDS es) (omega arith) in
+      middle (sets (sets w ENDS es) COUNTS cs) a
+      ∙ ap (take 512) (drop-sets ENDS COUNTS (sets w ENDS es) cs (omega arith) ∙ written w es (omega arith))
+      ∙ begins-with es (drop (ENDS + length es) w) few
 
 seven-counts : (s : Bytes) → length (countWords (passed s .seen)) ≡ 7
 unfolding countWords
@@ -72,8 +72,8 @@ unfolding begin
 ahead-begin s w rs e h =
     record {
       ends = record {
-        rest = take (512 - length (endsFrom 4096 begin s)) (drop (8 + length (endsFrom 4096 begin s)) w);
-        is = ap (λ z. drop 8 (take TYPES z)) (area-is s w rs e) ∙ words-are s w h (endsFrom 4096 begin s) (countWords (passed s .seen)) (ends-few s rs e) (seven-counts s);
+        rest = take (512 - length (endsFrom 4096 begin s)) (drop (ENDS + length (endsFrom 4096 begin s)) w);
+        is = ap (λ z. drop ENDS (take TYPES z)) (area-is s w rs e) ∙ words-are s w h (endsFrom 4096 begin s) (countWords (passed s .seen)) (ends-few s rs e) (seven-counts s);
       };
       few = omega arith;
       sound = sound-in s rs e;
@@ -122,7 +122,7 @@ module _ (s : Bytes) (w w′ : List ℕ) (r : Count) (v : Reads s w r w′) (n :
   pub reads-long : WORDS ≤ length w′
   unfolding areaAfter
   reads-long = let a = left .leaves in let b = area-is s w (left .recs) (left .is) in
-      rw (a, b, length-sets (sets w 8 (endsFrom 4096 begin s)) 0 (countWords (passed s .seen)), length-sets w 8 (endsFrom 4096 begin s)) (left .long)
+      rw (a, b, length-sets (sets w ENDS (endsFrom 4096 begin s)) COUNTS (countWords (passed s .seen)), length-sets w ENDS (endsFrom 4096 begin s)) (left .long)
 
   -- the stream is short enough
   pub reads-short : length s ≤ BYTES

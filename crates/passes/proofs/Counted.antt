@@ -12,6 +12,7 @@ use native.Mathlib.Decide.{decLe}
 use Rattle.laws.proofs.Declared.{declared-append, item-declares}
 use Rattle.definition.specs.Basic.{ok}
 use Rattle.definition.specs.Syntax as Syntax
+use Rattle.area.specs.Layout.{COUNTS, DECLARED, ENDS}
 use Rattle.definition.specs.Syntax.{Bytes, Identifier, Space, types, ExternType, Instr, Own, Source}
 use Rattle.definition.specs.Syntax.{FieldRec, typeR, importR, itemR, exportR, startR, elemR, dataR, Rec, field, instr, bodyEnd}
 use Rattle.definition.specs.Reader.{got}
@@ -166,17 +167,17 @@ unfolding read passed nothingSeen count deinline
 types-counted s rs e = let h = counted-all 4096 0 nothingSeen false [] s 0 rs (omega arith) e in (omega (arith, h .sum), h .few)
 
 -- the fifth of the words that are put first
-fifth : (w : List ℕ) (seen : Read.Seen) → 7 ≤ length w → getD (sets w 0 (countWords seen)) 4 0 ≡ min (count types (seen .items)) 256
+fifth : (w : List ℕ) (seen : Read.Seen) → 7 ≤ length w → getD (sets w COUNTS (countWords seen)) DECLARED 0 ≡ min (count types (seen .items)) 256
 unfolding countWords
-fifth w seen h = ap (λ l. getD l 4 0) (sets-eq (countWords seen) w 0 h)
+fifth w seen h = ap (λ l. getD l DECLARED 0) (sets-eq (countWords seen) w COUNTS h)
 
 module _ (s : Bytes) (w w′ : List ℕ) (r : Count) (v : Reads s w r w′) (n : ℕ) (is : r ≡ C.Records n) where
   -- reading leaves how many types are declared
-  pub reads-declared : getD w′ 4 0 ≡ length (declared (fieldsIn s))
+  pub reads-declared : getD w′ DECLARED 0 ≡ length (declared (fieldsIn s))
   reads-declared =
       let x = left s w w′ r v n is in
       let t = types-counted s (x .recs) (x .is) in
-      let a : w′ ≡ sets (sets w 8 (endsFrom 4096 begin s)) 0 (countWords (passed s .seen)) = x .leaves ∙ area-is s w (x .recs) (x .is) in
-      let l : 7 ≤ length (sets w 8 (endsFrom 4096 begin s)) = rw (length-sets w 8 (endsFrom 4096 begin s)) (omega (arith, x .long)) in
+      let a : w′ ≡ sets (sets w ENDS (endsFrom 4096 begin s)) COUNTS (countWords (passed s .seen)) = x .leaves ∙ area-is s w (x .recs) (x .is) in
+      let l : 7 ≤ length (sets w ENDS (endsFrom 4096 begin s)) = rw (length-sets w ENDS (endsFrom 4096 begin s)) (omega (arith, x .long)) in
       let c : min (count types (passed s .seen .items)) 256 ≡ count types (passed s .seen .items) = omega (arith, t .1) in
-      ap (λ l. getD l 4 0) a ∙ fifth (sets w 8 (endsFrom 4096 begin s)) (passed s .seen) l ∙ c ∙ t .0 ∙ sym (ap (λ (l : Numbered Identifier). length (declared l)) (fields-in s (x .recs) (x .is)))
+      ap (λ l. getD l DECLARED 0) a ∙ fifth (sets w ENDS (endsFrom 4096 begin s)) (passed s .seen) l ∙ c ∙ t .0 ∙ sym (ap (λ (l : Numbered Identifier). length (declared l)) (fields-in s (x .recs) (x .is)))

@@ -82,10 +82,12 @@ module _ (s w : List ℕ) (d count : ℕ) (r : Checked) (w₁ b₀ b₁ : List �
     writable a b c u =
         let x = was-fine h (sym g ∙ e) in
         record {
-          stream = a;
-          room = rw (k .long) b;
-          ahead = ahead-kept s w w₁ begin (kept-less TYPES LOCALS (omega arith) k) c;
-          recalled = recalled-scope s w w₁ (uses (fieldsIn s)) (kept-less UNUSED LOCALS (omega arith) k) u;
+          left = record {
+            stream = a;
+            room = rw (k .long) b;
+            ahead = ahead-kept s w w₁ begin (kept-less TYPES LOCALS (omega arith) k) c;
+            recalled = recalled-scope s w w₁ (uses (fieldsIn s)) (kept-less UNUSED LOCALS (omega arith) k) u;
+          };
           fine = record { entries = x .entries; is = rw scope (x .is) };
         }
 

@@ -7,7 +7,7 @@ use syntax::Refusal;
 ghost use mathlib.Core.Path.{_≡_};
 ghost use Prim.Native.Nat.{_≤_};
 ghost use lib.ListN.{length, getD};
-ghost use Rattle.area.specs.Layout.{TYPES};
+ghost use Rattle.area.specs.Layout.{DECLARED, TYPES};
 ghost use Rattle.area.specs.Lent.{Lent};
 ghost use Rattle.definition.specs.Types as Types;
 ghost use Rattle.type_table.specs.Table.{typeTable, typesIn, Recalled};
@@ -73,7 +73,7 @@ fn intern(s: &[u8], work: &mut [u32], kept: &mut [u8], count: u32, declared: u32
 
 // The declared types; then what uses and names there are.
 fn declare(s: &[u8], work: &mut [u32], kept: &mut [u8], count: u32) -> Passed
-    requires { ⌜ Lent (now s) (now work) × Ahead (now s) (now work) begin × (getD (now work) 4 0 ≡ length (Types.declared (fieldsIn (now s)))) ⌝ }
+    requires { ⌜ Lent (now s) (now work) × Ahead (now s) (now work) begin × (getD (now work) DECLARED 0 ≡ length (Types.declared (fieldsIn (now s)))) ⌝ }
     ensures { λ r. ⌜ Passes (fromFields (fieldsIn (now (s .entry)))) count (now (s .entry)) (now (work .entry)) r (now (work .exit)) (now (kept .exit)) ⌝ }
 {
     let declared = interning::declare_all(s, work);

@@ -7,7 +7,7 @@ use borrow.Rule.Slice.PartMut.{putMid}
 use native.Mathlib.Omega.{arith}
 use types.Run.{OneOf, miss}
 use denote.Enum.Declared.{tagOf}
-use Rattle.definition.specs.Basic.{Answer, ok, refused, _>>=_, concatMap}
+use Rattle.definition.specs.Basic.{Answer, ok, _>>=_, concatMap}
 use Rattle.definition.specs.Syntax as Syntax
 use Rattle.definition.specs.Syntax.{Bytes}
 use Rattle.definition.specs.Types as Types
@@ -41,7 +41,9 @@ use Rattle.syntax.specs.declared.Source.the-variants as S
 use Rattle.syntax.proofs.Source as SourceOf
 use Rattle.frames.specs.Locals.{Head}
 use Rattle.code.specs.Body.{Resolvable}
-use Rattle.function.specs.Function.{codeOf, funcField, typedAnswer, EmitsTyped}
+use Rattle.binary.specs.Code.{codeOf}
+use Rattle.instr.specs.Functions.{funcField}
+use Rattle.function.specs.Function.{typedAnswer, EmitsTyped}
 use Rattle.deinline.specs.Entry.{oneOf, typeBytes, usesOf, tagged, both, answerOf, entryIn, secondOf, thirdOf}
 use Rattle.syntax.specs.declared.Entry.{Entry}
 use Rattle.syntax.specs.declared.Entry.the-variants as E

@@ -12,7 +12,8 @@ use Rattle.syntax.specs.declared.Own.the-variants as O
 use Rattle.syntax.specs.declared.Source.{Source}
 use Rattle.syntax.specs.declared.Source.the-variants as S
 use Rattle.binary.specs.declared.Emitted.{Emitted}
-use Rattle.function.specs.Function.{codeOf, typedAnswer, EmitsTyped}
+use Rattle.binary.specs.Code.{codeOf}
+use Rattle.function.specs.Function.{typedAnswer, EmitsTyped}
 use Rattle.deinline.specs.Entry.{Entries, oneOf, typeBytes, tagged}
 use Rattle.kept.specs.Parts.{partIn}
 use Rattle.resolve.specs.declared.func.FuncIn.{FuncIn}

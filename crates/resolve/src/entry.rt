@@ -1,5 +1,5 @@
 // An item's entries beside its exports, each resolved, kept and tallied.
-use crate::Spot;
+use deinline::Spot;
 use entries::EndsAt;
 use kept::Verdict;
 use syntax::Entry;

@@ -5,11 +5,11 @@ pub mod func;
 use crate::func::Func;
 use crate::func::FuncIn;
 use deinline::ItemIn;
+use deinline::Spot;
 use kept::Checked;
 use kept::Tally;
 use kept::Verdict;
 use syntax::Field;
-use syntax::Seen;
 use syntax::Source;
 use walk::What;
 ghost use mathlib.Core.Path.{_≡_};
@@ -20,13 +20,6 @@ ghost use Rattle.walk.specs.Walk.{Ahead, begin, fieldsIn};
 ghost use Rattle.scope.specs.Scope.{scopeIn};
 ghost use Rattle.deinline.specs.Entry.{both, entryIn, secondOf, thirdOf, three, threeIn, entriesOf};
 ghost use Rattle.kept.specs.Tally.{Twelve, Ready, ReadyThree, ChecksIn, noTally, tallyOf, checkedOf};
-
-// Where a field stands: what was seen before it, where its head ends, and its record.
-pub struct Spot {
-    pub seen: Seen,
-    pub here: usize,
-    pub rec: u32,
-}
 
 // What an item has beside its exports. An own function's type is resolved once.
 fn check_item(

@@ -1,8 +1,8 @@
 -- Runs of equal locals. The definition joins them from the right; the loops go from the left, with a run that is pending.
-use Prim.Native.Nat.{ℕ, zero, suc, _+_, _-_, _*_, _^_, _≤_, _<_}
+use Prim.Native.Nat.{ℕ, zero, suc, _+_, _-_, _≤_, _<_}
 use mathlib.Core.Path.{_≡_, refl, sym, _∙_, ap}
 use mathlib.Core.Bool.{Bool, true, false}
-use mathlib.Core.List.{[], _∷_, _++_, append-assoc, append-nil}
+use mathlib.Core.List.{[], _∷_}
 use lib.Dec.{eqb}
 use lib.ListN.{length}
 use native.Mathlib.Omega.{arith}
@@ -13,7 +13,6 @@ use Rattle.definition.specs.Reader.{many}
 use Rattle.definition.specs.Token.{param}
 use Rattle.definition.specs.Binary.{Runs, join, runs, run}
 use Rattle.emit.specs.Put.{Put}
-use Rattle.emit.proofs.Laws.{put-none, put-then, put-is}
 use Rattle.laws.specs.Steps.{stops}
 use Rattle.token.specs.Known.{Gets}
 use Rattle.syntax.specs.TypeUses.{localAt, elements}
@@ -21,6 +20,7 @@ use Rattle.syntax.specs.declared.Local.{Local}
 use Rattle.syntax.specs.declared.LocalAt.{LocalAt}
 use Rattle.syntax.specs.declared.LocalAt.the-variants as OA
 use Rattle.typeuse.proofs.Gets.{know-begin, know-local, know-again}
+use Rattle.binary.proofs.Putting.{Putting, putting-more, putting-done}
 use Rattle.runs.specs.Locals.{localTypes, RunIs, FirstRun, RunAtIs}
 use Rattle.runs.specs.declared.Run.{Run}
 use Rattle.runs.specs.declared.RunAt.{RunAt}
@@ -219,34 +219,17 @@ module _ {s : Bytes} {at count n here left : ℕ} (v : Counting s at count n her
 -- ## `put_each_run`
 
 -- some runs are put, and those of the locals that are left are not
-pub record Putting (s : Bytes) (at count : ℕ) (old : Bytes) (place o here left : ℕ) (out : Bytes) : Type 0 where
-  pub done : Bytes
-  pub so-far : Put old place done o out
-  pub same : done ++ concatMap run (runs (localTypes s here left)) ≡ concatMap run (runs (localTypes s at count))
-
-pub put-begin : {s : Bytes} {at count : ℕ} {old : Bytes} {place : ℕ} → length old * 1 < 2 ^ 63 → Putting s at count old place place at count old
-put-begin {place = place} h = record { done = []; so-far = put-none place (omega arith); same = refl }
-
-module _ {s : Bytes} {at count : ℕ} {old : Bytes} {place o here left : ℕ} {out : Bytes} (v : Putting s at count old place o here left out) where
-  pub put-again : (q : RunAt) (r : Run) (p : ℕ) (new : Bytes) → RunAtIs s here left q → q ≡ R.Got r → Put out o (run (r .count, r .value)) p new → Putting s at count old place p (r .next) (r .left) new
+module _ (s : Bytes) (here left : ℕ) {old : Bytes} {place : ℕ} {all : Bytes} {o : ℕ} {out : Bytes} (v : Putting old place all (concatMap run (runs (localTypes s here left))) o out) where
+  pub put-again : (q : RunAt) (r : Run) (p : ℕ) (new : Bytes) → RunAtIs s here left q → q ≡ R.Got r → Put out o (run (r .count, r .value)) p new → Putting old place all (concatMap run (runs (localTypes s (r .next) (r .left)))) p new
   unfolding concatMap
-  put-again q r p new w d x = record {
-    done = v .done ++ run (r .count, r .value);
-    so-far = put-then (v .so-far) x;
-    same = append-assoc (v .done) (run (r .count, r .value)) (concatMap run (runs (localTypes s (r .next) (r .left))))
-        ∙ (let e : runs (localTypes s here left) ≡ (r .count, r .value) ∷ runs (localTypes s (r .next) (r .left)) = run-first s here left q r w d in rw e at (v .same));
-  }
+  put-again q r p new w d x = putting-more v (run (r .count, r .value)) (concatMap run (runs (localTypes s (r .next) (r .left)))) p new (ap (λ z. concatMap run z) (run-first s here left q r w d)) x
 
-  none-to-put : runs (localTypes s here left) ≡ [] → Put old place (concatMap run (runs (localTypes s at count))) o out
+  none-to-put : runs (localTypes s here left) ≡ [] → Put old place all o out
   unfolding concatMap
-  none-to-put e = put-is (v .so-far) (sym (append-nil (v .done)) ∙ (rw e at (v .same)))
+  none-to-put e = putting-done v (ap (λ z. concatMap run z) e)
 
-  pub put-nothing : (q : RunAt) → RunAtIs s here left q → q ≡ R.Nothing → Put old place (concatMap run (runs (localTypes s at count))) o out
+  pub put-nothing : (q : RunAt) → RunAtIs s here left q → q ≡ R.Nothing → Put old place all o out
   put-nothing q w d = none-to-put (run-nothing s here left q w d)
 
-  pub put-done : left ≤ 0 → Put old place (concatMap run (runs (localTypes s at count))) o out
+  pub put-done : left ≤ 0 → Put old place all o out
   put-done h = none-to-put (runs-none s here left h)
-
-  -- the buffer keeps its length
-  pub put-long : length out ≡ length old
-  put-long = v .so-far .long

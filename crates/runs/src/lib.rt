@@ -117,7 +117,7 @@ pub struct Runs {
 }
 
 // The runs, without their count.
-fn put_each_run(out: &mut [u8], at: usize, s: &[u8], ls: List) -> Runs
+fn put_each_run(s: &[u8], out: &mut [u8], at: usize, ls: List) -> Runs
     requires { ⌜ Readable (now s) ls ⌝ }
     ensures { λ r. ⌜ (r .count ≤ ls .count) × (r .count ≡ length (Binary.runs (localTypes (now (s .entry)) (ls .at) (ls .count)))) × Put (now (out .entry)) at (concatMap Binary.run (Binary.runs (localTypes (now (s .entry)) (ls .at) (ls .count)))) (r .next) (now (out .exit)) ⌝ }
 {
@@ -142,18 +142,18 @@ fn put_each_run(out: &mut [u8], at: usize, s: &[u8], ls: List) -> Runs
 }
 
 // The runs after their count. Where that is one group, the runs are put first, after a place for it.
-pub fn put_runs(out: &mut [u8], at: usize, s: &[u8], ls: List) -> usize
+pub fn put_runs(s: &[u8], out: &mut [u8], at: usize, ls: List) -> usize
     requires { ⌜ Readable (now s) ls ⌝ }
     ensures { λ r. ⌜ Put (now (out .entry)) at (Binary.vec Binary.run (Binary.runs (localTypes (now (s .entry)) (ls .at) (ls .count)))) r (now (out .exit)) ⌝ }
 {
     if ls.count < 128 {
         if at < out.len() {
-            let r = put_each_run(out, at + 1, s, ls);
+            let r = put_each_run(s, out, at + 1, ls);
             emit::put(out, at, r.count as u8);
             return r.next;
         }
     }
     let a = leb::put_u(out, at, count_runs(s, ls));
-    let r = put_each_run(out, a, s, ls);
+    let r = put_each_run(s, out, a, ls);
     r.next
 }

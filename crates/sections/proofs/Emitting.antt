@@ -10,7 +10,6 @@ use Rattle.definition.specs.Types.{Uses}
 use Rattle.definition.specs.Binary.{inSection, joined}
 use Rattle.syntax.specs.Refusals.{refusedBy}
 use Rattle.syntax.specs.declared.Refusal.{Refusal}
-use Rattle.emit.specs.Put.{Put}
 use Rattle.emit.proofs.Laws.{put-then, put-is, put-skip}
 use Rattle.area.specs.Layout.{LOCALS, UNUSED}
 use Rattle.area.specs.Kept.{Kept}
@@ -18,14 +17,19 @@ use Rattle.area.proofs.Kept.{kept-same, kept-then, kept-less}
 use Rattle.type_table.specs.Table.{typesIn, Recalled}
 use Rattle.scope.specs.Scope.{scopeIn}
 use Rattle.scope.proofs.Frames.{types-kept, scope-kept, recalled-scope}
-use Rattle.deinline.specs.Entry.{Entries, sectionNo, answerOf, usesOf, tagged, both, entryIn, threeIn}
+use Rattle.deinline.specs.Entry.{Entries, sectionNo, answerOf, usesOf, tagged, both, entryIn, firstOf, secondOf, thirdOf, itemIn, three, threeIn}
+use Rattle.syntax.specs.declared.Seen.{Seen}
+use Rattle.syntax.specs.declared.Source.{Source}
+use Rattle.syntax.specs.declared.Field.{Field}
 use Rattle.syntax.specs.declared.Entry.{Entry}
-use Rattle.deinline.specs.declared.entry.Three.{Three}
+use Rattle.deinline.specs.declared.entry.ItemIn.{ItemIn}
+use Rattle.deinline.specs.declared.entry.ItemIn.the-variants as I
 use Rattle.kept.specs.Content.{Fine, bytesIn}
-use Rattle.sections.specs.Write.{Writes, Emittable, EmittableThree, lastTwo}
+use Rattle.sections.specs.Write.{Writes, Emittable, EmittableThree}
 use Rattle.entries.specs.Listed.{Answers}
 use Rattle.kept.specs.Emit.{AreaOf, EmitsEntry}
-use Rattle.kept.proofs.Keeping.{section-own, section-other, section-append, joined-append}
+use Rattle.laws.proofs.TypeSection.{section-append}
+use Rattle.kept.proofs.Keeping.{section-own, section-other, joined-append}
 use Rattle.entries.specs.declared.EndsAt.{EndsAt}
 use Rattle.entries.specs.declared.EndsAt.the-variants as A
 
@@ -101,97 +105,91 @@ types-same s w w′ k = types-kept s w w′ LOCALS k (omega arith)
 pub recalled-same : (s w w′ : List ℕ) (us : Uses) → Kept LOCALS w w′ → Recalled w (typesIn s w) us → Recalled w′ (typesIn s w′) us
 recalled-same s w w′ us k u = recalled-scope s w w′ us (kept-less UNUSED LOCALS (omega arith) k) u
 
-module _ (s w : List ℕ) (r : ℕ) (x : Three) (v : EmittableThree s w r x) where
-  fine-rest : Fine (lastTwo (scopeIn s w) s r x)
-  unfolding threeIn lastTwo
-  fine-rest = fine-second (entryIn (scopeIn s w) s r (x .first)) (both (entryIn (scopeIn s w) s r (x .second)) (entryIn (scopeIn s w) s r (x .third))) (v .fine)
+module _ (s w : List ℕ) (r : ℕ) (e f : Entry) (is : e ≡ f) (v : Emittable s w r f) where
+  -- an entry that the code has made
+  pub emittable-is : Emittable s w r e
+  emittable-is = rw is v
 
-  pub ready-first : Emittable s w r (x .first)
-  unfolding threeIn
-  ready-first = record {
-    stream = v .stream;
-    room = v .room;
-    below = v .below;
-    head = v .head₁;
-    whole = v .whole₁;
-    recalled = v .recalled₁;
-    fine = fine-first (entryIn (scopeIn s w) s r (x .first)) (both (entryIn (scopeIn s w) s r (x .second)) (entryIn (scopeIn s w) s r (x .third))) (v .fine);
+  -- after the one before it
+  pub emittable-still : (w₁ bs old : List ℕ) (at a : ℕ) (mid : List ℕ) → Writes bs old at a mid w w₁ → Emittable s w₁ r e
+  emittable-still w₁ bs old at a mid p =
+      rw is
+      (record {
+        stream = v .stream;
+        room = rw (p .area .long) (v .room);
+        below = v .below;
+        head = v .head;
+        whole = v .whole;
+        recalled = recalled-same s w w₁ (usesOf s r f) (p .area) (v .recalled);
+        fine = rw (scope-same s w w₁ (p .area)) (v .fine);
+      })
+
+-- first the one, then the other
+both-ok : (a b : Answer Entries) (xs ys : Entries) → a ≡ ok xs → b ≡ ok ys → both a b ≡ ok (xs ++ ys)
+unfolding both
+both-ok a b xs ys e h = rw (e, h)
+
+fine-both : (a b : Answer Entries) → Fine a → Fine b → Fine (both a b)
+fine-both a b f g = record { entries = f .entries ++ g .entries; is = both-ok a b (f .entries) (g .entries) (f .is) (g .is) }
+
+module _ (s w : List ℕ) (k r : ℕ) (e : Entry) (w₁ old : List ℕ) (at a : ℕ) (mid : List ℕ) (first : Writes (bytesIn k (entryIn (scopeIn s w) s r e)) old at a mid w w₁) (e′ : Entry) (is : e ≡ e′) (v : Emittable s w r e′)
+    (b : ℕ) (new w₂ : List ℕ) where
+  then-put : (rest : Answer Entries) → Fine rest → Writes (bytesIn k rest) mid a b new w₁ w₂ → Writes (bytesIn k (both (entryIn (scopeIn s w) s r e′) rest)) old at b new w w₂
+  then-put rest f q = record {
+    put = put-is (put-then (first .put) (q .put)) (rw is (bytes-both k (entryIn (scopeIn s w) s r e′) rest (fine-both (entryIn (scopeIn s w) s r e′) rest (v .fine) f)));
+    area = kept-then (first .area) (q .area);
   }
 
-  pub ready-second : Emittable s w r (x .second)
-  unfolding lastTwo
-  ready-second = record {
-    stream = v .stream;
-    room = v .room;
-    below = v .below;
-    head = v .head₂;
-    whole = v .whole₂;
-    recalled = v .recalled₂;
-    fine = fine-first (entryIn (scopeIn s w) s r (x .second)) (entryIn (scopeIn s w) s r (x .third)) fine-rest;
-  }
+  pub two-put : (f f′ : Entry) → f ≡ f′ → Emittable s w r f′ → Writes (bytesIn k (entryIn (scopeIn s w₁) s r f)) mid a b new w₁ w₂
+      → Writes (bytesIn k (both (entryIn (scopeIn s w) s r e′) (entryIn (scopeIn s w) s r f′))) old at b new w w₂
+  two-put f f′ d g q = then-put (entryIn (scopeIn s w) s r f′) (g .fine) (rw (scope-same s w w₁ (first .area), d) at q)
+
+-- what an item has beside its exports; any other field has nothing more
+module _ (s w : List ℕ) (r : ℕ) (f : Field) (seen : Seen) (here : ℕ) (i : ItemIn) (in-f : i ≡ itemIn f) where
+  module _ (x : Source) (is : i ≡ I.Item x) where
+    second-is : three f seen here .second ≡ secondOf x seen
+    unfolding three
+    second-is = rw (sym in-f ∙ is) refl
+
+    third-is : three f seen here .third ≡ thirdOf x here
+    unfolding three
+    third-is = rw (sym in-f ∙ is) refl
+
+    pub rest-second : Emittable s w r (three f seen here .second) → Emittable s w r (secondOf x seen)
+    rest-second h = rw second-is at h
+
+    pub rest-third : Emittable s w r (three f seen here .third) → Emittable s w r (thirdOf x here)
+    rest-third h = rw third-is at h
+
+    pub rest-item : (k : ℕ) (old : List ℕ) (at q : ℕ) (new w′ : List ℕ)
+        → Writes (bytesIn k (both (entryIn (scopeIn s w) s r (secondOf x seen)) (entryIn (scopeIn s w) s r (thirdOf x here)))) old at q new w w′
+        → Writes (bytesIn k (both (entryIn (scopeIn s w) s r (three f seen here .second)) (entryIn (scopeIn s w) s r (three f seen here .third)))) old at q new w w′
+    rest-item k old at q new w′ h = rw (second-is, third-is) h
+
+  pub rest-none : (k : ℕ) (old : List ℕ) (at : ℕ) → i ≡ I.Other → length old * 1 < 2 ^ 63
+      → Writes (bytesIn k (both (entryIn (scopeIn s w) s r (three f seen here .second)) (entryIn (scopeIn s w) s r (three f seen here .third)))) old at at old w w
+  unfolding three both entryIn tagged answerOf bytesIn inSection joined concatMap
+  rest-none k old at is h = record { put = put-skip h (rw (sym in-f ∙ is) refl); area = kept-same LOCALS w }
+
+-- all entries of a field
+module _ (s w : List ℕ) (r : ℕ) (f : Field) (seen : Seen) (here : ℕ) (v : EmittableThree s w r (three f seen here)) where
+  pub field-first : (e : Entry) → e ≡ firstOf f seen → Emittable s w r e
+  unfolding three
+  field-first e d = rw d (v .first)
 
   module _ (w₁ bs old : List ℕ) (at a : ℕ) (mid : List ℕ) (p : Writes bs old at a mid w w₁) where
-    -- after the one before it
-    pub ready-third : Emittable s w₁ r (x .third)
-    unfolding lastTwo
-    ready-third =
-        let d = scope-same s w w₁ (p .area) in
-        record {
-          stream = v .stream;
-          room = rw (p .area .long) (v .room);
-          below = v .below;
-          head = v .head₃;
-          whole = v .whole₃;
-          recalled = recalled-same s w w₁ (usesOf s r (x .third)) (p .area) (v .recalled₃);
-          fine = rw d (fine-second (entryIn (scopeIn s w) s r (x .second)) (entryIn (scopeIn s w) s r (x .third)) fine-rest);
-        }
+    pub field-second : Emittable s w₁ r (three f seen here .second)
+    field-second = emittable-still s w r (three f seen here .second) (three f seen here .second) refl (v .second) w₁ bs old at a mid p
 
-    pub ready-still : EmittableThree s w₁ r x
-    ready-still =
-        let d = scope-same s w w₁ (p .area) in
-        record {
-          stream = v .stream;
-          room = rw (p .area .long) (v .room);
-          below = v .below;
-          head₁ = v .head₁;
-          head₂ = v .head₂;
-          head₃ = v .head₃;
-          whole₁ = v .whole₁;
-          whole₂ = v .whole₂;
-          whole₃ = v .whole₃;
-          recalled₁ = recalled-same s w w₁ (usesOf s r (x .first)) (p .area) (v .recalled₁);
-          recalled₂ = recalled-same s w w₁ (usesOf s r (x .second)) (p .area) (v .recalled₂);
-          recalled₃ = recalled-same s w w₁ (usesOf s r (x .third)) (p .area) (v .recalled₃);
-          fine = rw d (v .fine);
-        }
+    pub field-third : Emittable s w₁ r (three f seen here .third)
+    field-third = emittable-still s w r (three f seen here .third) (three f seen here .third) refl (v .third) w₁ bs old at a mid p
 
-  module _ (k : ℕ) (w₁ w₂ old : List ℕ) (at a b : ℕ) (mid new : List ℕ) where
-    pub two-put : Writes (bytesIn k (entryIn (scopeIn s w) s r (x .second))) old at a mid w w₁ → Writes (bytesIn k (entryIn (scopeIn s w₁) s r (x .third))) mid a b new w₁ w₂
-        → Writes (bytesIn k (lastTwo (scopeIn s w) s r x)) old at b new w w₂
-    unfolding lastTwo
-    two-put p q =
-        let d = scope-same s w w₁ (p .area) in
-        let q′ : Put mid a (bytesIn k (entryIn (scopeIn s w) s r (x .third))) b new = put-is (q .put) (rw d refl) in
-        record {
-          put = put-is (put-then (p .put) q′) (bytes-both k (entryIn (scopeIn s w) s r (x .second)) (entryIn (scopeIn s w) s r (x .third)) fine-rest);
-          area = kept-then (p .area) (q .area);
-        }
-
-    pub three-put : Writes (bytesIn k (entryIn (scopeIn s w) s r (x .first))) old at a mid w w₁ → Writes (bytesIn k (lastTwo (scopeIn s w₁) s r x)) mid a b new w₁ w₂
-        → Writes (bytesIn k (threeIn (scopeIn s w) s r x)) old at b new w w₂
-    unfolding lastTwo threeIn
-    three-put p q =
-        let d = scope-same s w w₁ (p .area) in
-        let q′ : Put mid a (bytesIn k (both (entryIn (scopeIn s w) s r (x .second)) (entryIn (scopeIn s w) s r (x .third)))) b new = put-is (q .put) (rw d refl) in
-        record {
-          put = put-is (put-then (p .put) q′) (bytes-both k (entryIn (scopeIn s w) s r (x .first)) (both (entryIn (scopeIn s w) s r (x .second)) (entryIn (scopeIn s w) s r (x .third))) (v .fine));
-          area = kept-then (p .area) (q .area);
-        }
-
--- the entries are those that the code makes of a field
-pub ready-is : (s w : List ℕ) (r : ℕ) (x y : Three) → x ≡ y → EmittableThree s w r y → EmittableThree s w r x
-ready-is s w r x y e v = rw e v
-
-pub three-is : (s w : List ℕ) (k r : ℕ) (x y : Three) (old : Bytes) (at q : ℕ) (new w′ : List ℕ) → x ≡ y
-    → Writes (bytesIn k (threeIn (scopeIn s w) s r x)) old at q new w w′ → Writes (bytesIn k (threeIn (scopeIn s w) s r y)) old at q new w w′
-three-is s w k r x y old at q new w′ e p = rw (← e) p
+  pub three-put : (k : ℕ) (e : Entry) (w₁ w₂ old : List ℕ) (at a b : ℕ) (mid new : List ℕ) → e ≡ firstOf f seen → Writes (bytesIn k (entryIn (scopeIn s w) s r e)) old at a mid w w₁
+      → Writes (bytesIn k (both (entryIn (scopeIn s w₁) s r (three f seen here .second)) (entryIn (scopeIn s w₁) s r (three f seen here .third)))) mid a b new w₁ w₂
+      → Writes (bytesIn k (threeIn (scopeIn s w) s r (three f seen here))) old at b new w w₂
+  unfolding threeIn three
+  three-put k e w₁ w₂ old at a b mid new d p q =
+      let second = entryIn (scopeIn s w) s r (three f seen here .second) in
+      let third = entryIn (scopeIn s w) s r (three f seen here .third) in
+      then-put s w k r e w₁ old at a mid p (firstOf f seen) d (v .first) b new w₂ (both second third) (fine-both second third (v .second .fine) (v .third .fine))
+      (rw (scope-same s w w₁ (p .area)) at q)

@@ -11,7 +11,7 @@ use Rattle.definition.specs.Types.{Uses, uses, fieldUses, typeNumber}
 use Rattle.definition.specs.Names.{Scope, resolveAll}
 use Rattle.definition.specs.Binary.{inSection, joined}
 use Rattle.emit.specs.Put.{Put, past}
-use Rattle.emit.proofs.Laws.{put-none, put-then, put-is}
+use Rattle.binary.proofs.Putting.{Putting, putting-begin, putting-more, putting-done, putting-long}
 use Rattle.area.specs.Layout.{BYTES, LOCALS, TYPES, USES, WORDS}
 use Rattle.area.specs.Kept.{Kept}
 use Rattle.area.proofs.Kept.{kept-same, kept-then, kept-less}
@@ -25,12 +25,12 @@ use Rattle.walk.specs.declared.What.the-variants as W
 use Rattle.walk.proofs.Steps.{visit-done, visit-few, visit-func-few, visit-readable, visit-fields, visit-whole, visit-ahead, ahead-kept}
 use Rattle.scope.specs.Scope.{scopeIn}
 use Rattle.scope.proofs.Frames.{recalled-left, recalled-right}
-use Rattle.deinline.specs.Entry.{three, both, threeIn, entriesOf}
-use Rattle.deinline.specs.declared.entry.Three.{Three}
+use Rattle.deinline.specs.Entry.{usesOf, HeadIn, WholeIn, Three, three, both, entryIn, threeIn, entriesOf}
+use Rattle.syntax.specs.declared.Entry.{Entry}
 use Rattle.deinline.proofs.Fields.{entries-append, entries-here}
 use Rattle.deinline.proofs.Uses.{All, AllThree, uses-here, HeadThree, head-here, WholeThree, whole-here}
 use Rattle.kept.specs.Content.{Fine, bytesIn}
-use Rattle.sections.specs.Write.{Writes, EmittableThree, Writable}
+use Rattle.sections.specs.Write.{Writes, Emittable, EmittableThree, Writable}
 use Rattle.sections.proofs.Emitting.{fine-first, fine-second, bytes-both, scope-same, recalled-same}
 
 -- ## Uses
@@ -89,27 +89,23 @@ pub record Emitting (k : ℕ) (s w₀ old : List ℕ) (at : ℕ) (c : Cursor) (o
   pub ahead : Ahead s w c
   pub recalled : Recalled w (typesIn s w) (uses (fieldsAhead c s))
   pub fine : Fine (entriesOf (scopeIn s w) (fieldsAhead c s))
-  pub done : Bytes
-  pub so-far : Put old at done o out
-  pub same : done ++ bytesIn k (entriesOf (scopeIn s w) (fieldsAhead c s)) ≡ bytesIn k (entriesOf (scopeIn s w₀) (fieldsIn s))
+  pub put : Putting old at (bytesIn k (entriesOf (scopeIn s w₀) (fieldsIn s))) (bytesIn k (entriesOf (scopeIn s w) (fieldsAhead c s))) o out
 
 pub emitting-begin : (k : ℕ) (s w old : List ℕ) (at : ℕ) (c : Cursor) → c ≡ begin → Writable s w → length old * 1 < 2 ^ 63 → Emitting k s w old at c at old w
 unfolding fieldsIn
 emitting-begin k s w old at c e v h = rw e (record {
-  stream = v .stream;
-  room = v .room;
+  stream = v .left .stream;
+  room = v .left .room;
   area = kept-same LOCALS w;
-  ahead = v .ahead;
-  recalled = v .recalled;
+  ahead = v .left .ahead;
+  recalled = v .left .recalled;
   fine = v .fine;
-  done = [];
-  so-far = put-none at (omega arith);
-  same = refl;
+  put = putting-begin old at (bytesIn k (entriesOf (scopeIn s w) (fieldsIn s))) (bytesIn k (entriesOf (scopeIn s w) (fieldsAhead begin s))) h refl;
 })
 
 module _ (k : ℕ) (s w₀ old : List ℕ) (at : ℕ) (c : Cursor) (o : ℕ) (out w : List ℕ) (v : Emitting k s w₀ old at c o out w) where
   pub emitting-long : length out ≡ length old
-  emitting-long = v .so-far .long
+  emitting-long = putting-long (v .put)
 
   pub emitting-area : length w ≡ length w₀
   emitting-area = v .area .long
@@ -117,14 +113,14 @@ module _ (k : ℕ) (s w₀ old : List ℕ) (at : ℕ) (c : Cursor) (o : ℕ) (ou
   -- no byte is left
   pub emitting-stop : (end : ℕ) → past at (length (bytesIn k (entriesOf (scopeIn s w₀) (fieldsIn s)))) ≤ end → end ≤ o
       → Writes (bytesIn k (entriesOf (scopeIn s w₀) (fieldsIn s))) old at o out w₀ w
-  emitting-stop end h g = record { put = put-all (bytesIn k (entriesOf (scopeIn s w) (fieldsAhead c s))) (v .so-far) (v .same) (omega (arith, h, g)); area = v .area }
+  emitting-stop end h g = record { put = put-all (bytesIn k (entriesOf (scopeIn s w) (fieldsAhead c s))) (v .put .so-far) (v .put .same) (omega (arith, h, g)); area = v .area }
 
   module _ (m : Met) (told : visitIn (c .left) c s ≡ visitOf s m) where
     -- no field is left
     pub emitting-done : m .what ≡ W.Done → Writes (bytesIn k (entriesOf (scopeIn s w₀) (fieldsIn s))) old at o out w₀ w
     emitting-done is =
         let e = visit-done s c m told is in
-        record { put = put-is (v .so-far) (sym (append-nil (v .done)) ∙ ap (λ z. v .done ++ z) (sym (none-in k (scopeIn s w))) ∙ ap (λ z. v .done ++ bytesIn k (entriesOf (scopeIn s w) z)) (sym e) ∙ v .same); area = v .area }
+        record { put = putting-done (v .put) (ap (λ z. bytesIn k (entriesOf (scopeIn s w) z)) e ∙ none-in k (scopeIn s w)); area = v .area }
 
     module _ (f : Field) (here : ℕ) (is : m .what ≡ W.Field f here) where
       abbrev met : Visited
@@ -156,22 +152,28 @@ module _ (k : ℕ) (s w₀ old : List ℕ) (at : ℕ) (c : Cursor) (o : ℕ) (ou
       fine-both : Fine (both (threeIn (scopeIn s w) s (c .rec) now) (entriesOf (scopeIn s w) (fieldsAhead (m .next) s)))
       fine-both = subst Fine parts (v .fine)
 
-      pub emitting-ready : ReadableMet s (m .what) → EmittableThree s w (c .rec) (three f (c .seen) here)
-      emitting-ready known = record {
+      ready : (e : Entry) → HeadIn s e → WholeIn s (c .rec) e → All (Recall w (typesIn s w)) (usesOf s (c .rec) e) → Fine (entryIn (scopeIn s w) s (c .rec) e) → Emittable s w (c .rec) e
+      ready e h b u g = record {
         stream = v .stream;
         room = v .room;
         below = visit-few s c m told f here is;
-        head₁ = heads known .first;
-        head₂ = heads known .second;
-        head₃ = heads known .third;
-        whole₁ = ends .first;
-        whole₂ = ends .second;
-        whole₃ = ends .third;
-        recalled₁ = from-all w (typesIn s w) _ (each-use .first);
-        recalled₂ = from-all w (typesIn s w) _ (each-use .second);
-        recalled₃ = from-all w (typesIn s w) _ (each-use .third);
-        fine = fine-first (threeIn (scopeIn s w) s (c .rec) now) (entriesOf (scopeIn s w) (fieldsAhead (m .next) s)) fine-both;
+        head = h;
+        whole = b;
+        recalled = from-all w (typesIn s w) (usesOf s (c .rec) e) u;
+        fine = g;
       }
+
+      pub emitting-ready : ReadableMet s (m .what) → EmittableThree s w (c .rec) (three f (c .seen) here)
+      unfolding threeIn
+      emitting-ready known =
+          let Γ = scopeIn s w in
+          let all = fine-first (threeIn Γ s (c .rec) now) (entriesOf Γ (fieldsAhead (m .next) s)) fine-both in
+          let rest = fine-second (entryIn Γ s (c .rec) (now .first)) (both (entryIn Γ s (c .rec) (now .second)) (entryIn Γ s (c .rec) (now .third))) all in
+          record {
+            first = ready (now .first) (heads known .first) (ends .first) (each-use .first) (fine-first (entryIn Γ s (c .rec) (now .first)) (both (entryIn Γ s (c .rec) (now .second)) (entryIn Γ s (c .rec) (now .third))) all);
+            second = ready (now .second) (heads known .second) (ends .second) (each-use .second) (fine-first (entryIn Γ s (c .rec) (now .second)) (entryIn Γ s (c .rec) (now .third)) rest);
+            third = ready (now .third) (heads known .third) (ends .third) (each-use .third) (fine-second (entryIn Γ s (c .rec) (now .second)) (entryIn Γ s (c .rec) (now .third)) rest);
+          }
 
       pub emitting-again : (q : ℕ) (new w′ : List ℕ) → Writes (bytesIn k (threeIn (scopeIn s w) s (c .rec) (three f (c .seen) here))) out o q new w w′
           → Emitting k s w₀ old at (m .next) q new w′
@@ -184,10 +186,7 @@ module _ (k : ℕ) (s w₀ old : List ℕ) (at : ℕ) (c : Cursor) (o : ℕ) (ou
             ahead = ahead-kept s w w′ (m .next) (kept-less TYPES LOCALS (omega arith) (p .area)) (visit-ahead s c m told f here is w (v .ahead));
             recalled = recalled-same s w w′ (uses (fieldsAhead (m .next) s)) (p .area) (recalled-right w (typesIn s w) (uses (fieldsHere c s met)) (uses (fieldsAhead (m .next) s)) used);
             fine = rw d (fine-second (threeIn (scopeIn s w) s (c .rec) now) (entriesOf (scopeIn s w) (fieldsAhead (m .next) s)) fine-both);
-            done = v .done ++ bytesIn k (threeIn (scopeIn s w) s (c .rec) now);
-            so-far = put-then (v .so-far) (p .put);
-            same = rw d (append-assoc (v .done) (bytesIn k (threeIn (scopeIn s w) s (c .rec) now)) (bytesIn k (entriesOf (scopeIn s w) (fieldsAhead (m .next) s)))
-                ∙ ap (λ z. v .done ++ z) (bytes-both k (threeIn (scopeIn s w) s (c .rec) now) (entriesOf (scopeIn s w) (fieldsAhead (m .next) s)) fine-both
-                ∙ ap (bytesIn k) (sym parts))
-                ∙ v .same);
+            put = rw d
+                (putting-more (v .put) (bytesIn k (threeIn (scopeIn s w) s (c .rec) now)) (bytesIn k (entriesOf (scopeIn s w) (fieldsAhead (m .next) s))) q new
+                (ap (bytesIn k) parts ∙ sym (bytes-both k (threeIn (scopeIn s w) s (c .rec) now) (entriesOf (scopeIn s w) (fieldsAhead (m .next) s)) fine-both)) (p .put));
           }

@@ -12,7 +12,8 @@ use Rattle.definition.specs.Basic.{concatMap}
 use Rattle.definition.specs.Syntax.{Bytes, FuncType}
 use Rattle.definition.specs.Binary.{funcType, joined}
 use Rattle.emit.specs.Put.{Put}
-use Rattle.emit.proofs.Laws.{put-none, put-then, put-is}
+use Rattle.emit.proofs.Laws.{put-is}
+use Rattle.binary.proofs.Putting.{Putting, putting-begin, putting-more, putting-done, putting-long}
 use Rattle.deinline.specs.Entry.{Entries}
 use Rattle.type_table.specs.Table.{signatureOf, entryIn, typeTable, typesIn}
 use Rattle.type_table.specs.declared.entry.Signature.{Signature}
@@ -46,10 +47,8 @@ pub type-put : (s : Bytes) (w : List ℕ) (place : ℕ) {old new : Bytes} {at r 
 type-put s w place x e p = rw (← e) p
 
 pub record Typing (s : Bytes) (w : List ℕ) (declared : ℕ) (old : Bytes) (at left place o : ℕ) (out : Bytes) : Type 0 where
-  pub done : Bytes
   pub low : 0 < left → place + 5 * left ≤ USES
-  pub so-far : Put old at done o out
-  pub same : done ++ typeBytes (typeTable left s w place) ≡ typeBytes (drop declared (typesIn s w))
+  pub put : Putting old at (typeBytes (drop declared (typesIn s w))) (typeBytes (typeTable left s w place)) o out
 
 low-begin : (m d n : ℕ) → n ≡ min m 256 - d → 0 < n → TYPES + 5 * d + 5 * n ≤ USES
 low-begin m d n e h = omega arith
@@ -57,40 +56,36 @@ low-begin m d n e h = omega arith
 pub typing-begin : {s : Bytes} {w : List ℕ} {d : ℕ} {old : Bytes} {at n : ℕ} → n ≡ min (getD w TOTAL 0) 256 - d → length old * 1 < 2 ^ 63
     → Typing s w d old at n (TYPES + 5 * d) at old
 typing-begin {s} {w} {d} {old} {at} {n} e h = record {
-  done = [];
   low = λ g. low-begin (getD w TOTAL 0) d n e g;
-  so-far = put-none at (omega arith);
-  same = ap typeBytes (rw e (sym (types-rest s w d)));
+  put = putting-begin old at (typeBytes (drop d (typesIn s w))) (typeBytes (typeTable n s w (TYPES + 5 * d))) h (ap typeBytes (rw e (sym (types-rest s w d))));
 }
 
 module _ {s : Bytes} {w : List ℕ} {declared : ℕ} {old : Bytes} {at left place o : ℕ} {out : Bytes} (v : Typing s w declared old at left place o out) where
   pub typing-again : {r : ℕ} {new : Bytes} → 0 < left → Put out o (funcType (signatureOf s (entryIn w place))) r new
       → Typing s w declared old at (left - 1) (place + 5) r new
   unfolding typeTable typeBytes
-  typing-again {r} {new} h p = go left h (v .low) (v .same)
+  typing-again {r} {new} h p = go left h (v .low) (v .put)
     where
-      go : (n : ℕ) → 0 < n → (0 < n → place + 5 * n ≤ USES) → v .done ++ typeBytes (typeTable n s w place) ≡ typeBytes (drop declared (typesIn s w))
+      go : (n : ℕ) → 0 < n → (0 < n → place + 5 * n ≤ USES) → Putting old at (typeBytes (drop declared (typesIn s w))) (typeBytes (typeTable n s w place)) o out
           → Typing s w declared old at (n - 1) (place + 5) r new
       go zero h l q = absurd (omega arith)
       go (suc n) h l q =
           let z : suc n - 1 ≡ n = omega arith in
           rw z (record {
-            done = v .done ++ funcType (signatureOf s (entryIn w place));
             low = λ _. omega (arith, l (omega arith));
-            so-far = put-then (v .so-far) p;
-            same = append-assoc (v .done) (funcType (signatureOf s (entryIn w place))) (typeBytes (typeTable n s w (place + 5))) ∙ q;
+            put = putting-more q (funcType (signatureOf s (entryIn w place))) (typeBytes (typeTable n s w (place + 5))) r new refl p;
           })
 
   pub typing-done : left ≤ 0 → Put old at (typeBytes (drop declared (typesIn s w))) o out
   unfolding typeTable typeBytes
-  typing-done h = go left h (v .same)
+  typing-done h = go left h (v .put)
     where
-      go : (n : ℕ) → n ≤ 0 → v .done ++ typeBytes (typeTable n s w place) ≡ typeBytes (drop declared (typesIn s w)) → Put old at (typeBytes (drop declared (typesIn s w))) o out
-      go zero h q = put-is (v .so-far) (sym (append-nil (v .done)) ∙ q)
+      go : (n : ℕ) → n ≤ 0 → Putting old at (typeBytes (drop declared (typesIn s w))) (typeBytes (typeTable n s w place)) o out → Put old at (typeBytes (drop declared (typesIn s w))) o out
+      go zero h q = putting-done q refl
       go (suc n) h q = absurd (omega arith)
 
   pub typing-long : length out ≡ length old
-  typing-long = v .so-far .long
+  typing-long = putting-long (v .put)
 
   pub typing-room : 0 < left → WORDS ≤ length w → place + 4 < length w
   typing-room h g = omega (arith, v .low h)

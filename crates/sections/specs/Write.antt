@@ -4,19 +4,18 @@ use mathlib.Core.Path.{_≡_}
 use mathlib.Core.List.{List, [], _++_, map}
 use lib.ListN.{length, drop}
 use Rattle.definition.specs.Basic.{Answer, ok, refused}
-use Rattle.definition.specs.Syntax.{Bytes, Identifier, Item, typeI}
-use Rattle.definition.specs.Types.{uses}
-use Rattle.definition.specs.Names.{Scope, resolveAll}
+use Rattle.definition.specs.Syntax.{Bytes, Item, typeI}
+use Rattle.definition.specs.Names.{resolveAll}
 use Rattle.definition.specs.Binary.{inSection, joined}
 use Rattle.emit.specs.Put.{Put, past}
 use Rattle.area.specs.Layout.{BYTES, LOCALS, WORDS}
 use Rattle.area.specs.Kept.{Kept}
 use Rattle.type_table.specs.Table.{typesIn, Recalled}
-use Rattle.walk.specs.Walk.{Ahead, begin, fieldsIn}
+use Rattle.walk.specs.Walk.{fieldsIn}
 use Rattle.scope.specs.Scope.{scopeIn}
-use Rattle.deinline.specs.Entry.{Entries, usesOf, HeadIn, WholeIn, both, entryIn, entriesOf, threeIn}
+use Rattle.deinline.specs.Entry.{Entries, usesOf, HeadIn, WholeIn, entryIn, entriesOf, Three}
+use Rattle.deinline.specs.Surveyed.{Surveyed}
 use Rattle.syntax.specs.declared.Entry.{Entry}
-use Rattle.deinline.specs.declared.entry.Three.{Three}
 use Rattle.kept.specs.Tally.{noTally, Keeps}
 use Rattle.kept.specs.Content.{Fine, kept, typeEntries}
 
@@ -37,30 +36,13 @@ pub record Emittable (s w : List ℕ) (r : ℕ) (e : Entry) : Type 0 where
 
 -- the same for the entries of a field
 pub record EmittableThree (s w : List ℕ) (r : ℕ) (x : Three) : Type 0 where
-  pub stream : length s ≤ BYTES
-  pub room : WORDS ≤ length w
-  pub below : r < 4096
-  pub head₁ : HeadIn s (x .first)
-  pub head₂ : HeadIn s (x .second)
-  pub head₃ : HeadIn s (x .third)
-  pub whole₁ : WholeIn s r (x .first)
-  pub whole₂ : WholeIn s r (x .second)
-  pub whole₃ : WholeIn s r (x .third)
-  pub recalled₁ : Recalled w (typesIn s w) (usesOf s r (x .first))
-  pub recalled₂ : Recalled w (typesIn s w) (usesOf s r (x .second))
-  pub recalled₃ : Recalled w (typesIn s w) (usesOf s r (x .third))
-  pub fine : Fine (threeIn (scopeIn s w) s r x)
+  pub first : Emittable s w r (x .first)
+  pub second : Emittable s w r (x .second)
+  pub third : Emittable s w r (x .third)
 
--- the second of them, and the third
-unfoldable pub lastTwo : Scope Identifier → Bytes → ℕ → Three → Answer Entries
-lastTwo Γ s r x = both (entryIn Γ s r (x .second)) (entryIn Γ s r (x .third))
-
--- and for all fields: what the passes before have left
+-- and for all fields
 pub record Writable (s w : List ℕ) : Type 0 where
-  pub stream : length s ≤ BYTES
-  pub room : WORDS ≤ length w
-  pub ahead : Ahead s w begin
-  pub recalled : Recalled w (typesIn s w) (uses (fieldsIn s))
+  pub left : Surveyed s w
   pub fine : Fine (entriesOf (scopeIn s w) (fieldsIn s))
 
 -- all entries: those of the fields, and the added types after them

@@ -35,7 +35,7 @@ fn put_type(s: &[u8], work: &[u32], out: &mut [u8], at: usize, place: usize) -> 
     ensures { λ r. ⌜ Put (now (out .entry)) at (Binary.funcType (signatureOf (now (s .entry)) (entryIn (now (work .entry)) place))) r (now (out .exit)) ⌝ }
 {
     let x = type_table::type_at(work, place);
-    import_export::put_signature(out, at, s, x)
+    import_export::put_signature(s, out, at, x)
 }
 
 // Their entries.

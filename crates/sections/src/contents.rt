@@ -1,26 +1,27 @@
 // The entries of one section, field by field.
-use deinline::Three;
+use deinline::ItemIn;
+use deinline::Spot;
 use entries::EndsAt;
 use syntax::Entry;
 use syntax::Field;
-use walk::Cursor;
+use syntax::Source;
 use walk::What;
 ghost use Prim.Native.Nat.{_≤_};
 ghost use lib.ListN.{length};
 ghost use Rattle.emit.specs.Put.{past};
 ghost use Rattle.walk.specs.Walk.{fieldsIn};
 ghost use Rattle.scope.specs.Scope.{scopeIn};
-ghost use Rattle.deinline.specs.Entry.{three, entryIn, threeIn, entriesOf};
+ghost use Rattle.deinline.specs.Entry.{both, entryIn, secondOf, thirdOf, three, threeIn, entriesOf};
 ghost use Rattle.kept.specs.Content.{bytesIn};
-ghost use Rattle.sections.specs.Write.{Writes, Emittable, EmittableThree, lastTwo, Writable};
+ghost use Rattle.sections.specs.Write.{Writes, Emittable, EmittableThree, Writable};
 
 // An entry, if it is one of the section.
 fn emit_in(
-    k: u8,
     s: &[u8],
     work: &mut [u32],
     out: &mut [u8],
     at: usize,
+    k: u8,
     e: Entry,
     rec: u32,
 ) -> usize
@@ -36,67 +37,71 @@ fn emit_in(
     }
 }
 
-fn emit_two(
-    k: u8,
+// The entries of an item beside its exports.
+fn emit_item(
     s: &[u8],
     work: &mut [u32],
     out: &mut [u8],
     at: usize,
-    x: Three,
-    rec: u32,
+    k: u8,
+    x: Source,
+    p: Spot,
 ) -> usize
-    requires { ⌜ EmittableThree (now s) (now work) rec x ⌝ }
-    ensures { λ r. ⌜ Writes (bytesIn k (lastTwo (scopeIn (now (s .entry)) (now (work .entry))) (now (s .entry)) rec x)) (now (out .entry)) at r (now (out .exit)) (now (work .entry)) (now (work .exit)) ⌝ }
+    requires { ⌜ Emittable (now s) (now work) (p .rec) (secondOf x (p .seen)) × Emittable (now s) (now work) (p .rec) (thirdOf x (p .here)) ⌝ }
+    ensures { λ r. ⌜ Writes (bytesIn k (both (entryIn (scopeIn (now (s .entry)) (now (work .entry))) (now (s .entry)) (p .rec) (secondOf x (p .seen))) (entryIn (scopeIn (now (s .entry)) (now (work .entry))) (now (s .entry)) (p .rec) (thirdOf x (p .here))))) (now (out .entry)) at r (now (out .exit)) (now (work .entry)) (now (work .exit)) ⌝ }
 {
-    let second = x.second;
-    let third = x.third;
-    let a = emit_in(k, s, work, out, at, second, rec);
-    emit_in(k, s, work, out, a, third, rec)
+    let seen = p.seen;
+    let second = deinline::second_of(x, seen);
+    let a = emit_in(s, work, out, at, k, second, p.rec);
+    let third = deinline::third_of(x, p.here);
+    emit_in(s, work, out, a, k, third, p.rec)
 }
 
-fn emit_three(
-    k: u8,
+// What is left of a field after its first entry: of most fields nothing.
+fn emit_rest(
     s: &[u8],
     work: &mut [u32],
     out: &mut [u8],
     at: usize,
-    x: Three,
-    rec: u32,
-) -> usize
-    requires { ⌜ EmittableThree (now s) (now work) rec x ⌝ }
-    ensures { λ r. ⌜ Writes (bytesIn k (threeIn (scopeIn (now (s .entry)) (now (work .entry))) (now (s .entry)) rec x)) (now (out .entry)) at r (now (out .exit)) (now (work .entry)) (now (work .exit)) ⌝ }
-{
-    let first = x.first;
-    let a = emit_in(k, s, work, out, at, first, rec);
-    emit_two(k, s, work, out, a, x, rec)
-}
-
-// The entries of a field that was met at a cursor.
-fn emit_field(
     k: u8,
-    s: &[u8],
-    work: &mut [u32],
-    out: &mut [u8],
-    at: usize,
-    c: Cursor,
     f: Field,
-    here: usize,
+    p: Spot,
 ) -> usize
-    requires { ⌜ EmittableThree (now s) (now work) (c .rec) (three f (c .seen) here) ⌝ }
-    ensures { λ r. ⌜ Writes (bytesIn k (threeIn (scopeIn (now (s .entry)) (now (work .entry))) (now (s .entry)) (c .rec) (three f (c .seen) here))) (now (out .entry)) at r (now (out .exit)) (now (work .entry)) (now (work .exit)) ⌝ }
+    requires { ⌜ Emittable (now s) (now work) (p .rec) (three f (p .seen) (p .here) .second) × Emittable (now s) (now work) (p .rec) (three f (p .seen) (p .here) .third) ⌝ }
+    ensures { λ r. ⌜ Writes (bytesIn k (both (entryIn (scopeIn (now (s .entry)) (now (work .entry))) (now (s .entry)) (p .rec) (three f (p .seen) (p .here) .second)) (entryIn (scopeIn (now (s .entry)) (now (work .entry))) (now (s .entry)) (p .rec) (three f (p .seen) (p .here) .third)))) (now (out .entry)) at r (now (out .exit)) (now (work .entry)) (now (work .exit)) ⌝ }
 {
-    let seen = c.seen;
-    let x = deinline::entries_of(f, seen, here);
-    emit_three(k, s, work, out, at, x, c.rec)
+    match deinline::item_in(f) {
+        ItemIn::Item(x) => emit_item(s, work, out, at, k, x, p),
+        ItemIn::Other => at,
+    }
+}
+
+// The entries of a field. Each is made where it is emitted.
+fn emit_field(
+    s: &[u8],
+    work: &mut [u32],
+    out: &mut [u8],
+    at: usize,
+    k: u8,
+    f: Field,
+    p: Spot,
+) -> usize
+    requires { ⌜ EmittableThree (now s) (now work) (p .rec) (three f (p .seen) (p .here)) ⌝ }
+    ensures { λ r. ⌜ Writes (bytesIn k (threeIn (scopeIn (now (s .entry)) (now (work .entry))) (now (s .entry)) (p .rec) (three f (p .seen) (p .here)))) (now (out .entry)) at r (now (out .exit)) (now (work .entry)) (now (work .exit)) ⌝ }
+{
+    let seen = p.seen;
+    let first = deinline::first_of(f, seen);
+    let a = emit_in(s, work, out, at, k, first, p.rec);
+    emit_rest(s, work, out, a, k, f, p)
 }
 
 // Those of all fields. None is left where the place has come to `end`, and the fields that are left are not read.
 pub fn emit_fields(
-    k: u8,
     s: &[u8],
     work: &mut [u32],
     out: &mut [u8],
     at: usize,
+    k: u8,
     end: usize,
 ) -> usize
     requires { ⌜ Writable (now s) (now work) × (past at (length (bytesIn k (entriesOf (scopeIn (now s) (now work)) (fieldsIn (now s))))) ≤ end) ⌝ }
@@ -112,7 +117,13 @@ pub fn emit_fields(
         let what = m.what;
         match what {
             What::Field(f, here) => {
-                o = emit_field(k, s, work, out, o, c, f, here);
+                let seen = c.seen;
+                let p = Spot {
+                    seen,
+                    here,
+                    rec: c.rec,
+                };
+                o = emit_field(s, work, out, o, k, f, p);
                 c = m.next;
             }
             What::Done => {

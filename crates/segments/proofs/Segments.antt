@@ -1,12 +1,12 @@
 -- Laws of element and data segments.
 use Prim.Native.Nat.{ℕ}
 use mathlib.Core.Path.{_≡_, refl, _∙_, ap}
-use mathlib.Core.Bool.{Bool}
+use mathlib.Core.Bool.{Bool, true, false}
 use mathlib.Core.List.{List, [], _∷_, _++_, append-assoc}
 use mathlib.Core.Option.{Option, none, some}
 use lib.Dec.{eqb}
 use borrow.Author.Tests.{eq-eqb, ne-eqb}
-use Rattle.definition.specs.Basic.{if_then_else_, Answer, ok, refused, _>>=_, each}
+use Rattle.definition.specs.Basic.{if_then_else_, Answer, ok, _>>=_, each}
 use Rattle.definition.specs.Syntax as Syntax
 use Rattle.definition.specs.Syntax.{Bytes, Identifier, Op, Mode, passive, active, funcs, tables, mems}
 use Rattle.definition.specs.Deinline.{zeroOffset}
@@ -21,8 +21,7 @@ use Rattle.syntax.specs.Tokens.{indexOf}
 use Rattle.syntax.specs.declared.Part.{Part}
 use Rattle.syntax.specs.declared.Index.{Index}
 use Rattle.syntax.specs.declared.Index.the-variants as X
-use Rattle.syntax.specs.Plain.{plainIs}
-use Rattle.syntax.specs.declared.Plain.{Plain}
+use Rattle.syntax.specs.Plain.{constantAt}
 use Rattle.syntax.specs.Fields.{modeOf}
 use Rattle.syntax.specs.declared.Mode as Code
 use Rattle.syntax.specs.declared.Mode.the-variants as M
@@ -35,7 +34,7 @@ use Rattle.binary.specs.declared.Emitted.the-variants as E
 use Rattle.binary.proofs.Emitting.{wrote, halts, was-wrote, has-halted, emits-is, emits-map, emits-not, emits-then, emits-put}
 use Rattle.import_export.specs.Entry.{entryOf}
 use Rattle.segments.specs.Segments.{tableAt, atTable, elemMode, atMemory, dataMode}
-use Rattle.operands.specs.Operands.{constBytes}
+use Rattle.operands.specs.Operands.{constBytes, zeroOp}
 use Rattle.segments.specs.declared.elem_segment.TableAt.{TableAt}
 use Rattle.segments.specs.declared.elem_segment.TableAt.the-variants as T
 
@@ -139,14 +138,14 @@ module _ (Γ : Scope Identifier) (s : Bytes) (rec : ℕ) (m : Code.Mode) (old : 
   unfolding elemMode Names.modeOf
   elem-passive r d p = wrote elemMode (Names.modeOf Γ (tableNo Γ) rec (modeOf s m)) old at new passive r p (rw d)
 
-  pub elem-active : (x : Index) (c : Plain) (q : Emitted) → m ≡ M.Active x c → Emits elemMode (Names.modeOf Γ (tableNo Γ) rec (active (indexOf s x) (plainIs s c))) old at q new → Emits elemMode (Names.modeOf Γ (tableNo Γ) rec (modeOf s m)) old at q new
+  pub elem-active : (x : Index) (c : ℕ) (q : Emitted) → m ≡ M.Active x c → Emits elemMode (Names.modeOf Γ (tableNo Γ) rec (active (indexOf s x) (constantAt s c))) old at q new → Emits elemMode (Names.modeOf Γ (tableNo Γ) rec (modeOf s m)) old at q new
   elem-active x c q d w = rw d w
 
   pub data-passive : (r : ℕ) → m ≡ M.Passive → Put old at (1 ∷ []) r new → Emits dataMode (Names.modeOf Γ (itemNo Γ mems) rec (modeOf s m)) old at (E.To r) new
   unfolding dataMode Names.modeOf
   data-passive r d p = wrote dataMode (Names.modeOf Γ (itemNo Γ mems) rec (modeOf s m)) old at new passive r p (rw d)
 
-  pub data-active : (x : Index) (c : Plain) (q : Emitted) → m ≡ M.Active x c → Emits dataMode (Names.modeOf Γ (itemNo Γ mems) rec (active (indexOf s x) (plainIs s c))) old at q new → Emits dataMode (Names.modeOf Γ (itemNo Γ mems) rec (modeOf s m)) old at q new
+  pub data-active : (x : Index) (c : ℕ) (q : Emitted) → m ≡ M.Active x c → Emits dataMode (Names.modeOf Γ (itemNo Γ mems) rec (active (indexOf s x) (constantAt s c))) old at q new → Emits dataMode (Names.modeOf Γ (itemNo Γ mems) rec (modeOf s m)) old at q new
   data-active x c q d w = rw d w
 
 -- ## Segments
@@ -185,10 +184,25 @@ module _ (Γ : Scope Identifier) (rec : ℕ) (m : Mode (Syntax.Index Identifier)
 
 -- ## Offset 0
 
--- the offset of an inline table is the definition's
-pub inline-elem : (Γ : Scope Identifier) (s : Bytes) (rec n : ℕ) (wide : Bool) (c : Plain) (xs : List (Syntax.Index Identifier)) (old : List ℕ) (at : ℕ) (q : Emitted) (new : List ℕ) → plainIs s c ≡ zeroOffset wide
-    → Emits entryOf (resolve Γ rec (Syntax.elemF none (active (Syntax.number n) (plainIs s c)) xs)) old at q new → Emits entryOf (resolve Γ rec (Syntax.elemF none (active (Syntax.number n) (zeroOffset wide)) xs)) old at q new
-inline-elem Γ s rec n wide c xs old at q new e w = rw e at w
+-- the table, offset 0 and the kind
+pub put-table : {a b c e : List ℕ} {at p q r : ℕ} (n : ℕ) (o : Op) → Put a at (2 ∷ u n) p b → Put b p (constBytes o) q c → Put c q (0 ∷ []) r e → Put a at (atTable (some n) o) r e
+unfolding atTable constBytes
+put-table n o x y z = put-then (put-then x y) z
+
+module _ (Γ : Scope Identifier) (rec n : ℕ) where
+  zero-mode : (wide : Bool) → Names.modeOf Γ (tableNo Γ) rec (active (Syntax.number n) (zeroOffset wide)) ≡ ok (active (some n) (zeroOp wide))
+  unfolding Names.modeOf tableNo constOp Names.plainOp Names.immediate _>>=_ zeroOffset zeroOp
+  zero-mode true = refl
+  zero-mode false = refl
+
+  pub inline-elem : (wide : Bool) (xs : List (Syntax.Index Identifier)) (old : List ℕ) (at o : ℕ) (mid : List ℕ) (q : Emitted) (new : List ℕ) → Put old at (atTable (some n) (zeroOp wide)) o mid
+      → Emits (vec u) (each (itemNo Γ funcs rec) xs) mid o q new → Emits entryOf (resolve Γ rec (Syntax.elemF none (active (Syntax.number n) (zeroOffset wide)) xs)) old at q new
+  unfolding elemMode
+  inline-elem wide xs old at o mid q new p w =
+      let first : Emits elemMode (Names.modeOf Γ (tableNo Γ) rec (active (Syntax.number n) (zeroOffset wide))) old at (E.To o) mid =
+      wrote elemMode (Names.modeOf Γ (tableNo Γ) rec (active (Syntax.number n) (zeroOffset wide))) old at mid (active (some n) (zeroOp wide)) o p (zero-mode wide)
+      in
+      elem-to Γ rec (active (Syntax.number n) (zeroOffset wide)) old at (E.To o) mid xs first o q new refl w
 
 -- form 0 or form 2
 module _ (m : ℕ) (old : List ℕ) (at r : ℕ) (new : List ℕ) where

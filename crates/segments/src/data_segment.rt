@@ -4,7 +4,6 @@ use name_table::Resolved;
 use syntax::Index;
 use syntax::Mode;
 use syntax::Part;
-use syntax::Plain;
 use syntax::Space;
 ghost use mathlib.Core.List.{[], _∷_};
 ghost use mathlib.Core.Option.{none};
@@ -18,7 +17,7 @@ ghost use Rattle.definition.specs.Names as Names;
 ghost use Rattle.definition.specs.Binary as Binary;
 ghost use Rattle.emit.specs.Put.{Put};
 ghost use Rattle.syntax.specs.Tokens.{partOf, indexOf};
-ghost use Rattle.syntax.specs.Plain.{plainIs};
+ghost use Rattle.syntax.specs.Plain.{constantAt};
 ghost use Rattle.syntax.specs.Fields.{modeOf};
 ghost use Rattle.scope.specs.Scope.{scopeIn};
 ghost use Rattle.binary.specs.Emits.{Emits};
@@ -43,11 +42,11 @@ fn emit_on_memory(
     out: &mut [u8],
     at: usize,
     m: u32,
-    c: Plain,
+    c: usize,
     rec: u32,
 ) -> Emitted
     requires { ⌜ WORDS ≤ length (now work) ⌝ }
-    ensures { λ r. ⌜ Emits (atMemory m) (Names.constOp (scopeIn (now (s .entry)) (now (work .entry))) rec (plainIs (now (s .entry)) c)) (now (out .entry)) at r (now (out .exit)) ⌝ }
+    ensures { λ r. ⌜ Emits (atMemory m) (Names.constOp (scopeIn (now (s .entry)) (now (work .entry))) rec (constantAt (now (s .entry)) c)) (now (out .entry)) at r (now (out .exit)) ⌝ }
 {
     let a = put_memory(out, at, m);
     operands::emit_const(s, work, out, a, c, rec)
@@ -59,11 +58,11 @@ fn emit_at_memory(
     out: &mut [u8],
     at: usize,
     x: Index,
-    c: Plain,
+    c: usize,
     rec: u32,
 ) -> Emitted
     requires { ⌜ WORDS ≤ length (now work) ⌝ }
-    ensures { λ r. ⌜ Emits dataMode (Names.modeOf (scopeIn (now (s .entry)) (now (work .entry))) (Names.itemNo (scopeIn (now (s .entry)) (now (work .entry))) mems) rec (active (indexOf (now (s .entry)) x) (plainIs (now (s .entry)) c))) (now (out .entry)) at r (now (out .exit)) ⌝ }
+    ensures { λ r. ⌜ Emits dataMode (Names.modeOf (scopeIn (now (s .entry)) (now (work .entry))) (Names.itemNo (scopeIn (now (s .entry)) (now (work .entry))) mems) rec (active (indexOf (now (s .entry)) x) (constantAt (now (s .entry)) c))) (now (out .entry)) at r (now (out .exit)) ⌝ }
 {
     match scope::item_no(s, work, Space::Mems, x, rec) {
         Resolved::To(m) => emit_on_memory(s, work, out, at, m, c, rec),
@@ -102,16 +101,16 @@ pub fn emit_data(
     ensures { λ r. ⌜ Emits entryOf (Names.resolve (scopeIn (now (s .entry)) (now (work .entry))) rec (dataF none (modeOf (now (s .entry)) mode) (partOf (now (s .entry)) bytes))) (now (out .entry)) at r (now (out .exit)) ⌝ }
 {
     match emit_data_mode(s, work, out, at, mode, rec) {
-        Emitted::To(a) => Emitted::To(binary::put_name(out, a, s, bytes)),
+        Emitted::To(a) => Emitted::To(binary::put_name(s, out, a, bytes)),
         Emitted::Refused(r) => Emitted::Refused(r),
     }
 }
 
 // The data of an inline memory, which is the memory numbered n.
 pub fn put_inline_data(
+    s: &[u8],
     out: &mut [u8],
     at: usize,
-    s: &[u8],
     is64: bool,
     n: u32,
     bytes: Part,
@@ -120,5 +119,5 @@ pub fn put_inline_data(
 {
     let a = put_memory(out, at, n);
     let b = operands::put_zero_offset(out, a, is64);
-    binary::put_name(out, b, s, bytes)
+    binary::put_name(s, out, b, bytes)
 }

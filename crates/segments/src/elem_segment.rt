@@ -4,7 +4,6 @@ use name_table::Resolved;
 use syntax::Index;
 use syntax::List;
 use syntax::Mode;
-use syntax::Plain;
 use syntax::Refusal;
 use syntax::Space;
 ghost use mathlib.Core.Path.{_≡_};
@@ -21,10 +20,11 @@ ghost use Rattle.definition.specs.Binary as Binary;
 ghost use Rattle.emit.specs.Put.{Put};
 ghost use Rattle.syntax.specs.Tokens.{indexOf};
 ghost use Rattle.syntax.specs.TypeUses.{listOf};
-ghost use Rattle.syntax.specs.Plain.{plainIs};
+ghost use Rattle.syntax.specs.Plain.{constantAt};
 ghost use Rattle.syntax.specs.Fields.{modeOf};
 ghost use Rattle.scope.specs.Scope.{scopeIn};
 ghost use Rattle.binary.specs.Emits.{Emits};
+ghost use Rattle.operands.specs.Operands.{zeroOp};
 ghost use Rattle.import_export.specs.Entry.{entryOf};
 ghost use Rattle.segments.specs.Segments.{atTable, elemMode, tableAt};
 
@@ -55,11 +55,11 @@ fn emit_without_table(
     work: &[u32],
     out: &mut [u8],
     at: usize,
-    c: Plain,
+    c: usize,
     rec: u32,
 ) -> Emitted
     requires { ⌜ WORDS ≤ length (now work) ⌝ }
-    ensures { λ r. ⌜ Emits (atTable none) (Names.constOp (scopeIn (now (s .entry)) (now (work .entry))) rec (plainIs (now (s .entry)) c)) (now (out .entry)) at r (now (out .exit)) ⌝ }
+    ensures { λ r. ⌜ Emits (atTable none) (Names.constOp (scopeIn (now (s .entry)) (now (work .entry))) rec (constantAt (now (s .entry)) c)) (now (out .entry)) at r (now (out .exit)) ⌝ }
 {
     let a = emit::put(out, at, 0);
     operands::emit_const(s, work, out, a, c, rec)
@@ -80,11 +80,11 @@ fn emit_with_table(
     out: &mut [u8],
     at: usize,
     n: u32,
-    c: Plain,
+    c: usize,
     rec: u32,
 ) -> Emitted
     requires { ⌜ WORDS ≤ length (now work) ⌝ }
-    ensures { λ r. ⌜ Emits (atTable (some n)) (Names.constOp (scopeIn (now (s .entry)) (now (work .entry))) rec (plainIs (now (s .entry)) c)) (now (out .entry)) at r (now (out .exit)) ⌝ }
+    ensures { λ r. ⌜ Emits (atTable (some n)) (Names.constOp (scopeIn (now (s .entry)) (now (work .entry))) rec (constantAt (now (s .entry)) c)) (now (out .entry)) at r (now (out .exit)) ⌝ }
 {
     let a = put_form_2(out, at, n);
     match operands::emit_const(s, work, out, a, c, rec) {
@@ -99,11 +99,11 @@ fn emit_at_table(
     out: &mut [u8],
     at: usize,
     x: Index,
-    c: Plain,
+    c: usize,
     rec: u32,
 ) -> Emitted
     requires { ⌜ WORDS ≤ length (now work) ⌝ }
-    ensures { λ r. ⌜ Emits elemMode (Names.modeOf (scopeIn (now (s .entry)) (now (work .entry))) (Names.tableNo (scopeIn (now (s .entry)) (now (work .entry)))) rec (active (indexOf (now (s .entry)) x) (plainIs (now (s .entry)) c))) (now (out .entry)) at r (now (out .exit)) ⌝ }
+    ensures { λ r. ⌜ Emits elemMode (Names.modeOf (scopeIn (now (s .entry)) (now (work .entry))) (Names.tableNo (scopeIn (now (s .entry)) (now (work .entry)))) rec (active (indexOf (now (s .entry)) x) (constantAt (now (s .entry)) c))) (now (out .entry)) at r (now (out .exit)) ⌝ }
 {
     match table_no(s, work, x, rec) {
         TableAt::Absent => emit_without_table(s, work, out, at, c, rec),
@@ -156,6 +156,15 @@ pub fn emit_elem(
     }
 }
 
+// Form 2: the table, offset 0, and the kind funcref.
+fn put_inline_table(out: &mut [u8], at: usize, is64: bool, n: u32) -> usize
+    ensures { λ r. ⌜ Put (now (out .entry)) at (atTable (some n) (zeroOp is64)) r (now (out .exit)) ⌝ }
+{
+    let a = put_form_2(out, at, n);
+    let b = operands::put_zero_offset(out, a, is64);
+    emit::put(out, b, 0)
+}
+
 // The functions of an inline table, which is the table numbered n.
 pub fn emit_inline_elem(
     s: &[u8],
@@ -170,14 +179,6 @@ pub fn emit_inline_elem(
     requires { ⌜ WORDS ≤ length (now work) ⌝ }
     ensures { λ r. ⌜ Emits entryOf (Names.resolve (scopeIn (now (s .entry)) (now (work .entry))) rec (elemF none (active (number n) (Deinline.zeroOffset is64)) (listOf Token.present (now (s .entry)) funcs))) (now (out .entry)) at r (now (out .exit)) ⌝ }
 {
-    let offset = operands::zero_offset(s, is64);
-    emit_elem(
-        s,
-        work,
-        out,
-        at,
-        Mode::Active(Index::Number(n), offset),
-        funcs,
-        rec,
-    )
+    let a = put_inline_table(out, at, is64, n);
+    operands::emit_funcs(s, work, out, a, funcs, rec)
 }

@@ -16,9 +16,8 @@ use syntax::NameAt;
 use syntax::Own;
 use syntax::Part;
 use syntax::PartAt;
-use syntax::Plain;
-use syntax::PlainAt;
 use syntax::Seen;
+use syntax::Skip;
 use syntax::Source;
 use syntax::SourceAt;
 use syntax::Space;
@@ -97,11 +96,11 @@ fn own_global_form(s: &[u8], at: usize) -> SourceAt
     ensures { λ r. ⌜ Records.ownGlobalForm (now (s .entry)) at ≡ sourceAt (now (s .entry)) r ⌝ }
 {
     match coretypes::read_global_type(s, at) {
-        GlobalTypeAt::Got(t, a) => match expr::read_const(s, a) {
-            PlainAt::Got(c, b) => {
-                return SourceAt::Got(Source::Own(Own::Global(t, c)), b);
+        GlobalTypeAt::Got(t, a) => match expr::pass_const(s, a) {
+            Skip::Past(b) => {
+                return SourceAt::Got(Source::Own(Own::Global(t, a)), b);
             }
-            PlainAt::Fault(e) => {
+            Skip::Fault(e) => {
                 return SourceAt::Fault(e);
             }
         },

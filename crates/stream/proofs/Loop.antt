@@ -3,7 +3,7 @@ use mathlib.Core.Path.{_≡_, refl, ap, sym, _∙_, subst}
 use Prim.Native.Nat.{ℕ, suc, _+_, _-_, _*_, _≤_, _<_, _^_}
 use mathlib.Core.Bool.{Bool, true, false, _||_}
 use mathlib.Core.List.{List, [], _∷_, _++_, append-nil}
-use mathlib.Core.Option.{none, some}
+use mathlib.Core.Option.{none}
 use lib.ListN.{length, getD, set, take, length-set, length-append}
 use lib.Seq.{sets, take-all, take-append-le}
 use borrow.Author.Tests.{lt-ltb, le-ltb}
@@ -24,7 +24,7 @@ use Rattle.laws.proofs.Bodies.{end-inside}
 use Rattle.laws.proofs.Sets.{sets-append}
 use Rattle.syntax.specs.Refusals.{refusal, refusedBy}
 use Rattle.syntax.specs.declared.Refusal.{Refusal}
-use Rattle.area.specs.Layout.{BYTES, WORDS}
+use Rattle.area.specs.Layout.{BYTES, COUNTS, ENDS, WORDS, endAt}
 use Rattle.syntax.specs.Items.{roomOf, noneSeen}
 use Rattle.syntax.specs.declared.Seen.{Seen}
 use Rattle.syntax.specs.Fields.{fieldOf}
@@ -120,7 +120,7 @@ pub record Going (s : Bytes) (w₀ : List ℕ) (p : Place) (c : Seen) (ended : �
   pub body : seen .body ≡ bodyOf (p .depth)
   pub counts : Counts seen c
   pub same : passed s ≡ pass (4096 - p .rec) (p .rec) seen used ends s (p .at)
-  pub area : w ≡ sets w₀ 8 (endWords ends)
+  pub area : w ≡ sets w₀ ENDS (endWords ends)
   pub number : length ends ≡ 2 * ended
   pub fewer : ended ≤ p .rec
   pub long : length w ≡ length w₀
@@ -298,7 +298,7 @@ module _ (s : Bytes) (w₀ : List ℕ) (p : Place) (c : Seen) (ended : ℕ) (use
           kept (yes k) = rw (le-ltb _ _ k) (v .long)
           kept (no k) = let n : ended < 256 = omega arith in rw (lt-ltb _ _ n, length-set, length-set) (v .long)
 
-          stored : Dec (256 ≤ ended) → endPut w ended (q .at) second ≡ sets w₀ 8 (endWords (v .ends ++ (q .at ∷ second ∷ [])))
+          stored : Dec (256 ≤ ended) → endPut w ended (q .at) second ≡ sets w₀ ENDS (endWords (v .ends ++ (q .at ∷ second ∷ [])))
           stored (yes k) =
               let n : 512 ≤ length (v .ends) = omega (arith, v .number) in
               rw (le-ltb _ _ k, take-append-le 512 (v .ends) (q .at ∷ second ∷ []) n) (v .area)
@@ -307,9 +307,9 @@ module _ (s : Bytes) (w₀ : List ℕ) (p : Place) (c : Seen) (ended : ℕ) (use
               let m : length (v .ends ++ (q .at ∷ second ∷ [])) ≤ 512 = omega (arith, v .number, length-append (v .ends) (q .at ∷ second ∷ [])) in
               let t : take 512 (v .ends) ≡ v .ends = take-all 512 (v .ends) (omega (arith, v .number)) in
               let i = v .number in
-              let u : w ≡ sets w₀ 8 (v .ends) = v .area ∙ rw t in
-              let z : 8 + 2 * ended + 1 ≡ suc (8 + 2 * ended) = omega arith in
-              rw (lt-ltb _ _ n, take-all 512 (v .ends ++ (q .at ∷ second ∷ [])) m, sets-append w₀ 8 (v .ends) (q .at ∷ second ∷ []), i, u, z)
+              let u : w ≡ sets w₀ ENDS (v .ends) = v .area ∙ rw t in
+              let z : endAt ended + 1 ≡ suc (endAt ended) = omega arith in
+              rw (lt-ltb _ _ n, take-all 512 (v .ends ++ (q .at ∷ second ∷ [])) m, sets-append w₀ ENDS (v .ends) (q .at ∷ second ∷ []), i, u, z)
 
       pub refused-instr : (n : ℕ) → what ≡ N.Refused n → Walks s w₀ (C.Refused (refusal n (q .rec))) w
       unfolding bodyRecordAt
@@ -343,7 +343,7 @@ module _ (p : Place) (counts w : List ℕ) where
   end-in-body r d e = rw e (record { says = rw (inside (p .depth) d); leaves = refl })
 
   -- outside one the counts are left
-  pub end-accepted : (w′ : List ℕ) → p .depth ≤ 0 → w′ ≡ sets w 0 counts → Ends p counts w (C.Records (p .rec)) w′
+  pub end-accepted : (w′ : List ℕ) → p .depth ≤ 0 → w′ ≡ sets w COUNTS counts → Ends p counts w (C.Records (p .rec)) w′
   end-accepted w′ d e = let n : p .rec + 0 ≡ p .rec = omega arith in record { says = rw (outside (p .depth) (omega arith), n); leaves = e }
 
 -- what a refusal is
@@ -352,10 +352,10 @@ walk-refused s w₀ w n p r e h = rw e h
 
 -- ## The second word of a body's end
 
-pub second-word : (w : List ℕ) (n a : ℕ) → WORDS ≤ length w → n < 256 → 8 + 2 * n + 1 < length (set w (8 + 2 * n) a)
-second-word w n a h l = rw (length-set w (8 + 2 * n) a) (omega arith)
+pub second-word : (w : List ℕ) (n a : ℕ) → WORDS ≤ length w → n < 256 → endAt n + 1 < length (set w (endAt n) a)
+second-word w n a h l = rw (length-set w (endAt n) a) (omega arith)
 
-pub ends-put : (w : List ℕ) (n a r x : ℕ) (u : Bool) → n < 256 → x ≡ endWord r u → set (set w (8 + 2 * n) a) (8 + 2 * n + 1) x ≡ endPut w n a (endWord r u)
+pub ends-put : (w : List ℕ) (n a r x : ℕ) (u : Bool) → n < 256 → x ≡ endWord r u → set (set w (endAt n) a) (endAt n + 1) x ≡ endPut w n a (endWord r u)
 unfolding endPut
 ends-put w n a r x u l e = rw (lt-ltb _ _ l, e)
 

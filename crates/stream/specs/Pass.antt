@@ -1,5 +1,5 @@
 -- What the reading pass says and leaves.
-use Prim.Native.Nat.{ℕ, zero, suc, _+_, _*_}
+use Prim.Native.Nat.{ℕ, zero, suc, _+_}
 use mathlib.Core.Bool.{Bool, false, _||_}
 use mathlib.Core.List.{List, [], _∷_, _++_}
 use mathlib.Core.Path.{_≡_}
@@ -8,7 +8,7 @@ use lib.ListN.{length, take, set}
 use lib.Seq.{sets}
 use Rattle.syntax.specs.Refusals.{refusal, refusedBy}
 use Rattle.syntax.specs.declared.Place.{Place}
-use Rattle.area.specs.Layout.{BYTES, WORDS}
+use Rattle.area.specs.Layout.{BYTES, COUNTS, ENDS, WORDS, endAt}
 use Rattle.definition.specs.Basic.{if_then_else_, Answer, ok, refused}
 use Rattle.definition.specs.Syntax.{Bytes, Identifier, Rec, field, instr, bodyEnd}
 use Rattle.definition.specs.Reader.{Step, got, fault}
@@ -57,20 +57,20 @@ passed s = pass 4096 0 nothingSeen false [] s 0
 
 -- ## The work area
 
--- from word 8 on, two words for each body of the first 256
+-- from `ENDS` on, two words for each body of the first 256
 unfoldable pub endWords : List ℕ → List ℕ
 endWords ends = take 512 ends
 
 -- the two words of the n-th body's end
 unfoldable pub endPut : List ℕ → ℕ → ℕ → ℕ → List ℕ
-endPut w n first second = if ltb n 256 then set (set w (8 + 2 * n) first) (8 + 2 * n + 1) second else w
+endPut w n first second = if ltb n 256 then set (set w (endAt n) first) (endAt n + 1) second else w
 
 abbrev pub areaOf : Answer ℕ → List ℕ → List ℕ → List ℕ
-areaOf (ok n) counts w = sets w 0 counts
+areaOf (ok n) counts w = sets w COUNTS counts
 areaOf (refused n r) counts w = w
 
 unfoldable pub areaAfter : Passed → List ℕ → List ℕ
-areaAfter p w = areaOf (p .says) (countWords (p .seen)) (sets w 8 (endWords (p .ends)))
+areaAfter p w = areaOf (p .says) (countWords (p .seen)) (sets w ENDS (endWords (p .ends)))
 
 -- ## What the pass promises
 

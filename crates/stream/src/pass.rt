@@ -39,7 +39,7 @@ fn put_end(work: &mut [u32], n: u32, p: Place, used: bool)
     ensures { λ _. ⌜ now (work .exit) ≡ endPut (now (work .entry)) n (p .at) (endWord (p .rec) used) ⌝ }
 {
     if n < 256 {
-        let i = 8 + 2 * (n as usize);
+        let i = area::ENDS + 2 * (n as usize);
         work[i] = p.at as u32;
         work[i + 1] = end_word(p.rec, used);
     }
@@ -63,7 +63,7 @@ fn refused(number: u8, p: Place) -> Count
     Count::Refused(Refusal { number, rec: p.rec })
 }
 
-// The stream ends here: in a body it is refused, outside one the counts of items are left from word 0 on.
+// The stream ends here: in a body it is refused, outside one the counts of items are left.
 fn at_end(work: &mut [u32], p: Place, seen: Seen) -> Count
     requires { ⌜ WORDS ≤ length (now work) ⌝ }
     ensures { λ r. ⌜ Ends p (seen .counts) (now (work .entry)) r (now (work .exit)) ⌝ }
@@ -71,7 +71,7 @@ fn at_end(work: &mut [u32], p: Place, seen: Seen) -> Count
     if 0 < p.depth {
         return refused(2, p);
     }
-    put_counts(work, 0, seen);
+    put_counts(work, area::COUNTS, seen);
     Count::Records(p.rec)
 }
 

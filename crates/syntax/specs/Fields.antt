@@ -5,7 +5,7 @@ use Rattle.definition.specs.Reader.{Step, got, fault}
 use Rattle.definition.specs.Token as Token
 use Rattle.syntax.specs.Tokens.{partOf, idOf, spaceOf, indexOf}
 use Rattle.syntax.specs.TypeUses.{listOf}
-use Rattle.syntax.specs.Plain.{plainIs}
+use Rattle.syntax.specs.Plain.{constantAt}
 use Rattle.syntax.specs.Items.{nameOf, externIs, sourceOf}
 use Rattle.syntax.specs.declared.SpaceAt.{SpaceAt}
 use Rattle.syntax.specs.declared.SpaceAt.the-variants as KA
@@ -24,7 +24,7 @@ spaceAt (KA.Fault n) = fault n
 
 abbrev pub modeOf : Bytes → Mode → Syntax.Mode (Syntax.Index Identifier) (Syntax.Plain Identifier)
 modeOf s M.Passive = Syntax.passive
-modeOf s (M.Active x c) = Syntax.active (indexOf s x) (plainIs s c)
+modeOf s (M.Active x c) = Syntax.active (indexOf s x) (constantAt s c)
 
 abbrev pub modeAt : Bytes → ModeAt → Step (Syntax.Mode (Syntax.Index Identifier) (Syntax.Plain Identifier))
 modeAt s (MA.Got m next) = got (modeOf s m) next

@@ -12,7 +12,7 @@ use Rattle.definition.specs.Records.{Room, Extern}
 use Rattle.syntax.specs.Tokens.{partOf}
 use Rattle.syntax.specs.CoreTypes.{limitsIs, tableTypeIs, globalTypeIs}
 use Rattle.syntax.specs.TypeUses.{listOf, useOf}
-use Rattle.syntax.specs.Plain.{plainIs}
+use Rattle.syntax.specs.Plain.{constantAt}
 use Rattle.syntax.specs.declared.ImportName.{ImportName}
 use Rattle.syntax.specs.declared.NameAt.{NameAt}
 use Rattle.syntax.specs.declared.NameAt.the-variants as NA
@@ -73,7 +73,7 @@ abbrev pub ownOf : Bytes → Own → Syntax.Own Identifier
 ownOf s (O.Func t ls) = Syntax.ownFunc (useOf s t) (listOf Token.param s ls)
 ownOf s (O.Table t) = Syntax.ownTable (tableTypeIs t)
 ownOf s (O.Mem l) = Syntax.ownMem (limitsIs l)
-ownOf s (O.Global t c) = Syntax.ownGlobal (globalTypeIs t) (plainIs s c)
+ownOf s (O.Global t c) = Syntax.ownGlobal (globalTypeIs t) (constantAt s c)
 
 abbrev pub sourceOf : Bytes → Source → Syntax.Source Identifier
 sourceOf s (S.Own o) = Syntax.own (ownOf s o)

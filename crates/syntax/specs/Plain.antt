@@ -1,4 +1,5 @@
 -- What the answers of the readers mean.
+use Prim.Native.Nat.{ℕ}
 use mathlib.Core.List.{[], _∷_}
 use Rattle.definition.specs.Syntax as Syntax
 use Rattle.definition.specs.Syntax.{Bytes, Identifier, nothing, label, labels, local, item, access, int32, int64, raw}
@@ -6,7 +7,9 @@ use Rattle.definition.specs.Reader.{Step, got, fault}
 use Rattle.definition.specs.Token as Token
 use Rattle.definition.specs.Instructions as Instructions
 use Rattle.syntax.specs.Tokens.{partOf, spaceOf, indexOf}
-use Rattle.syntax.specs.TypeUses.{listOf}
+use Rattle.syntax.specs.TypeUses.{listOf, onStep}
+use Rattle.syntax.specs.declared.Skip.{Skip}
+use Rattle.syntax.specs.declared.Skip.the-variants as S
 use Rattle.syntax.specs.declared.Operand.{Operand}
 use Rattle.syntax.specs.declared.Operand.the-variants as O
 use Rattle.syntax.specs.declared.Plain.{Plain}
@@ -33,6 +36,23 @@ plainIs s p = record { opcode = p .opcode; operand = operandOf s (p .operand) }
 abbrev pub plainAt : Bytes → PlainAt → Step (Syntax.Plain Identifier)
 plainAt s (PA.Got p next) = got (plainIs s p) next
 plainAt s (PA.Fault n) = fault n
+
+-- ## Constants, known by their places
+
+-- what stands for a constant where none can be read
+abbrev pub noConstant : Syntax.Plain Identifier
+noConstant = record { opcode = 0; operand = nothing }
+
+-- the constant at a place
+unfoldable pub constantAt : Bytes → ℕ → Syntax.Plain Identifier
+constantAt s at = onStep (Instructions.constant s at) (λ c next. c) noConstant
+
+-- a constant that was passed over
+abbrev pub constantPast : Bytes → ℕ → Skip → Step (Syntax.Plain Identifier)
+constantPast s at (S.Past next) = got (constantAt s at) next
+constantPast s at (S.Fault n) = fault n
+
+-- ## What stands after an opcode
 
 abbrev pub operandsIs : Operands → Instructions.Operands
 operandsIs W.Bare = Instructions.bare

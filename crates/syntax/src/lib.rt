@@ -287,7 +287,8 @@ pub enum Own {
     Func(TypeUse, List),
     Table(TableType),
     Mem(Limits),
-    Global(GlobalType, Plain),
+    // its type, and where its value stands
+    Global(GlobalType, usize),
 }
 
 // A bool says 64-bit.
@@ -305,8 +306,8 @@ pub enum SourceAt {
 
 pub enum Mode {
     Passive,
-    // the table or the memory, and the offset
-    Active(Index, Plain),
+    // the table or the memory, and where the offset stands
+    Active(Index, usize),
 }
 
 pub enum ModeAt {
@@ -411,7 +412,7 @@ pub enum Entry {
     InlineTable(bool, List),
     Mem(Limits),
     InlineMem(bool, Part),
-    Global(GlobalType, Plain),
+    Global(GlobalType, usize),
     Export(Part, Space, Index),
     Exports(List, Space, u32),
     Start(Index),

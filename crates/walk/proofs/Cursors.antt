@@ -1,6 +1,6 @@
 -- Where the walk goes on by the work area is where the model goes on.
 use mathlib.Core.Path.{_≡_, refl, ap, sym, _∙_, subst}
-use Prim.Native.Nat.{ℕ, zero, suc, _+_, _-_, _*_, _≤_, _<_}
+use Prim.Native.Nat.{ℕ, zero, suc, _+_, _-_, _≤_, _<_}
 use mathlib.Core.Bool.{Bool, true, false}
 use mathlib.Core.List.{List, [], _∷_, _++_}
 use mathlib.Core.Option.{none, some}
@@ -18,7 +18,7 @@ use Rattle.definition.specs.Instructions.{bodyRec}
 use Rattle.definition.specs.Records.{fieldRec}
 use Rattle.definition.specs.Spaces.{brings, sourceSpace, segments}
 use Rattle.definition.specs.Read.{openAfter, fieldBody, sourceBody, ownBody, isStart}
-use Rattle.area.specs.Layout.{MARK, TYPES}
+use Rattle.area.specs.Layout.{MARK, TYPES, endAt}
 use Rattle.syntax.specs.Items.{roomOf, sourceOf, noneSeen}
 use Rattle.syntax.specs.declared.Seen.{Seen}
 use Rattle.syntax.specs.declared.Own.the-variants as O
@@ -46,11 +46,11 @@ pub start-is : (seen : Seen) → seen ≡ noneSeen → _≡_ {A = Cursor} (recor
 unfolding begin
 start-is seen e = rw e
 
-pub end-is : (w : List ℕ) (n a x r : ℕ) → a ≡ getD w (8 + 2 * n) 0 → x ≡ getD w (8 + 2 * n + 1) 0 → r ≡ endRecord x → _≡_ {A = Stop} (record { at = a; rec = r }) (endIn w n)
+pub end-is : (w : List ℕ) (n a x r : ℕ) → a ≡ getD w (endAt n) 0 → x ≡ getD w (endAt n + 1) 0 → r ≡ endRecord x → _≡_ {A = Stop} (record { at = a; rec = r }) (endIn w n)
 unfolding endIn
 end-is w n a x r e d g = rw (e, g, d)
 
-pub uses-is : (w : List ℕ) (n r : ℕ) → r ≡ getD w (8 + 2 * n + 1) 0 → leb MARK r ≡ usesIn w n
+pub uses-is : (w : List ℕ) (n r : ℕ) → r ≡ getD w (endAt n + 1) 0 → leb MARK r ≡ usesIn w n
 unfolding usesIn
 uses-is w n r e = rw e
 
@@ -129,12 +129,12 @@ body-is s (F.Data i m d) = refl
 -- ## The two words of a body's end
 
 -- the first two words from a place on
-pub end-words : (w : List ℕ) (n a x : ℕ) (more : List ℕ) → drop (8 + 2 * n) (take TYPES w) ≡ a ∷ x ∷ more → (getD w (8 + 2 * n) 0 ≡ a) × (getD w (8 + 2 * n + 1) 0 ≡ x)
+pub end-words : (w : List ℕ) (n a x : ℕ) (more : List ℕ) → drop (endAt n) (take TYPES w) ≡ a ∷ x ∷ more → (getD w (endAt n) 0 ≡ a) × (getD w (endAt n + 1) 0 ≡ x)
 end-words w n a x more e =
-    let l : 2 ≤ length (drop (8 + 2 * n) (take TYPES w)) = rw e (omega arith) in
-    let m : 8 + 2 * n + 1 < TYPES = omega (arith, length-drop (8 + 2 * n) (take TYPES w), length-take TYPES w) in (
-      sym (getD-take TYPES w (8 + 2 * n) 0 (omega arith)) ∙ rw add-zero at (sym (getD-drop (8 + 2 * n) (take TYPES w) 0 0)) ∙ ap (λ (l : List ℕ). getD l 0 0) e,
-      sym (getD-take TYPES w (8 + 2 * n + 1) 0 m) ∙ sym (getD-drop (8 + 2 * n) (take TYPES w) 1 0) ∙ ap (λ (l : List ℕ). getD l 1 0) e,
+    let l : 2 ≤ length (drop (endAt n) (take TYPES w)) = rw e (omega arith) in
+    let m : endAt n + 1 < TYPES = omega (arith, length-drop (endAt n) (take TYPES w), length-take TYPES w) in (
+      sym (getD-take TYPES w (endAt n) 0 (omega arith)) ∙ rw add-zero at (sym (getD-drop (endAt n) (take TYPES w) 0 0)) ∙ ap (λ (l : List ℕ). getD l 0 0) e,
+      sym (getD-take TYPES w (endAt n + 1) 0 m) ∙ sym (getD-drop (endAt n) (take TYPES w) 1 0) ∙ ap (λ (l : List ℕ). getD l 1 0) e,
     )
 
 -- the second word's record

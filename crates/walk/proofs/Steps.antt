@@ -1,6 +1,6 @@
 -- What a visit tells a caller. `told` is the visit's promise, and `is` is what a match on the answer gives.
 use mathlib.Core.Path.{_≡_, refl, ap, sym, _∙_, subst}
-use Prim.Native.Nat.{ℕ, zero, suc, _+_, _-_, _*_, _≤_, _<_}
+use Prim.Native.Nat.{ℕ, zero, suc, _+_, _-_, _≤_, _<_}
 use mathlib.Core.Bool.{Bool, true, false, not, _&&_, _||_, false≢true}
 use mathlib.Core.List.{List, [], _∷_, _++_}
 use mathlib.Core.Option.{Option, none, some}
@@ -18,7 +18,7 @@ use Rattle.definition.specs.Types.{isShort, instrUses, usedAt, bodyUses}
 use Rattle.definition.specs.Read.{fieldBody}
 use Rattle.definition.specs.Token.{string, param}
 use Rattle.token.specs.Known.{Gets}
-use Rattle.area.specs.Layout.{MARK, TYPES}
+use Rattle.area.specs.Layout.{MARK, TYPES, endAt}
 use Rattle.syntax.specs.Tokens.{idOf}
 use Rattle.syntax.specs.declared.Part.{Part}
 use Rattle.syntax.specs.TypeUses.{listOf, useOf}
@@ -245,18 +245,18 @@ module _ (s : Bytes) (c : Cursor) (r : Met) (told : visitIn (c .left) c s ≡ vi
         go : (b : Option ℕ) → endsFrom (c .left) c s ≡ endOf b (r .next) body ++ endsFrom (r .next .left) (r .next) s → r .next .own ≡ c .own + bodies b
             → Ahead s w (r .next)
         go none e o =
-            let same : 8 + 2 * r .next .own ≡ 8 + 2 * c .own = omega arith in
+            let same : endAt (r .next .own) ≡ endAt (c .own) = omega arith in
             record {
               ends = record { rest = v .ends .rest; is = ap (λ n. drop n (take TYPES w)) same ∙ v .ends .is ∙ ap (λ z. z ++ v .ends .rest) e };
               few = omega (arith, o, left-less, at-met .0, v .few);
               sound = sound-parts w v .1;
             }
         go (some k) e o =
-            let two : 8 + 2 * r .next .own ≡ 8 + 2 * c .own + 2 = omega arith in
+            let two : endAt (r .next .own) ≡ endAt (c .own) + 2 = omega arith in
             record {
               ends = record {
                 rest = v .ends .rest;
-                is = ap (λ n. drop n (take TYPES w)) two ∙ sym (drop-drop 2 (8 + 2 * c .own) (take TYPES w)) ∙ ap (drop 2) (v .ends .is ∙ ap (λ z. z ++ v .ends .rest) e);
+                is = ap (λ n. drop n (take TYPES w)) two ∙ sym (drop-drop 2 (endAt (c .own)) (take TYPES w)) ∙ ap (drop 2) (v .ends .is ∙ ap (λ z. z ++ v .ends .rest) e);
               };
               few = omega (arith, o, left-less, at-met .0, v .few);
               sound = sound-parts w v .1;

@@ -1,5 +1,5 @@
 -- The fields of a stream as the later passes meet them: total, whatever the stream is. On an accepted stream they are the definition's.
-use Prim.Native.Nat.{ℕ, zero, suc, _+_, _-_, _*_, _≤_}
+use Prim.Native.Nat.{ℕ, zero, suc, _+_, _-_, _≤_}
 use mathlib.Core.Path.{_≡_}
 use mathlib.Core.Bool.{Bool, true, false, _&&_, _||_}
 use mathlib.Core.List.{List, [], _∷_, _++_, map}
@@ -15,7 +15,7 @@ use Rattle.definition.specs.Records.{fieldRec}
 use Rattle.definition.specs.Spaces.{brings}
 use Rattle.definition.specs.Read.{openAfter, fieldBody, isStart}
 use Rattle.definition.specs.Deinline.{Numbered, fieldsOf}
-use Rattle.area.specs.Layout.{MARK, TYPES}
+use Rattle.area.specs.Layout.{MARK, TYPES, endAt}
 use Rattle.syntax.specs.Items.{countOf, roomOf, noneSeen}
 use Rattle.syntax.specs.declared.Seen.{Seen}
 use Rattle.reread.specs.Known.{ReadableHead}
@@ -171,9 +171,9 @@ pub record Begins (xs ys : List ℕ) : Type 0 where
   pub rest : List ℕ
   pub is : ys ≡ xs ++ rest
 
--- the words from 8 up to `TYPES` of the work area hold the ends that are still ahead, and nothing ahead is a fault
+-- the words from `ENDS` up to `TYPES` of the work area hold the ends that are still ahead, and nothing ahead is a fault
 pub record Ahead (s : Bytes) (w : List ℕ) (c : Cursor) : Type 0 where
-  pub ends : Begins (endsFrom (c .left) c s) (drop (8 + 2 * c .own) (take TYPES w))
+  pub ends : Begins (endsFrom (c .left) c s) (drop (endAt (c .own)) (take TYPES w))
   pub few : c .own + c .left ≤ 4096
   pub sound : sound (c .left) c s ≡ true
 
@@ -183,11 +183,11 @@ endRecord x = if leb MARK x then x - MARK else x
 
 -- the n-th body's end, as the work area has it
 unfoldable pub endIn : List ℕ → ℕ → Stop
-endIn w n = record { at = getD w (8 + 2 * n) 0; rec = endRecord (getD w (8 + 2 * n + 1) 0) }
+endIn w n = record { at = getD w (endAt n) 0; rec = endRecord (getD w (endAt n + 1) 0) }
 
 -- may the n-th body use a type?
 unfoldable pub usesIn : List ℕ → ℕ → Bool
-usesIn w n = leb MARK (getD w (8 + 2 * n + 1) 0)
+usesIn w n = leb MARK (getD w (endAt n + 1) 0)
 
 -- where the walk goes on by the work area; `depth` is 1 for an own function, else 0
 abbrev pub stopIn : ℕ → List ℕ → Cursor → ℕ → Stop

@@ -61,7 +61,7 @@ fn end_record(x: u32) -> u32
 fn body_end(work: &[u32], n: u32) -> Stop
     ensures { λ r. ⌜ r ≡ endIn (now (work .entry)) n ⌝ }
 {
-    let i = 8 + 2 * (n as usize);
+    let i = area::ENDS + 2 * (n as usize);
     let at = area::word(work, i);
     let rec = end_record(area::word(work, i + 1));
     Stop {
@@ -74,7 +74,7 @@ fn body_end(work: &[u32], n: u32) -> Stop
 pub fn body_uses(work: &[u32], n: u32) -> bool
     ensures { λ r. ⌜ r ≡ usesIn (now (work .entry)) n ⌝ }
 {
-    let i = 8 + 2 * (n as usize);
+    let i = area::ENDS + 2 * (n as usize);
     area::MARK <= area::word(work, i + 1)
 }
 
@@ -134,14 +134,16 @@ pub fn visit(s: &[u8], work: &[u32], c: Cursor) -> Met
     match reread::known_field(s, c.at, c.seen) {
         FieldAt::Got(f, here) => {
             let next = next_cursor(work, c, f, here);
-            Met {
+            return Met {
                 what: What::Field(f, here),
                 next,
-            }
+            };
         }
-        FieldAt::Fault(_) => Met {
-            what: What::Done,
-            next: c,
-        },
+        FieldAt::Fault(_) => {
+            return Met {
+                what: What::Done,
+                next: c,
+            };
+        }
     }
 }

@@ -68,7 +68,7 @@ pub fn write_names(
         return no_room(count);
     }
     let at = module::put_module(t, declared, kept, s, work, out);
-    let len = name_section::put_name_section(n, s, work, out, at);
+    let len = name_section::put_name_section(s, work, out, at, n);
     Said {
         number: 0,
         rec: count,

@@ -1,16 +1,21 @@
-use Rattle.runs.proofs.Running.{Counting, count-begin, count-readable, count-again, count-few, count-nothing, count-done, Putting, put-begin, put-again, put-nothing, put-done, put-long, run-fewer}
+use Rattle.runs.proofs.Running.{Counting, count-begin, count-readable, count-again, count-few, count-nothing, count-done, put-again, put-nothing, put-done, run-fewer}
+use Rattle.binary.proofs.Putting.{Putting, putting-begin, putting-long}
+use Rattle.definition.specs.Basic.{concatMap}
+use Rattle.definition.specs.Binary.{runs, run}
+use Rattle.runs.specs.Locals.{localTypes}
+use mathlib.Core.Path.{refl}
 use borrow.Author.Needs.{needs}
 use Rattle.runs.proofs.put_each_run.Statement.{statement}
 use Rattle.runs.proofs.put_each_run.Tie as tie
 
 abbrev Inv-loop : tie.InvT-loop
-Inv-loop out₀ at s o₀ n₀ here₀ left₀ out o n here left = Counting s here₀ left₀ n here left × Putting s here₀ left₀ out₀ at o here left out
+Inv-loop s out₀ at o₀ n₀ here₀ left₀ out o n here left = Counting s here₀ left₀ n here left × Putting out₀ at (concatMap run (runs (localTypes s here₀ left₀))) (concatMap run (runs (localTypes s here left))) o out
 
 abbrev μ-loop : tie.MeasureT-loop
-μ-loop out₀ at s o₀ n₀ here₀ left₀ out o n here left = left
+μ-loop s out₀ at o₀ n₀ here₀ left₀ out o n here left = left
 
 loop-holds : tie.Need-loop-holds Inv-loop μ-loop
-loop-holds c = (search count-begin, search put-begin)
+loop-holds c = (search count-begin, search (putting-begin, refl))
 
 run-at-requires : tie.Need-run-at-requires Inv-loop μ-loop
 run-at-requires c κs = search count-readable
@@ -34,7 +39,7 @@ enum-told : tie.Need-enum-told Inv-loop μ-loop
 enum-told c = search needs
 
 same-length : tie.Need-same-length Inv-loop μ-loop
-same-length c = search put-long
+same-length c = search putting-long
 
 returns : tie.Need-returns Inv-loop μ-loop
 returns c = (search count-few, search count-nothing, search put-nothing)

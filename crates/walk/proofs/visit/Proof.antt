@@ -22,11 +22,11 @@ enum-known-f c = search needs
 next-cursor-requires : tie.Need-next-cursor-requires
 next-cursor-requires c κs = search needs
 
-enum-told : tie.Need-enum-told
-enum-told c = search needs
-
 returns-4 : tie.Need-returns-4
 returns-4 c = (search visit-ways, search visit-head)
+
+enum-told : tie.Need-enum-told
+enum-told c = search needs
 
 returns-5 : tie.Need-returns-5
 returns-5 c = search visit-ways
@@ -41,6 +41,6 @@ visit-spec =
     known-field-requires
     enum-known-f
     next-cursor-requires
-    enum-told
     returns-4
+    enum-told
     returns-5)

@@ -5,10 +5,10 @@ use Rattle.import_export.proofs.export.put_exports.Statement.{statement
 use Rattle.import_export.proofs.export.put_exports.Tie as tie
 
 abbrev Inv-loop : tie.InvT-loop
-Inv-loop out₀ at s k n to₀ count₀ here₀ left₀ out to count here left = Exporting s here₀ left₀ (spaceOf k) n out₀ at to count here left out
+Inv-loop s out₀ at k n to₀ count₀ here₀ left₀ out to count here left = Exporting s here₀ left₀ (spaceOf k) n out₀ at to count here left out
 
 abbrev μ-loop : tie.MeasureT-loop
-μ-loop out₀ at s k n to₀ count₀ here₀ left₀ out to count here left = left
+μ-loop s out₀ at k n to₀ count₀ here₀ left₀ out to count here left = left
 
 loop-holds : tie.Need-loop-holds Inv-loop μ-loop
 loop-holds c = search export-begin

@@ -3,6 +3,9 @@ use borrow.Author.Needs.{needs}
 use Rattle.operands.proofs.constant.emit_const.Statement.{statement}
 use Rattle.operands.proofs.constant.emit_const.Tie as tie
 
+const-at-requires : tie.Need-const-at-requires
+const-at-requires c κs = search needs
+
 emit-plain-requires : tie.Need-emit-plain-requires
 emit-plain-requires c κs = search needs
 
@@ -31,6 +34,7 @@ pub emit-const-spec : {M : Type 1} → statement M
 emit-const-spec =
     tie.close
     (tie.spec
+    const-at-requires
     emit-plain-requires
     enum-known-o
     put-requires

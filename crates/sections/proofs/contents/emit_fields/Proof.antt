@@ -5,10 +5,10 @@ use Rattle.sections.proofs.contents.emit_fields.Statement.{statement}
 use Rattle.sections.proofs.contents.emit_fields.Tie as tie
 
 abbrev Inv-loop : tie.InvT-loop
-Inv-loop k s work₀ out₀ at end c₀ o₀ work out c o = Emitting k s work₀ out₀ at c o out work
+Inv-loop s work₀ out₀ at k end c₀ o₀ work out c o = Emitting k s work₀ out₀ at c o out work
 
 abbrev μ-loop : tie.MeasureT-loop
-μ-loop k s work₀ out₀ at end c₀ o₀ work out c o = c .left
+μ-loop s work₀ out₀ at k end c₀ o₀ work out c o = c .left
 
 start-requires : tie.Need-start-requires Inv-loop μ-loop
 start-requires c κs = search needs

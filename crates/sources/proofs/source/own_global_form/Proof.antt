@@ -1,6 +1,6 @@
 use Rattle.coretypes.proofs.Ways.{type-answers}
 use Rattle.definition.specs.Records.{ownGlobalForm}
-use Rattle.expr.proofs.Ways.{plain-answers}
+use Rattle.expr.proofs.Constants.{constant-answers}
 use Rattle.laws.proofs.Ways.{ways}
 use Rattle.sources.proofs.Ways.{source-answers}
 use Rattle.token.proofs.Ways.{answers}
@@ -15,30 +15,30 @@ read-global-type-requires c κs = search needs
 enum-known-t : tie.Need-enum-known-t
 enum-known-t c = search needs
 
-read-const-requires : tie.Need-read-const-requires
-read-const-requires c κs = search needs
+pass-const-requires : tie.Need-pass-const-requires
+pass-const-requires c κs = search needs
 
-enum-known-c : tie.Need-enum-known-c
-enum-known-c c = search needs
+enum-known-b : tie.Need-enum-known-b
+enum-known-b c = search needs
 
 returns : tie.Need-returns
 unfolding ownGlobalForm
-returns c = search (ways, answers, type-answers, use-answers, plain-answers, source-answers) depth 12
+returns c = search (ways, answers, type-answers, use-answers, constant-answers, source-answers) depth 12
 
 enum-known-e : tie.Need-enum-known-e
 enum-known-e c = search needs
 
 returns-2 : tie.Need-returns-2
 unfolding ownGlobalForm
-returns-2 c = search (ways, answers, type-answers, use-answers, plain-answers, source-answers) depth 12
+returns-2 c = search (ways, answers, type-answers, use-answers, constant-answers, source-answers) depth 12
 
 enum-known-e-2 : tie.Need-enum-known-e-2
 enum-known-e-2 c = search needs
 
 returns-3 : tie.Need-returns-3
 unfolding ownGlobalForm
-returns-3 c = search (ways, answers, type-answers, use-answers, plain-answers, source-answers) depth 12
+returns-3 c = search (ways, answers, type-answers, use-answers, constant-answers, source-answers) depth 12
 
 pub own-global-form-spec : {M : Type 1} → statement M
 own-global-form-spec =
-    tie.close (tie.spec read-global-type-requires enum-known-t read-const-requires enum-known-c returns enum-known-e returns-2 enum-known-e-2 returns-3)
+    tie.close (tie.spec read-global-type-requires enum-known-t pass-const-requires enum-known-b returns enum-known-e returns-2 enum-known-e-2 returns-3)
