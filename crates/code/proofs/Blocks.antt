@@ -10,11 +10,11 @@ use native.Mathlib.Omega.{arith}
 use Rattle.definition.specs.Basic.{_>>=_}
 use Rattle.definition.specs.Syntax as Syntax
 use Rattle.definition.specs.Syntax.{Identifier, instr}
-use Rattle.definition.specs.Reader.{Step, got, fault, onward, require}
+use Rattle.definition.specs.Reader.{Step, got, fault, onward, Reader, require, _>>_}
 use Rattle.definition.specs.Token as Token
 use Rattle.definition.specs.Instructions as Instructions
 use Rattle.definition.specs.Instructions.{opening, calling}
-use Rattle.definition.specs.Read.{openAfter}
+use Rattle.laws.specs.Depths.{depthAfter}
 use Rattle.definition.specs.Types as Types
 use Rattle.definition.specs.Types.{usedAt, instrUses}
 use Rattle.definition.specs.Names.{Namespace, itemNo, typeNo, blockType, closes, blocksAfter, instrOp}
@@ -32,7 +32,7 @@ use Rattle.syntax.specs.declared.PartAt.the-variants as P
 use Rattle.syntax.specs.declared.Index.{Index}
 use Rattle.syntax.specs.declared.IndexAt.{IndexAt}
 use Rattle.syntax.specs.declared.IndexAt.the-variants as X
-use Rattle.token.proofs.Gets.{gets-first, gets-rest, gets-passed, gets-after}
+use Rattle.token.proofs.Gets.{gets-first, gets-rest, gets-after}
 use Rattle.syntax.specs.TypeUses.{useOf, useAt}
 use Rattle.syntax.specs.declared.TypeUse.{TypeUse}
 use Rattle.syntax.specs.declared.UseAt.{UseAt}
@@ -40,6 +40,8 @@ use Rattle.syntax.specs.declared.UseAt.the-variants as U
 use Rattle.name_table.specs.Area.{resolved}
 use Rattle.name_table.specs.declared.table.Resolved.{Resolved}
 use Rattle.name_table.specs.declared.table.Resolved.the-variants as R
+use Rattle.instr.specs.Bodies.{deepInstr}
+use Rattle.instr.proofs.Ways.{deep-opening, deep-elsing, deep-ending}
 use Rattle.type_table.specs.Table.{typesIn, Recalled}
 use Rattle.scope.specs.Scope.{scopeIn, labelsIn}
 use Rattle.type_table.specs.Uses.{blockUses}
@@ -87,7 +89,7 @@ module _ (s w : List ℕ) (p : Place) (op : ℕ) (l : Part) (t : TypeUse) (next 
   Opening r w′ = AnyLocals s w (p .depth - 1) (p .rec) (got (instr (Syntax.opens op (idOf s l) (useOf s t))) next) old at r w′ new
 
   pub opened-on : (o : ℕ) (r : Turn) (w′ : List ℕ) → y ≡ E.To o → InBody p → p .depth ≤ 128 → Opened s w (p .depth - 1) l w′ → r ≡ turnOf (E.To o) (past p next (p .depth + 1)) → Opening r w′
-  unfolding instrOp blocksAfter openAfter
+  unfolding instrOp blocksAfter depthAfter
   opened-on o r w′ d v h g u =
       let f : 1 ≤ p .depth = v .deep in
       let m : (p .depth + 1) - 1 ≡ (p .depth - 1) + 1 = omega arith in
@@ -115,16 +117,16 @@ fault-done s w k rec m old at n d = record { each = λ ls. turned-fault s w ls k
 
 -- an instruction that opens no block
 same-done : (s w : List ℕ) (p : Place) (m : Step (Syntax.Instr Identifier)) (x : Syntax.Instr Identifier) (next d : ℕ) (old : List ℕ) (at : ℕ) (y : Emitted) (r : Turn) (new : List ℕ)
-    → m ≡ got x next → labelsIn s w (d - 1) ≡ blocksAfter (labelsIn s w (p .depth - 1)) x → d ≡ openAfter x (p .depth - 1) + 1 → d ≤ 129 → r ≡ turnOf y (past p next d)
+    → m ≡ got x next → labelsIn s w (d - 1) ≡ blocksAfter (labelsIn s w (p .depth - 1)) x → d ≡ depthAfter x (p .depth - 1) + 1 → d ≤ 129 → r ≡ turnOf y (past p next d)
     → ((ls : _) → Emits instruction (instrOp (scopeIn s w) ls (labelsIn s w (p .depth - 1)) (p .rec) x) old at y new) → AnyLocals s w (p .depth - 1) (p .rec) (recordOf m) old at r w new
 same-done s w p m x next d old at y r new g b o f t e = record {
   each = λ ls. rw t (turned-same s w ls (p .depth - 1) (p .rec) (recordOf m) old at x (past p next d) (rw g) o f refl new y b (e ls));
 }
 
 -- a label can be read where the whole record can
-label-known : {B : Type 0} (f : Option Identifier → ℕ → Step B) (n : ℕ) (t : Bool) (s : List ℕ) (here : ℕ) → Gets (onward f (onward (λ _ q. Token.identifier s q) (require n t s here)))
-    → Gets (Token.identifier s here)
-label-known f n t s here g = gets-after (λ _ q. Token.identifier s q) n t s here (gets-first f (onward (λ _ q. Token.identifier s q) (require n t s here)) g)
+label-known : {B : Type 0} (f : Option Identifier → ℕ → Step B) (n : ℕ) (t : Bool) (s : List ℕ) (here : ℕ)
+    → Gets (onward (λ _ q. onward f (Token.identifier s q)) (require n t s here)) → Gets (Token.identifier s here)
+label-known f n t s here g = gets-first f (Token.identifier s here) (gets-after (λ _ q. onward f (Token.identifier s q)) n t s here g)
 
 -- an else or an end, by how many blocks it closes
 abbrev closer : ℕ → Option Identifier → Syntax.Instr Identifier
@@ -132,58 +134,63 @@ closer zero l = Syntax.elses l
 closer (suc c) l = Syntax.ends l
 
 module _ (s : List ℕ) (k op here : ℕ) where
-  pub opens-known : Gets (Instructions.instruction k op opening s here) → Gets (Token.identifier s here)
+  opening-reads : deepInstr k op opening s here ≡ (require 7 (ltb k 128) >> Instructions.instruction op opening) s here
+  opening-reads = ap (λ (m : Reader (Syntax.Instr Identifier)). m s here) (deep-opening k op)
+
+  pub opens-known : Gets (deepInstr k op opening s here) → Gets (Token.identifier s here)
   unfolding Instructions.instruction
-  opens-known g = label-known _ 7 (ltb k 128) s here g
+  opens-known g = label-known _ 7 (ltb k 128) s here (rw opening-reads at g)
 
   -- and after the label a type use
-  pub opens-use : (r : PartAt) (label : Part) (a : ℕ) → Token.identifier s here ≡ idAt s r → r ≡ P.Got label a → Gets (Instructions.instruction k op opening s here) → Gets (Token.typeUse s a)
-  unfolding Instructions.instruction
-  opens-use r label a e d g =
-      let m : Step (Option Identifier) = onward (λ _ q. Token.identifier s q) (require 7 (ltb k 128) s here) in
-      let t : ltb k 128 ≡ true = gets-passed (λ _ q. Token.identifier s q) 7 (ltb k 128) s here (gets-first _ m g) in
-      gets-first _ (Token.typeUse s a) (gets-rest _ m g (idOf s label) a (rw t (e ∙ ap (idAt s) d)))
+  pub opens-use : (r : PartAt) (label : Part) (a : ℕ) → Token.identifier s here ≡ idAt s r → r ≡ P.Got label a → Gets (deepInstr k op opening s here) → Gets (Token.typeUse s a)
+  opens-use r label a e d g = go (rw opening-reads at g)
+    where
+      after-label : Gets (Instructions.instruction op opening s here) → Gets (Token.typeUse s a)
+      after-label h = unfold Instructions.instruction in gets-first _ (Token.typeUse s a) (gets-rest _ (Token.identifier s here) h (idOf s label) a (e ∙ ap (idAt s) d))
+
+      go : Gets ((require 7 (ltb k 128) >> Instructions.instruction op opening) s here) → Gets (Token.typeUse s a)
+      go h = after-label (gets-after (λ _ q. Instructions.instruction op opening s q) 7 (ltb k 128) s here h)
 
   -- an else or an end is read in the same way
-  closing-reads : (c : ℕ) → Instructions.instruction k op (closingForm c) s here
-      ≡ onward (λ l next. got (closer c l) next) (onward (λ _ q. Token.identifier s q) (require 8 (ltb 0 k) s here))
+  closing-reads : (c : ℕ) → deepInstr k op (closingForm c) s here
+      ≡ onward (λ _ q. onward (λ l next. got (closer c l) next) (Token.identifier s q)) (require 8 (ltb 0 k) s here)
   unfolding Instructions.instruction
-  closing-reads zero = refl
-  closing-reads (suc c) = refl
+  closing-reads zero = ap (λ (m : Reader (Syntax.Instr Identifier)). m s here) (deep-elsing k op)
+  closing-reads (suc c) = ap (λ (m : Reader (Syntax.Instr Identifier)). m s here) (deep-ending k op)
 
-  pub closing-known : (c : ℕ) → Gets (Instructions.instruction k op (closingForm c) s here) → Gets (Token.identifier s here)
+  pub closing-known : (c : ℕ) → Gets (deepInstr k op (closingForm c) s here) → Gets (Token.identifier s here)
   closing-known c g = label-known _ 8 (ltb 0 k) s here (rw (closing-reads c) at g)
 
 module _ (s w : List ℕ) (p : Place) (op here : ℕ) where
   -- a block
-  pub opens-full : (old : List ℕ) (at : ℕ) → 128 < p .depth → AnyLocals s w (p .depth - 1) (p .rec) (recordOf (Instructions.instruction (p .depth - 1) op opening s here)) old at T.Done w old
+  pub opens-full : (old : List ℕ) (at : ℕ) → 128 < p .depth → AnyLocals s w (p .depth - 1) (p .rec) (recordOf (deepInstr (p .depth - 1) op opening s here)) old at T.Done w old
   opens-full old at h =
       let g : 128 ≤ p .depth - 1 = omega arith in
-      fault-done s w (p .depth - 1) (p .rec) (Instructions.instruction (p .depth - 1) op opening s here) old at 7 (unfold Instructions.instruction in rw (le-ltb _ _ g))
+      fault-done s w (p .depth - 1) (p .rec) (deepInstr (p .depth - 1) op opening s here) old at 7 (rw (opening-reads s (p .depth - 1) op here, le-ltb _ _ g))
 
   module _ (q : PartAt) (told : Token.identifier s here ≡ idAt s q) (low : p .depth ≤ 128) where
     few : p .depth - 1 < 128
     few = omega arith
 
-    pub opens-unnamed : (old : List ℕ) (at n : ℕ) → q ≡ P.Fault n → AnyLocals s w (p .depth - 1) (p .rec) (recordOf (Instructions.instruction (p .depth - 1) op opening s here)) old at T.Done w old
-    opens-unnamed old at n d = fault-done s w (p .depth - 1) (p .rec) (Instructions.instruction (p .depth - 1) op opening s here) old at n (unfold Instructions.instruction in rw (lt-ltb _ _ few, told, d))
+    pub opens-unnamed : (old : List ℕ) (at n : ℕ) → q ≡ P.Fault n → AnyLocals s w (p .depth - 1) (p .rec) (recordOf (deepInstr (p .depth - 1) op opening s here)) old at T.Done w old
+    opens-unnamed old at n d = fault-done s w (p .depth - 1) (p .rec) (deepInstr (p .depth - 1) op opening s here) old at n (unfold Instructions.instruction in rw (opening-reads s (p .depth - 1) op here, lt-ltb _ _ few, told, d))
 
     module _ (l : Part) (a : ℕ) (d : q ≡ P.Got l a) (u : UseAt) (says : Token.typeUse s a ≡ useAt s u) where
-      pub opens-untyped : (old : List ℕ) (at n : ℕ) → u ≡ U.Fault n → AnyLocals s w (p .depth - 1) (p .rec) (recordOf (Instructions.instruction (p .depth - 1) op opening s here)) old at T.Done w old
-      opens-untyped old at n e = fault-done s w (p .depth - 1) (p .rec) (Instructions.instruction (p .depth - 1) op opening s here) old at n (unfold Instructions.instruction in rw (lt-ltb _ _ few, told, d, says, e))
+      pub opens-untyped : (old : List ℕ) (at n : ℕ) → u ≡ U.Fault n → AnyLocals s w (p .depth - 1) (p .rec) (recordOf (deepInstr (p .depth - 1) op opening s here)) old at T.Done w old
+      opens-untyped old at n e = fault-done s w (p .depth - 1) (p .rec) (deepInstr (p .depth - 1) op opening s here) old at n (unfold Instructions.instruction in rw (opening-reads s (p .depth - 1) op here, lt-ltb _ _ few, told, d, says, e))
 
       module _ (t : TypeUse) (next : ℕ) (e : u ≡ U.Got t next) where
-        opens-reads : Instructions.instruction (p .depth - 1) op opening s here ≡ got (Syntax.opens op (idOf s l) (useOf s t)) next
+        opens-reads : deepInstr (p .depth - 1) op opening s here ≡ got (Syntax.opens op (idOf s l) (useOf s t)) next
         unfolding Instructions.instruction
-        opens-reads = rw (lt-ltb _ _ few, told, d, says, e)
+        opens-reads = rw (opening-reads s (p .depth - 1) op here, lt-ltb _ _ few, told, d, says, e)
 
         -- what its type use needs
-        pub opens-uses : Recalled w (typesIn s w) (readUses (p .rec) (Instructions.instruction (p .depth - 1) op opening s here)) → Recalled w (typesIn s w) (usedAt (p .rec) (blockUses (useOf s t)))
+        pub opens-uses : Recalled w (typesIn s w) (readUses (p .rec) (deepInstr (p .depth - 1) op opening s here)) → Recalled w (typesIn s w) (usedAt (p .rec) (blockUses (useOf s t)))
         unfolding instrUses
         opens-uses h = rw opens-reads at h
 
         pub opens-got : (old : List ℕ) (at : ℕ) (r : Turn) (w′ new : List ℕ) → AnyLocals s w (p .depth - 1) (p .rec) (got (instr (Syntax.opens op (idOf s l) (useOf s t))) next) old at r w′ new
-            → AnyLocals s w (p .depth - 1) (p .rec) (recordOf (Instructions.instruction (p .depth - 1) op opening s here)) old at r w′ new
+            → AnyLocals s w (p .depth - 1) (p .rec) (recordOf (deepInstr (p .depth - 1) op opening s here)) old at r w′ new
         opens-got old at r w′ new v = rw opens-reads v
 
 pub ruleset openings = (opens-full, opens-unnamed, opens-untyped, opens-got)
@@ -199,19 +206,19 @@ unfolding blocksAfter
 closer-labels s w k zero l h = (let e : k - 0 ≡ k = omega arith in rw e)
 closer-labels s w k (suc c) l h = (let e : suc c ≡ 1 = omega arith in rw e (sym (labels-close s w k)))
 
-closer-open : (k c : ℕ) (l : Option Identifier) → c ≤ 1 → k - c ≡ openAfter (closer c l) k
-unfolding openAfter
+closer-open : (k c : ℕ) (l : Option Identifier) → c ≤ 1 → k - c ≡ depthAfter (closer c l) k
+unfolding depthAfter
 closer-open k zero l h = omega arith
 closer-open k (suc c) l h = omega arith
 
 module _ (s w : List ℕ) (p : Place) (op c here : ℕ) where
   abbrev Closing : List ℕ → ℕ → Turn → List ℕ → Type 0
-  Closing old at r new = AnyLocals s w (p .depth - 1) (p .rec) (recordOf (Instructions.instruction (p .depth - 1) op (closingForm c) s here)) old at r w new
+  Closing old at r new = AnyLocals s w (p .depth - 1) (p .rec) (recordOf (deepInstr (p .depth - 1) op (closingForm c) s here)) old at r w new
 
   pub closing-outside : (old : List ℕ) (at : ℕ) → p .depth < 2 → Closing old at T.Done old
   closing-outside old at h =
       let g : p .depth - 1 ≤ 0 = omega arith in
-      fault-done s w (p .depth - 1) (p .rec) (Instructions.instruction (p .depth - 1) op (closingForm c) s here) old at 8 (rw (closing-reads s (p .depth - 1) op here c, le-ltb _ _ g))
+      fault-done s w (p .depth - 1) (p .rec) (deepInstr (p .depth - 1) op (closingForm c) s here) old at 8 (rw (closing-reads s (p .depth - 1) op here c, le-ltb _ _ g))
 
   module _ (q : PartAt) (told : Token.identifier s here ≡ idAt s q) (low : 2 ≤ p .depth) where
     some : 0 < p .depth - 1
@@ -219,7 +226,7 @@ module _ (s w : List ℕ) (p : Place) (op c here : ℕ) where
 
     pub closing-unnamed : (old : List ℕ) (at n : ℕ) → q ≡ P.Fault n → Closing old at T.Done old
     closing-unnamed old at n d =
-        fault-done s w (p .depth - 1) (p .rec) (Instructions.instruction (p .depth - 1) op (closingForm c) s here) old at n (rw (closing-reads s (p .depth - 1) op here c, lt-ltb _ _ some, told, d))
+        fault-done s w (p .depth - 1) (p .rec) (deepInstr (p .depth - 1) op (closingForm c) s here) old at n (rw (closing-reads s (p .depth - 1) op here c, lt-ltb _ _ some, told, d))
 
     pub closing-got : (l : Part) (next : ℕ) (old : List ℕ) (at : ℕ) (y : Emitted) (r : Turn) (new : List ℕ) → q ≡ P.Got l next → InBody p → c ≤ 1 → op ≡ closingCode c
         → Emits instruction (closingOp s w (p .depth - 1) (p .rec) op (idOf s l)) old at y new → r ≡ turnOf y (past p next (p .depth - c)) → Closing old at r new
@@ -227,7 +234,7 @@ module _ (s w : List ℕ) (p : Place) (op c here : ℕ) where
         let v : Emits instruction (closingOp s w (p .depth - 1) (p .rec) (closingCode c) (idOf s l)) old at y new = rw o at e in
         let m : (p .depth - c) - 1 ≡ (p .depth - 1) - c = omega arith in
         let few : p .depth ≤ 129 = f .few in
-        same-done s w p (Instructions.instruction (p .depth - 1) op (closingForm c) s here) (closer c (idOf s l)) next (p .depth - c) old at y r new
+        same-done s w p (deepInstr (p .depth - 1) op (closingForm c) s here) (closer c (idOf s l)) next (p .depth - c) old at y r new
         (rw (closing-reads s (p .depth - 1) op here c, lt-ltb _ _ some, told, d)) (rw m (closer-labels s w (p .depth - 1) c (idOf s l) h))
         (omega (arith, closer-open (p .depth - 1) c (idOf s l) h)) (omega arith) t (λ ls. rw (closer-op s w (p .depth - 1) (p .rec) c ls (idOf s l)) v)
 
@@ -235,28 +242,28 @@ pub ruleset closings = (closing-outside, closing-unnamed, closing-got)
 
 -- a call_indirect
 module _ (s w : List ℕ) (p : Place) (here : ℕ) (q : IndexAt) (told : Token.optional s here ≡ indexAt s q) where
-  pub indirect-fault : (old : List ℕ) (at n : ℕ) → q ≡ X.Fault n → AnyLocals s w (p .depth - 1) (p .rec) (recordOf (Instructions.instruction (p .depth - 1) 0x11 calling s here)) old at T.Done w old
-  indirect-fault old at n d = fault-done s w (p .depth - 1) (p .rec) (Instructions.instruction (p .depth - 1) 0x11 calling s here) old at n (unfold Instructions.instruction in rw (told, d))
+  pub indirect-fault : (old : List ℕ) (at n : ℕ) → q ≡ X.Fault n → AnyLocals s w (p .depth - 1) (p .rec) (recordOf (deepInstr (p .depth - 1) 0x11 calling s here)) old at T.Done w old
+  indirect-fault old at n d = fault-done s w (p .depth - 1) (p .rec) (deepInstr (p .depth - 1) 0x11 calling s here) old at n (unfold deepInstr Instructions.admits Instructions.instruction in rw (told, d))
 
   module _ (x : Index) (a : ℕ) (d : q ≡ X.Got x a) (u : UseAt) (says : Token.typeUse s a ≡ useAt s u) where
-    pub indirect-untyped : (old : List ℕ) (at n : ℕ) → u ≡ U.Fault n → AnyLocals s w (p .depth - 1) (p .rec) (recordOf (Instructions.instruction (p .depth - 1) 0x11 calling s here)) old at T.Done w old
-    indirect-untyped old at n e = fault-done s w (p .depth - 1) (p .rec) (Instructions.instruction (p .depth - 1) 0x11 calling s here) old at n (unfold Instructions.instruction in rw (told, d, says, e))
+    pub indirect-untyped : (old : List ℕ) (at n : ℕ) → u ≡ U.Fault n → AnyLocals s w (p .depth - 1) (p .rec) (recordOf (deepInstr (p .depth - 1) 0x11 calling s here)) old at T.Done w old
+    indirect-untyped old at n e = fault-done s w (p .depth - 1) (p .rec) (deepInstr (p .depth - 1) 0x11 calling s here) old at n (unfold deepInstr Instructions.admits Instructions.instruction in rw (told, d, says, e))
 
     module _ (t : TypeUse) (next : ℕ) (e : u ≡ U.Got t next) where
-      indirect-reads : Instructions.instruction (p .depth - 1) 0x11 calling s here ≡ got (Syntax.indirect (indexOf s x) (useOf s t)) next
-      unfolding Instructions.instruction
+      indirect-reads : deepInstr (p .depth - 1) 0x11 calling s here ≡ got (Syntax.indirect (indexOf s x) (useOf s t)) next
+      unfolding deepInstr Instructions.admits Instructions.instruction
       indirect-reads = rw (told, d, says, e)
 
-      pub indirect-uses : Recalled w (typesIn s w) (readUses (p .rec) (Instructions.instruction (p .depth - 1) 0x11 calling s here)) → Recalled w (typesIn s w) (usedAt (p .rec) (Types.useOf (useOf s t)))
+      pub indirect-uses : Recalled w (typesIn s w) (readUses (p .rec) (deepInstr (p .depth - 1) 0x11 calling s here)) → Recalled w (typesIn s w) (usedAt (p .rec) (Types.useOf (useOf s t)))
       unfolding instrUses
       indirect-uses h = rw indirect-reads at h
 
       pub indirect-got : (old : List ℕ) (at : ℕ) (y : Emitted) (r : Turn) (new : List ℕ) → InBody p → Emits instruction (instrOp (scopeIn s w) [] [] (p .rec) (Syntax.indirect (indexOf s x) (useOf s t))) old at y new
-          → r ≡ turnOf y (past p next (p .depth)) → AnyLocals s w (p .depth - 1) (p .rec) (recordOf (Instructions.instruction (p .depth - 1) 0x11 calling s here)) old at r w new
-      unfolding instrOp blocksAfter openAfter
+          → r ≡ turnOf y (past p next (p .depth)) → AnyLocals s w (p .depth - 1) (p .rec) (recordOf (deepInstr (p .depth - 1) 0x11 calling s here)) old at r w new
+      unfolding instrOp blocksAfter depthAfter
       indirect-got old at y r new f v z =
           let g : 1 ≤ p .depth = f .deep in
-          same-done s w p (Instructions.instruction (p .depth - 1) 0x11 calling s here) (Syntax.indirect (indexOf s x) (useOf s t)) next (p .depth) old at y r new indirect-reads refl (omega arith) (f .few) z (λ ls. v)
+          same-done s w p (deepInstr (p .depth - 1) 0x11 calling s here) (Syntax.indirect (indexOf s x) (useOf s t)) next (p .depth) old at y r new indirect-reads refl (omega arith) (f .few) z (λ ls. v)
 
 pub ruleset calls = (indirect-fault, indirect-untyped, indirect-got)
 

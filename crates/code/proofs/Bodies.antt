@@ -1,7 +1,7 @@
 -- The loop over a body: what has been written and what is still to come are the whole.
 use Prim.Native.Nat.{ℕ, suc, _+_, _-_, _*_, _≤_, _<_, _^_}
 use mathlib.Core.Path.{_≡_, refl, sym, _∙_, ap}
-use mathlib.Core.Bool.{Bool, true, false, false≢true}
+use mathlib.Core.Bool.{Bool, true, false, not, false≢true}
 use mathlib.Core.Option.{none, some, Option·none-ne-some}
 use mathlib.Core.List.{List, [], _∷_, _++_, append-assoc, append-nil}
 use lib.Dec.{eqb}
@@ -12,8 +12,8 @@ use Rattle.definition.specs.Basic.{Answer, ok, refused, _>>=_, concatMap, if_th
 use Rattle.definition.specs.Syntax as Syntax
 use Rattle.definition.specs.Syntax.{Identifier, Op, Rec, instr, bodyEnd}
 use Rattle.definition.specs.Reader.{Step, got, fault, byte, give, refuse, require, _>>_}
-use Rattle.definition.specs.Instructions.{Form, opening, elsing, ending, calling, operands, opcodes, formIn, formOf, plainOf, instruction, bodyRec}
-use Rattle.definition.specs.Read.{openAfter}
+use Rattle.definition.specs.Instructions.{Form, opening, elsing, ending, calling, operands, opcodes, formIn, formOf, plainOf, instruction, isOpen, admits, bodyRec}
+use Rattle.laws.specs.Depths.{deep, depthAfter}
 use Rattle.definition.specs.Types.{usedAt, instrUses, bodyUses}
 use Rattle.definition.specs.Names.{Scope, Namespace, blocksAfter, instrOp, body}
 use Rattle.definition.specs.Binary as Binary
@@ -37,7 +37,7 @@ use Rattle.name_table.specs.Area.{labels}
 use Rattle.area.specs.Kept.{Kept}
 use Rattle.area.proofs.Kept.{kept-same, kept-then, kept-less}
 use Rattle.type_table.specs.Table.{typesIn, Recalled}
-use Rattle.instr.specs.Bodies.{onBody, bodyFrom, wholeBody}
+use Rattle.instr.specs.Bodies.{deepInstr, onBody, bodyFrom, wholeBody}
 use Rattle.scope.specs.Scope.{scopeIn, localsIn, FewLocals, labelsIn}
 use Rattle.scope.specs.declared.Locals.{Locals}
 use Rattle.scope.proofs.Frames.{scope-kept, locals-kept, recalled-left, recalled-right, recalled-scope}
@@ -61,24 +61,24 @@ pub in-place : (p : Place) (a : ℕ) → InBody p → InBody (record { at = a; r
 in-place p a v = record { deep = v .deep; few = v .few; low = v .low }
 
 -- the instructions from here on: one, and the others
-body-cons : (s : List ℕ) (k rec here : ℕ) (x : Syntax.Instr Identifier) (next : ℕ) → rec < 4096 → bodyRec k s here ≡ got (instr x) next
-    → bodyFrom (4096 - rec) k s here ≡ x ∷ bodyFrom (4096 - (rec + 1)) (openAfter x k) s next
+body-cons : (s : List ℕ) (k rec here : ℕ) (x : Syntax.Instr Identifier) (next : ℕ) → rec < 4096 → bodyRec (deep k) s here ≡ got (instr x) next
+    → bodyFrom (4096 - rec) k s here ≡ x ∷ bodyFrom (4096 - (rec + 1)) (depthAfter x k) s next
 unfolding bodyFrom
 body-cons s k rec here x next h e = let m : 4096 - rec ≡ suc (4096 - (rec + 1)) = omega arith in rw (m, e)
 
 -- the record that a whole body goes on with can be read
-whole-gets : (s : List ℕ) (k rec here : ℕ) → rec < 4096 → wholeBody (4096 - rec) k s here ≡ true → Gets (bodyRec k s here)
+whole-gets : (s : List ℕ) (k rec here : ℕ) → rec < 4096 → wholeBody (4096 - rec) k s here ≡ true → Gets (bodyRec (deep k) s here)
 unfolding wholeBody
 whole-gets s k rec here h v =
-    let m : 4096 - rec ≡ suc (4096 - (rec + 1)) = omega arith in go (bodyRec k s here) (λ x next. wholeBody (4096 - (rec + 1)) (openAfter x k) s next) (rw m at v)
+    let m : 4096 - rec ≡ suc (4096 - (rec + 1)) = omega arith in go (bodyRec (deep k) s here) (λ x next. wholeBody (4096 - (rec + 1)) (depthAfter x k) s next) (rw m at v)
   where
     go : (m : Step (Rec Identifier)) (more : Syntax.Instr Identifier → ℕ → Bool) → onBody m more (λ next. true) false ≡ true → Gets m
     go (got x next) more e = record { value = x; next = next; is = refl }
     go (fault n) more e = absurd (false≢true e)
 
 -- after it a whole body is whole
-whole-cons : (s : List ℕ) (k rec here : ℕ) (x : Syntax.Instr Identifier) (next : ℕ) → rec < 4096 → bodyRec k s here ≡ got (instr x) next
-    → wholeBody (4096 - rec) k s here ≡ true → wholeBody (4096 - (rec + 1)) (openAfter x k) s next ≡ true
+whole-cons : (s : List ℕ) (k rec here : ℕ) (x : Syntax.Instr Identifier) (next : ℕ) → rec < 4096 → bodyRec (deep k) s here ≡ got (instr x) next
+    → wholeBody (4096 - rec) k s here ≡ true → wholeBody (4096 - (rec + 1)) (depthAfter x k) s next ≡ true
 unfolding wholeBody
 whole-cons s k rec here x next h e v = let m : 4096 - rec ≡ suc (4096 - (rec + 1)) = omega arith in rw (m, e) at v
 
@@ -88,15 +88,15 @@ unfolding bodyUses
 uses-rest w types rec x xs h = recalled-right w types (usedAt rec (instrUses x)) (bodyUses (rec + 1) xs) h
 
 -- the same by the numbers of the place after it
-module _ (s : List ℕ) (k rec here : ℕ) (x : Syntax.Instr Identifier) (next : ℕ) (h : rec < 4096) (e : bodyRec k s here ≡ got (instr x) next) (r j : ℕ) (n : r ≡ rec + 1) (d : j ≡ openAfter x k) where
+module _ (s : List ℕ) (k rec here : ℕ) (x : Syntax.Instr Identifier) (next : ℕ) (h : rec < 4096) (e : bodyRec (deep k) s here ≡ got (instr x) next) (r j : ℕ) (n : r ≡ rec + 1) (d : j ≡ depthAfter x k) where
   body-next : bodyFrom (4096 - rec) k s here ≡ x ∷ bodyFrom (4096 - r) j s next
   body-next = rw (n, d) (body-cons s k rec here x next h e)
 
   resolvable-next : (w : List ℕ) → Resolvable s w rec k here → Resolvable s w r j next
   resolvable-next w v = record { recalled = rw (n, d) rest; whole = rw (n, d) (whole-cons s k rec here x next h e (v .whole)) }
     where
-      rest : Recalled w (typesIn s w) (bodyUses (rec + 1) (bodyFrom (4096 - (rec + 1)) (openAfter x k) s next))
-      rest = uses-rest w (typesIn s w) rec x (bodyFrom (4096 - (rec + 1)) (openAfter x k) s next) (rw (body-cons s k rec here x next h e) at (v .recalled))
+      rest : Recalled w (typesIn s w) (bodyUses (rec + 1) (bodyFrom (4096 - (rec + 1)) (depthAfter x k) s next))
+      rest = uses-rest w (typesIn s w) rec x (bodyFrom (4096 - (rec + 1)) (depthAfter x k) s next) (rw (body-cons s k rec here x next h e) at (v .recalled))
 
 -- the end's byte is no opcode
 end-formless : formOf 0xFF ≡ none
@@ -108,14 +108,14 @@ not-end b f false e d = refl
 not-end b f true e d = absurd (Option·none-ne-some f (sym end-formless ∙ sym (ap formOf (eqb-true b 0xFF e)) ∙ d))
 
 module _ (s w : List ℕ) (l : Locals) (k rec here : ℕ) (q : ByteAt) (told : byte s here ≡ byteAt q) where
-  pub byte-fault : (n : ℕ) (old : List ℕ) (at : ℕ) → q ≡ B.Fault n → Turned s w (localsIn s w l) k rec (bodyRec k s here) old at T.Done w old
-  byte-fault n old at d = turned-fault s w (localsIn s w l) k rec (bodyRec k s here) old at n (unfold bodyRec in rw (told, d))
+  pub byte-fault : (n : ℕ) (old : List ℕ) (at : ℕ) → q ≡ B.Fault n → Turned s w (localsIn s w l) k rec (bodyRec (deep k) s here) old at T.Done w old
+  byte-fault n old at d = turned-fault s w (localsIn s w l) k rec (bodyRec (deep k) s here) old at n (unfold bodyRec in rw (told, d))
 
   module _ (b a : ℕ) (d : q ≡ B.Got b a) (f : Code.Form) (says : formOf b ≡ formIs f) where
     -- no opcode: the end, or a byte that is none
-    pub form-none : (old : List ℕ) (at : ℕ) → f ≡ F.NoOpcode → Turned s w (localsIn s w l) k rec (bodyRec k s here) old at T.Done w old
+    pub form-none : (old : List ℕ) (at : ℕ) → f ≡ F.NoOpcode → Turned s w (localsIn s w l) k rec (bodyRec (deep k) s here) old at T.Done w old
     unfolding Turned
-    form-none old at e = record { none = λ more. unfold bodyRec in rw (told, d, says, e) (go more (eqb b 0xFF) (eqb k 0)); area = refl; bytes = refl }
+    form-none old at e = record { none = λ more. unfold bodyRec in rw (told, d, says, e) (go more (eqb b 0xFF) (not (isOpen (deep k .blocks)))); area = refl; bytes = refl }
       where
         go : (more : Syntax.Instr Identifier → ℕ → List (Syntax.Instr Identifier)) (t u : Bool)
             → onBody ((if t then (require 8 u >> give bodyEnd) else refuse 4) s a) more (λ next. []) [] ≡ []
@@ -124,70 +124,70 @@ module _ (s w : List ℕ) (l : Locals) (k rec here : ℕ) (q : ByteAt) (told : b
         go more false u = refl
 
     module _ (g : Form) (e : formIs f ≡ some g) where
-      formed-reads : bodyRec k s here ≡ recordOf (instruction k b g s a)
-      unfolding bodyRec
+      formed-reads : bodyRec (deep k) s here ≡ recordOf (deepInstr k b g s a)
+      unfolding bodyRec deepInstr
       formed-reads = rw (told, d, not-end b g (eqb b 0xFF) refl (says ∙ e), says, e)
 
       -- what the instruction needs of the work area
-      formed-uses : rec < 4096 → Resolvable s w rec k here → Recalled w (typesIn s w) (readUses rec (instruction k b g s a))
-      formed-uses h r = go (instruction k b g s a) formed-reads
+      formed-uses : rec < 4096 → Resolvable s w rec k here → Recalled w (typesIn s w) (readUses rec (deepInstr k b g s a))
+      formed-uses h r = go (deepInstr k b g s a) formed-reads
         where
-          go : (m : Step (Syntax.Instr Identifier)) → bodyRec k s here ≡ recordOf m → Recalled w (typesIn s w) (readUses rec m)
+          go : (m : Step (Syntax.Instr Identifier)) → bodyRec (deep k) s here ≡ recordOf m → Recalled w (typesIn s w) (readUses rec m)
           go (got x next) z =
-              recalled-left w (typesIn s w) (usedAt rec (instrUses x)) (bodyUses (rec + 1) (bodyFrom (4096 - (rec + 1)) (openAfter x k) s next))
+              recalled-left w (typesIn s w) (usedAt rec (instrUses x)) (bodyUses (rec + 1) (bodyFrom (4096 - (rec + 1)) (depthAfter x k) s next))
               (let u = r .recalled in unfold bodyUses in rw (body-cons s k rec here x next h z) at u)
           go (fault n) z = unfold Recalled in tt
 
       -- it can be read
-      formed-gets : rec < 4096 → Resolvable s w rec k here → Gets (instruction k b g s a)
+      formed-gets : rec < 4096 → Resolvable s w rec k here → Gets (deepInstr k b g s a)
       formed-gets h r =
-          let z : Gets (recordOf (instruction k b g s a)) = (let y = whole-gets s k rec here h (r .whole) in rw formed-reads at y) in gets-first _ (instruction k b g s a) z
+          let z : Gets (recordOf (deepInstr k b g s a)) = (let y = whole-gets s k rec here h (r .whole) in rw formed-reads at y) in gets-first _ (deepInstr k b g s a) z
 
-      formed-turn : (old : List ℕ) (at : ℕ) (r : Turn) (w′ new : List ℕ) → Turned s w (localsIn s w l) k rec (recordOf (instruction k b g s a)) old at r w′ new
-          → Turned s w (localsIn s w l) k rec (bodyRec k s here) old at r w′ new
+      formed-turn : (old : List ℕ) (at : ℕ) (r : Turn) (w′ new : List ℕ) → Turned s w (localsIn s w l) k rec (recordOf (deepInstr k b g s a)) old at r w′ new
+          → Turned s w (localsIn s w l) k rec (bodyRec (deep k) s here) old at r w′ new
       formed-turn old at r w′ new t = rw formed-reads t
 
-    pub opening-uses : f ≡ F.Opening → rec < 4096 → Resolvable s w rec k here → Recalled w (typesIn s w) (readUses rec (instruction k b opening s a))
+    pub opening-uses : f ≡ F.Opening → rec < 4096 → Resolvable s w rec k here → Recalled w (typesIn s w) (readUses rec (deepInstr k b opening s a))
     opening-uses e h r = formed-uses opening (ap formIs e) h r
 
-    pub calling-uses : f ≡ F.Calling → rec < 4096 → Resolvable s w rec k here → Recalled w (typesIn s w) (readUses rec (instruction k 0x11 calling s a))
-    unfolding instruction
+    pub calling-uses : f ≡ F.Calling → rec < 4096 → Resolvable s w rec k here → Recalled w (typesIn s w) (readUses rec (deepInstr k 0x11 calling s a))
+    unfolding deepInstr admits instruction
     calling-uses e h r = formed-uses calling (ap formIs e) h r
 
-    pub opening-gets : f ≡ F.Opening → rec < 4096 → Resolvable s w rec k here → Gets (instruction k b opening s a)
+    pub opening-gets : f ≡ F.Opening → rec < 4096 → Resolvable s w rec k here → Gets (deepInstr k b opening s a)
     opening-gets e h r = formed-gets opening (ap formIs e) h r
 
-    pub elsing-gets : f ≡ F.Elsing → rec < 4096 → Resolvable s w rec k here → Gets (instruction k 0x05 (closingForm 0) s a)
-    unfolding instruction
+    pub elsing-gets : f ≡ F.Elsing → rec < 4096 → Resolvable s w rec k here → Gets (deepInstr k 0x05 (closingForm 0) s a)
+    unfolding deepInstr admits instruction
     elsing-gets e h r = formed-gets elsing (ap formIs e) h r
 
-    pub ending-gets : f ≡ F.Ending → rec < 4096 → Resolvable s w rec k here → Gets (instruction k 0x0B (closingForm 1) s a)
-    unfolding instruction
+    pub ending-gets : f ≡ F.Ending → rec < 4096 → Resolvable s w rec k here → Gets (deepInstr k 0x0B (closingForm 1) s a)
+    unfolding deepInstr admits instruction
     ending-gets e h r = formed-gets ending (ap formIs e) h r
 
     pub plain-gets : (v : Operands) → f ≡ F.Operands v → rec < 4096 → Resolvable s w rec k here → Gets (plainOf b (operandsIs v) s a)
-    unfolding instruction
+    unfolding deepInstr admits instruction
     plain-gets v e h r = gets-first _ (plainOf b (operandsIs v) s a) (formed-gets (operands (operandsIs v)) (ap formIs e) h r)
 
     module _ (old : List ℕ) (at : ℕ) (r : Turn) (w′ new : List ℕ) where
-      pub form-opening : f ≡ F.Opening → AnyLocals s w k rec (recordOf (instruction k b opening s a)) old at r w′ new → Turned s w (localsIn s w l) k rec (bodyRec k s here) old at r w′ new
+      pub form-opening : f ≡ F.Opening → AnyLocals s w k rec (recordOf (deepInstr k b opening s a)) old at r w′ new → Turned s w (localsIn s w l) k rec (bodyRec (deep k) s here) old at r w′ new
       form-opening e t = formed-turn opening (ap formIs e) old at r w′ new (t .each (localsIn s w l))
 
-      pub form-elsing : f ≡ F.Elsing → AnyLocals s w k rec (recordOf (instruction k 0x05 (closingForm 0) s a)) old at r w′ new → Turned s w (localsIn s w l) k rec (bodyRec k s here) old at r w′ new
-      unfolding instruction
+      pub form-elsing : f ≡ F.Elsing → AnyLocals s w k rec (recordOf (deepInstr k 0x05 (closingForm 0) s a)) old at r w′ new → Turned s w (localsIn s w l) k rec (bodyRec (deep k) s here) old at r w′ new
+      unfolding deepInstr admits instruction
       form-elsing e t = formed-turn elsing (ap formIs e) old at r w′ new (t .each (localsIn s w l))
 
-      pub form-ending : f ≡ F.Ending → AnyLocals s w k rec (recordOf (instruction k 0x0B (closingForm 1) s a)) old at r w′ new → Turned s w (localsIn s w l) k rec (bodyRec k s here) old at r w′ new
-      unfolding instruction
+      pub form-ending : f ≡ F.Ending → AnyLocals s w k rec (recordOf (deepInstr k 0x0B (closingForm 1) s a)) old at r w′ new → Turned s w (localsIn s w l) k rec (bodyRec (deep k) s here) old at r w′ new
+      unfolding deepInstr admits instruction
       form-ending e t = formed-turn ending (ap formIs e) old at r w′ new (t .each (localsIn s w l))
 
-      pub form-calling : f ≡ F.Calling → AnyLocals s w k rec (recordOf (instruction k 0x11 calling s a)) old at r w′ new → Turned s w (localsIn s w l) k rec (bodyRec k s here) old at r w′ new
-      unfolding instruction
+      pub form-calling : f ≡ F.Calling → AnyLocals s w k rec (recordOf (deepInstr k 0x11 calling s a)) old at r w′ new → Turned s w (localsIn s w l) k rec (bodyRec (deep k) s here) old at r w′ new
+      unfolding deepInstr admits instruction
       form-calling e t = formed-turn calling (ap formIs e) old at r w′ new (t .each (localsIn s w l))
 
       pub form-plain : (v : Operands) → f ≡ F.Operands v → Turned s w (localsIn s w l) k rec (plainRecord (plainOf b (operandsIs v) s a)) old at r w′ new
-          → Turned s w (localsIn s w l) k rec (bodyRec k s here) old at r w′ new
-      unfolding instruction
+          → Turned s w (localsIn s w l) k rec (bodyRec (deep k) s here) old at r w′ new
+      unfolding deepInstr admits instruction
       form-plain v e t = formed-turn (operands (operandsIs v)) (ap formIs e) old at r w′ new t
 
 pub ruleset forms = (byte-fault, form-none, form-opening, form-elsing, form-ending, form-calling, form-plain)
@@ -284,8 +284,8 @@ module _ {s w₀ : List ℕ} {l : Locals} {rec here : ℕ} {old : List ℕ} {at 
   first : l .count ≤ 128 → (x : Syntax.Instr Identifier) (a : Answer Op) → instrOp (scopeIn s w) (localsIn s w l) (labelsIn s w (p .depth - 1)) (p .rec) x ≡ a → instrOp (scopeIn s w₀) (localsIn s w₀ l) (labelsIn s w (p .depth - 1)) (p .rec) x ≡ a
   first h x a e = rw (scope-kept s w₀ w (kept-less UNUSED LABELS (omega arith) (v .kept)), locals-kept s w₀ w l (v .kept) h) at e
 
-  module _ (res : Turn) (w′ new : List ℕ) (t : Turned s w (localsIn s w l) (p .depth - 1) (p .rec) (bodyRec (p .depth - 1) s (p .at)) out o res w′ new) (h : p .rec < 4096) where
-    stepped : (a : ℕ) (q : Place) → res ≡ T.On a q → Stepped s w (localsIn s w l) (p .depth - 1) (p .rec) (bodyRec (p .depth - 1) s (p .at)) out o a q w′ new
+  module _ (res : Turn) (w′ new : List ℕ) (t : Turned s w (localsIn s w l) (p .depth - 1) (p .rec) (bodyRec (deep (p .depth - 1)) s (p .at)) out o res w′ new) (h : p .rec < 4096) where
+    stepped : (a : ℕ) (q : Place) → res ≡ T.On a q → Stepped s w (localsIn s w l) (p .depth - 1) (p .rec) (bodyRec (deep (p .depth - 1)) s (p .at)) out o a q w′ new
     unfolding Turned
     stepped a q d = rw d at t
 
@@ -295,10 +295,10 @@ module _ {s w₀ : List ℕ} {l : Locals} {rec here : ℕ} {old : List ℕ} {at 
     module _ (few : FewLocals l) where
       pub going-again : (a : ℕ) (q : Place) → res ≡ T.On a q → Going s w₀ l rec here old at w′ new a q
       going-again a q d =
-          let x : Stepped s w (localsIn s w l) (p .depth - 1) (p .rec) (bodyRec (p .depth - 1) s (p .at)) out o a q w′ new = stepped a q d in
+          let x : Stepped s w (localsIn s w l) (p .depth - 1) (p .rec) (bodyRec (deep (p .depth - 1)) s (p .at)) out o a q w′ new = stepped a q d in
           let r : q .rec ≡ p .rec + 1 = x .next in
-          let j : q .depth ≡ openAfter (x .read) (p .depth - 1) + 1 = x .depth in
-          let i : q .depth - 1 ≡ openAfter (x .read) (p .depth - 1) = omega arith in
+          let j : q .depth ≡ depthAfter (x .read) (p .depth - 1) + 1 = x .depth in
+          let i : q .depth - 1 ≡ depthAfter (x .read) (p .depth - 1) = omega arith in
           let c : bodyFrom (4096 - p .rec) (p .depth - 1) s (p .at) ≡ x .read ∷ bodyFrom (4096 - q .rec) (q .depth - 1) s (q .at) =
           body-next s (p .depth - 1) (p .rec) (p .at) (x .read) (q .at) h (x .reads) (q .rec) (q .depth - 1) r i in
           let m : (body (scopeIn s w₀) (localsIn s w₀ l) (labelsIn s w (p .depth - 1)) (p .rec) (bodyFrom (4096 - p .rec) (p .depth - 1) s (p .at)) >>= after (v .done))
@@ -323,14 +323,14 @@ module _ {s w₀ : List ℕ} {l : Locals} {rec here : ℕ} {old : List ℕ} {at 
       pub going-refused : (q : Refusal) → res ≡ T.Refused q → EmitsBody s w₀ l rec here old at (E.Refused q) w′ new
       unfolding Turned
       going-refused q d =
-          let x : Halted s w (localsIn s w l) (p .depth - 1) (p .rec) (bodyRec (p .depth - 1) s (p .at)) q w′ = rw d at t in
-          let c : bodyFrom (4096 - p .rec) (p .depth - 1) s (p .at) ≡ x .read ∷ bodyFrom (4096 - (p .rec + 1)) (openAfter (x .read) (p .depth - 1)) s (x .next) =
+          let x : Halted s w (localsIn s w l) (p .depth - 1) (p .rec) (bodyRec (deep (p .depth - 1)) s (p .at)) q w′ = rw d at t in
+          let c : bodyFrom (4096 - p .rec) (p .depth - 1) s (p .at) ≡ x .read ∷ bodyFrom (4096 - (p .rec + 1)) (depthAfter (x .read) (p .depth - 1)) s (x .next) =
           body-cons s (p .depth - 1) (p .rec) (p .at) (x .read) (x .next) h (x .reads) in
           record {
             emits = halts (concatMap Binary.instruction) (body (scopeIn s w₀) (localsIn s w₀ l) [] rec (bodyFrom (4096 - rec) 0 s here)) old at new q
                 (v .same
                 ∙ rw c
-                (body-not (scopeIn s w₀) (localsIn s w₀ l) (labelsIn s w (p .depth - 1)) (p .rec) (x .read) (bodyFrom (4096 - (p .rec + 1)) (openAfter (x .read) (p .depth - 1)) s (x .next)) (v .done) q
+                (body-not (scopeIn s w₀) (localsIn s w₀ l) (labelsIn s w (p .depth - 1)) (p .rec) (x .read) (bodyFrom (4096 - (p .rec + 1)) (depthAfter (x .read) (p .depth - 1)) s (x .next)) (v .done) q
                 (first (few .named) (x .read) (refusedBy q) (x .says))));
             kept = rw (x .area) (v .kept);
           }
@@ -338,8 +338,8 @@ module _ {s w₀ : List ℕ} {l : Locals} {rec here : ℕ} {old : List ℕ} {at 
     pub going-done : res ≡ T.Done → EmitsBody s w₀ l rec here old at (E.To o) w′ new
     unfolding Turned bodyFrom
     going-done d =
-        let x : Ended (bodyRec (p .depth - 1) s (p .at)) w out w′ new = rw d at t in
+        let x : Ended (bodyRec (deep (p .depth - 1)) s (p .at)) w out w′ new = rw d at t in
         let m : 4096 - p .rec ≡ suc (4096 - (p .rec + 1)) = omega arith in
-        rw (x .area, x .bytes) (empty (rw m (x .none (λ i next. i ∷ bodyFrom (4096 - (p .rec + 1)) (openAfter i (p .depth - 1)) s next))))
+        rw (x .area, x .bytes) (empty (rw m (x .none (λ i next. i ∷ bodyFrom (4096 - (p .rec + 1)) (depthAfter i (p .depth - 1)) s next))))
 
 pub ruleset goings = (going-again, going-done, going-refused, going-full)

@@ -30,6 +30,7 @@ ghost use Rattle.syntax.specs.Tokens.{idOf, indexOf};
 ghost use Rattle.token.specs.Known.{Gets};
 ghost use Rattle.syntax.specs.TypeUses.{useOf};
 ghost use Rattle.type_table.specs.Table.{typesIn, Recalled};
+ghost use Rattle.instr.specs.Bodies.{deepInstr};
 ghost use Rattle.scope.specs.Scope.{scopeIn};
 ghost use Rattle.type_table.specs.Uses.{blockUses};
 ghost use Rattle.binary.specs.Emits.{Emits};
@@ -90,8 +91,8 @@ pub fn opens_record(
     p: Place,
     opcode: u8,
 ) -> Turn
-    requires { ⌜ Lent (now s) (now work) × InBody p × Recalled (now work) (typesIn (now s) (now work)) (readUses (p .rec) (Instructions.instruction (p .depth - 1) opcode Instructions.opening (now s) (p .at))) × Gets (Instructions.instruction (p .depth - 1) opcode Instructions.opening (now s) (p .at)) ⌝ }
-    ensures { λ r. ⌜ AnyLocals (now (s .entry)) (now (work .entry)) (p .depth - 1) (p .rec) (recordOf (Instructions.instruction (p .depth - 1) opcode Instructions.opening (now (s .entry)) (p .at))) (now (out .entry)) at r (now (work .exit)) (now (out .exit)) ⌝ }
+    requires { ⌜ Lent (now s) (now work) × InBody p × Recalled (now work) (typesIn (now s) (now work)) (readUses (p .rec) (deepInstr (p .depth - 1) opcode Instructions.opening (now s) (p .at))) × Gets (deepInstr (p .depth - 1) opcode Instructions.opening (now s) (p .at)) ⌝ }
+    ensures { λ r. ⌜ AnyLocals (now (s .entry)) (now (work .entry)) (p .depth - 1) (p .rec) (recordOf (deepInstr (p .depth - 1) opcode Instructions.opening (now (s .entry)) (p .at))) (now (out .entry)) at r (now (work .exit)) (now (out .exit)) ⌝ }
 {
     if 128 < p.depth {
         return Turn::Done;
@@ -134,8 +135,8 @@ pub fn closing_record(
     opcode: u8,
     closed: u32,
 ) -> Turn
-    requires { ⌜ (WORDS ≤ length (now work)) × InBody p × (closed ≤ 1) × (opcode ≡ closingCode closed) × Gets (Instructions.instruction (p .depth - 1) opcode (closingForm closed) (now s) (p .at)) ⌝ }
-    ensures { λ r. ⌜ AnyLocals (now (s .entry)) (now (work .entry)) (p .depth - 1) (p .rec) (recordOf (Instructions.instruction (p .depth - 1) opcode (closingForm closed) (now (s .entry)) (p .at))) (now (out .entry)) at r (now (work .entry)) (now (out .exit)) ⌝ }
+    requires { ⌜ (WORDS ≤ length (now work)) × InBody p × (closed ≤ 1) × (opcode ≡ closingCode closed) × Gets (deepInstr (p .depth - 1) opcode (closingForm closed) (now s) (p .at)) ⌝ }
+    ensures { λ r. ⌜ AnyLocals (now (s .entry)) (now (work .entry)) (p .depth - 1) (p .rec) (recordOf (deepInstr (p .depth - 1) opcode (closingForm closed) (now (s .entry)) (p .at))) (now (out .entry)) at r (now (work .entry)) (now (out .exit)) ⌝ }
 {
     if p.depth < 2 {
         return Turn::Done;
@@ -175,8 +176,8 @@ fn emit_indirect(
 }
 
 pub fn indirect_record(s: &[u8], work: &[u32], out: &mut [u8], at: usize, p: Place) -> Turn
-    requires { ⌜ (WORDS ≤ length (now work)) × InBody p × Recalled (now work) (typesIn (now s) (now work)) (readUses (p .rec) (Instructions.instruction (p .depth - 1) 0x11 Instructions.calling (now s) (p .at))) ⌝ }
-    ensures { λ r. ⌜ AnyLocals (now (s .entry)) (now (work .entry)) (p .depth - 1) (p .rec) (recordOf (Instructions.instruction (p .depth - 1) 0x11 Instructions.calling (now (s .entry)) (p .at))) (now (out .entry)) at r (now (work .entry)) (now (out .exit)) ⌝ }
+    requires { ⌜ (WORDS ≤ length (now work)) × InBody p × Recalled (now work) (typesIn (now s) (now work)) (readUses (p .rec) (deepInstr (p .depth - 1) 0x11 Instructions.calling (now s) (p .at))) ⌝ }
+    ensures { λ r. ⌜ AnyLocals (now (s .entry)) (now (work .entry)) (p .depth - 1) (p .rec) (recordOf (deepInstr (p .depth - 1) 0x11 Instructions.calling (now (s .entry)) (p .at))) (now (out .entry)) at r (now (work .entry)) (now (out .exit)) ⌝ }
 {
     match token::read_optional(s, p.at) {
         IndexAt::Got(x, a) => match typeuse::read_type_use(s, a) {

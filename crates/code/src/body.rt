@@ -8,6 +8,7 @@ use syntax::Place;
 ghost use Prim.Native.Nat.{_-_, _≤_};
 ghost use Rattle.area.specs.Lent.{Lent};
 ghost use Rattle.definition.specs.Instructions as Instructions;
+ghost use Rattle.laws.specs.Depths.{deep};
 ghost use Rattle.scope.specs.Scope.{localsIn, FewLocals};
 ghost use Rattle.plain.specs.Turns.{InBody, Turned};
 ghost use Rattle.code.specs.Body.{Resolvable, EmitsBody};
@@ -15,7 +16,7 @@ ghost use Rattle.code.specs.Body.{Resolvable, EmitsBody};
 // One record of a body. Its end, FF, is no opcode either.
 fn one_record(s: &[u8], work: &mut [u32], out: &mut [u8], at: usize, p: Place, l: Locals) -> Turn
     requires { ⌜ Lent (now s) (now work) × FewLocals l × InBody p × Resolvable (now s) (now work) (p .rec) (p .depth - 1) (p .at) ⌝ }
-    ensures { λ r. ⌜ Turned (now (s .entry)) (now (work .entry)) (localsIn (now (s .entry)) (now (work .entry)) l) (p .depth - 1) (p .rec) (Instructions.bodyRec (p .depth - 1) (now (s .entry)) (p .at)) (now (out .entry)) at r (now (work .exit)) (now (out .exit)) ⌝ }
+    ensures { λ r. ⌜ Turned (now (s .entry)) (now (work .entry)) (localsIn (now (s .entry)) (now (work .entry)) l) (p .depth - 1) (p .rec) (Instructions.bodyRec (deep (p .depth - 1)) (now (s .entry)) (p .at)) (now (out .entry)) at r (now (work .exit)) (now (out .exit)) ⌝ }
 {
     match token::read_byte(s, p.at) {
         ByteAt::Got(b, a) => {

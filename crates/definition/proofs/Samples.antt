@@ -96,6 +96,16 @@ end = 0x0B ∷ 0x00 ∷ []
 abbrev br : Identifier → Bytes
 br l = 0x0C ∷ 0x02 ∷ length l ∷ l
 
+-- a loop and an if with no parameters and no results, and an else
+abbrev loop′ : Bytes
+loop′ = 0x03 ∷ 0x00 ∷ 0x00 ∷ 0x00 ∷ 0x00 ∷ []
+
+abbrev if′ : Bytes
+if′ = 0x04 ∷ 0x00 ∷ 0x00 ∷ 0x00 ∷ 0x00 ∷ []
+
+abbrev else′ : Bytes
+else′ = 0x05 ∷ 0x00 ∷ []
+
 abbrev brNumber : ℕ → Bytes
 brNumber n = 0x0C ∷ 0x01 ∷ n ∷ []
 
@@ -255,6 +265,17 @@ samples =
     ∷ refuses (0x01 ∷ 0xC1 ∷ 0x80 ∷ 0x80 ∷ 0x80 ∷ 0x00 ∷ 0x00 ∷ 0x00 ∷ []) 19 0
     ∷ refuses (0x01 ∷ 0xC1 ∷ 0x80 ∷ 0x80 ∷ 0x80 ∷ 0x80 ∷ 0x00 ∷ 0x00 ∷ 0x00 ∷ []) 3 0
     ∷ refuses (0x01 ∷ 0xC1 ∷ 0x80 ∷ []) 2 0
+    -- (02 §3) an else in an if in an if, then that of the outer one, after a block inside it has closed
+    ∷ assembles (function ++ if′ ++ if′ ++ else′ ++ end ++ block [] ++ end ++ else′ ++ end ++ bodyEnd) 10
+    (oneFunction ++ (0x0A ∷ 0x0F ∷ 0x01 ∷ 0x0D ∷ 0x00 ∷ 0x04 ∷ 0x40 ∷ 0x04 ∷ 0x40 ∷ 0x05 ∷ 0x0B ∷ 0x02 ∷ 0x40 ∷ 0x0B ∷ 0x05 ∷ 0x0B ∷ 0x0B ∷ []))
+    -- none in a block, in a loop, twice, in a block inside an if, outside; 8 stands at the opcode, before a label that is cut short
+    ∷ refuses (function ++ block [] ++ else′) 8 2
+    ∷ refuses (function ++ loop′ ++ else′) 8 2
+    ∷ refuses (function ++ if′ ++ else′ ++ else′) 8 3
+    ∷ refuses (function ++ if′ ++ block [] ++ else′) 8 3
+    ∷ refuses (function ++ if′ ++ if′ ++ else′ ++ end ++ else′ ++ else′) 8 6
+    ∷ refuses (function ++ else′) 8 1
+    ∷ refuses (function ++ block [] ++ (0x05 ∷ [])) 8 2
     -- no name, no section
     ∷ assemblesNames [] 0 S1 []
     -- S7's parameter x is 0, and its function has no identifier; S8's l is 2
@@ -271,12 +292,14 @@ unfolding Basic._>>=_ Basic.each Basic.concatMap Basic.same Basic.sameBytes Basi
     Token.string Token.bytes Token.isRef Token.isVal Token.valType Token.refType Token.flag Token.flag64 Token.bound Token.maximum
     Token.limitsOf Token.limits Token.tableType Token.globalType Token.numberIndex Token.namedIndex Token.present Token.optional
     Token.param Token.typeUse Instructions.opcodes Instructions.formIn Instructions.formOf Instructions.naturals Instructions.exponent
-    Instructions.alignment Instructions.plainOf Instructions.constant Instructions.instruction Instructions.bodyRec Records.importName
+    Instructions.alignment Instructions.plainOf Instructions.constant Instructions.instruction Instructions.isOpen
+    Instructions.mayElse Instructions.admits Instructions.opened Instructions.elsed Instructions.openAfter Instructions.insideAfter
+    Instructions.bodyRec Records.importName
     Records.funcExtern Records.tableExtern Records.memExtern Records.globalExtern Records.importOf Records.importRec Records.itemRec
     Records.importForm Records.ownFuncForm Records.funcRec Records.ownTableForm Records.inlineTableForm Records.tableRec
     Records.ownMemForm Records.inlineMemForm Records.memRec Records.ownGlobalForm Records.globalRec Records.typeRec Records.kind
     Records.exportRec Records.startRec Records.activeMode Records.mode Records.elemRec Records.dataRec Records.fieldRecs Records.fieldRec
-    Read.nothingSeen Read.room Read.ownBody Read.sourceBody Read.fieldBody Read.isStart Read.openAfter Read.bodyAfter Read.itemsAfter
+    Read.nothingSeen Read.room Read.ownBody Read.sourceBody Read.fieldBody Read.isStart Read.bodyAfter Read.itemsAfter
     Read.startedAfter Read.seenAfter Read.oneRecord Read.records Read.read Deinline.exactly Deinline.pages Deinline.zeroOffset
     Deinline.sourceFields Deinline.fieldsOf Deinline.bodyOf Deinline.deinlineFrom Deinline.deinline Deinline.importsFrom
     Deinline.importOrder Types.signature Types.sameType Types.typeAt Types.typeNumber Types.isInline Types.isShort Types.useOf

@@ -1,10 +1,11 @@
 -- The instruction records of a body, and constants (document 01; opcodes as in the standard, 5.4).
 use Prim.Native.Nat.{ℕ, _-_}
-use mathlib.Core.List.{List, [], _∷_}
+use mathlib.Core.Bool.{Bool, true, false, _||_, not}
+use mathlib.Core.List.{List, [], _∷_, tail}
 use mathlib.Core.Option.{Option, none, some}
 use lib.Dec.{eqb, leb, ltb}
-use lib.ListN.{getD}
-use Rattle.definition.specs.Basic.{if_then_else_, between}
+use lib.ListN.{length, getD}
+use Rattle.definition.specs.Basic.{if_then_else_, between, isSome}
 use Rattle.definition.specs.Syntax.{Identifier, funcs, mems, globals}
 use Rattle.definition.specs.Syntax.{Operand, nothing, label, labels, local, item, access, int32, int64, raw, Plain, Instr, opens, elses, ends, indirect, plain, Rec, instr, bodyEnd}
 use Rattle.definition.specs.Reader.{Reader, _>>=_, _>>_, give, refuse, require, byte, byteOf, many, choose}
@@ -98,19 +99,74 @@ constant = byte >>= λ b. choose b
     ∷ (6, plainOf 0xD2 funcidx)
     ∷ [])
 
--- an instruction where `k` blocks are open: the 129th open block is refused by 7, an else or end with none by 8
-unfoldable pub instruction : ℕ → ℕ → Form → Reader (Instr Identifier)
-instruction k op opening = require 7 (ltb k 128) >> identifier >>= λ l. typeUse >>= λ t. give (opens op l t)
-instruction k op elsing = require 8 (ltb 0 k) >> identifier >>= λ l. give (elses l)
-instruction k op ending = require 8 (ltb 0 k) >> identifier >>= λ l. give (ends l)
-instruction k op calling = optional >>= λ x. typeUse >>= λ t. give (indirect x t)
-instruction k op (operands x) = plainOf op x >>= λ p. give (plain p)
+-- what stands after an instruction's opcode
+unfoldable pub instruction : ℕ → Form → Reader (Instr Identifier)
+instruction op opening = identifier >>= λ l. typeUse >>= λ t. give (opens op l t)
+instruction op elsing = identifier >>= λ l. give (elses l)
+instruction op ending = identifier >>= λ l. give (ends l)
+instruction op calling = optional >>= λ x. typeUse >>= λ t. give (indirect x t)
+instruction op (operands x) = plainOf op x >>= λ p. give (plain p)
 
-abbrev pub formed : ℕ → ℕ → Option Form → Reader (Instr Identifier)
-formed k op none = refuse 4
-formed k op (some form) = instruction k op form
+-- ## What may come in a body (document 02, §3)
 
--- a record of a body: the byte FF, refused by 8 where a block is open, or an instruction
-unfoldable pub bodyRec : ℕ → Reader (Rec Identifier)
-bodyRec k = byte >>= λ b.
-    if eqb b 0xFF then (require 8 (eqb k 0) >> give bodyEnd) else (formed k b (formOf b) >>= λ x. give (instr x))
+-- the open blocks, innermost first, each with whether an else may still come in it
+abbrev pub Blocks : Type 0
+Blocks = List Bool
+
+-- where reading stands in a body
+pub record Inside : Type 0 where
+  pub blocks : Blocks
+
+-- at a body's beginning no block is open
+abbrev pub begun : Inside
+begun = record { blocks = [] }
+
+unfoldable pub isOpen : Blocks → Bool
+isOpen [] = false
+isOpen (b ∷ bs) = true
+
+-- an else belongs to an if that has had none
+unfoldable pub mayElse : Blocks → Bool
+mayElse [] = false
+mayElse (b ∷ bs) = b
+
+-- the 129th open block is refused by 7; by 8 an else that belongs to no if, and an end with no block open
+unfoldable pub admits : Inside → Form → Reader (Unit {0})
+admits i opening = require 7 (ltb (length (i .blocks)) 128)
+admits i elsing = require 8 (mayElse (i .blocks))
+admits i ending = require 8 (isOpen (i .blocks))
+admits i calling = give tt
+admits i (operands x) = give tt
+
+-- after block, loop or if, by its opcode; after an else. An end leaves the rest
+unfoldable pub opened : ℕ → Blocks → Blocks
+opened op bs = eqb op 0x04 ∷ bs
+
+unfoldable pub elsed : Blocks → Blocks
+elsed [] = []
+elsed (b ∷ bs) = false ∷ bs
+
+unfoldable pub openAfter : {I : Type 0} → Instr I → Blocks → Blocks
+openAfter (opens op l t) bs = opened op bs
+openAfter (elses l) bs = elsed bs
+openAfter (ends l) bs = tail bs
+openAfter (indirect x t) bs = bs
+openAfter (plain p) bs = bs
+
+unfoldable pub insideAfter : {I : Type 0} → Instr I → Inside → Inside
+insideAfter x i = record { blocks = openAfter x (i .blocks) }
+
+-- ## The records of a body
+
+abbrev pub formed : Inside → ℕ → Option Form → Reader (Instr Identifier)
+formed i op none = refuse 4
+formed i op (some form) = admits i form >> instruction op form
+
+-- the byte FF, refused by 8 where a block is open, or an instruction
+unfoldable pub bodyRec : Inside → Reader (Rec Identifier)
+bodyRec i = byte >>= λ b.
+    if eqb b 0xFF then (require 8 (not (isOpen (i .blocks))) >> give bodyEnd) else (formed i b (formOf b) >>= λ x. give (instr x))
+
+-- may a record of a body begin with this byte?
+unfoldable pub bodyBegins : ℕ → Bool
+bodyBegins b = eqb b 0xFF || isSome (formOf b)

@@ -1,24 +1,24 @@
 -- The record stream: from a list of bytes to its records, or to the first reading fault in byte order (refusals 2 to 9 and 19).
-use Prim.Native.Nat.{ℕ, zero, suc, _+_, _-_}
+use Prim.Native.Nat.{ℕ, zero, suc, _+_}
 use mathlib.Core.Bool.{Bool, true, false, _||_, not}
 use mathlib.Core.List.{List, [], _∷_, _++_}
 use mathlib.Core.Option.{Option, none, some}
-use lib.Dec.{eqb, leb, ltb}
+use lib.Dec.{leb, ltb}
 use lib.ListN.{length, getD}
-use Rattle.definition.specs.Basic.{if_then_else_, Answer, ok, refused, between, isSome}
-use Rattle.definition.specs.Syntax.{Bytes, Identifier, Space, Instr, opens, elses, ends, indirect, plain, Own, ownFunc, ownTable, ownMem, ownGlobal}
+use Rattle.definition.specs.Basic.{if_then_else_, Answer, ok, refused}
+use Rattle.definition.specs.Syntax.{Bytes, Identifier, Space, Instr, Own, ownFunc, ownTable, ownMem, ownGlobal}
 use Rattle.definition.specs.Syntax.{Source, own, imported, tableOf, memOf, FieldRec, typeR, importR, itemR, exportR, startR, elemR, dataR, Rec, field, instr, bodyEnd}
 use Rattle.definition.specs.Reader.{Step, got, fault, Reader, _>>=_, give}
-use Rattle.definition.specs.Instructions.{formOf, bodyRec}
-use Rattle.definition.specs.Records.{Room, fieldRec}
+use Rattle.definition.specs.Instructions.{Inside, begun, insideAfter, bodyRec, bodyBegins}
+use Rattle.definition.specs.Records.{Room, fieldRec, fieldBegins}
 use Rattle.definition.specs.Spaces.{brings, count}
 
 -- ## What the records before have brought
 
--- the items so far, by their spaces; in a body how many blocks are open; whether there was a start
+-- the items so far, by their spaces; in a body where it stands; whether there was a start
 pub record Seen : Type 0 where
   pub items : List Space
-  pub body : Option ℕ
+  pub body : Option Inside
   pub started : Bool
 
 unfoldable pub nothingSeen : Seen
@@ -28,20 +28,20 @@ nothingSeen = record { items = []; body = none; started = false }
 unfoldable pub room : Seen → Room
 room seen = record { item = λ k. ltb (count k (seen .items)) 256; start = not (seen .started) }
 
--- an own function begins a body with no block open
-unfoldable pub ownBody : {I : Type 0} → Own I → Option ℕ
-ownBody (ownFunc t ls) = some 0
+-- an own function begins a body
+unfoldable pub ownBody : {I : Type 0} → Own I → Option Inside
+ownBody (ownFunc t ls) = some begun
 ownBody (ownTable t) = none
 ownBody (ownMem l) = none
 ownBody (ownGlobal t c) = none
 
-unfoldable pub sourceBody : {I : Type 0} → Source I → Option ℕ
+unfoldable pub sourceBody : {I : Type 0} → Source I → Option Inside
 sourceBody (own o) = ownBody o
 sourceBody (imported n d) = none
 sourceBody (tableOf w xs) = none
 sourceBody (memOf w d) = none
 
-unfoldable pub fieldBody : {I : Type 0} → FieldRec I → Option ℕ
+unfoldable pub fieldBody : {I : Type 0} → FieldRec I → Option Inside
 fieldBody (typeR i t) = none
 fieldBody (importR n i d) = none
 fieldBody (itemR i es x) = sourceBody x
@@ -59,20 +59,12 @@ isStart (startR x) = true
 isStart (elemR i m xs) = false
 isStart (dataR i m d) = false
 
--- how many blocks are open after an instruction
-unfoldable pub openAfter : {I : Type 0} → Instr I → ℕ → ℕ
-openAfter (opens op l t) k = k + 1
-openAfter (elses l) k = k
-openAfter (ends l) k = k - 1
-openAfter (indirect x t) k = k
-openAfter (plain p) k = k
-
-abbrev pub instrBody : {I : Type 0} → Instr I → Option ℕ → Option ℕ
+abbrev pub instrBody : {I : Type 0} → Instr I → Option Inside → Option Inside
 instrBody x none = none
-instrBody x (some k) = some (openAfter x k)
+instrBody x (some i) = some (insideAfter x i)
 
--- the same after a record
-unfoldable pub bodyAfter : {I : Type 0} → Option ℕ → Rec I → Option ℕ
+-- where the body stands after a record
+unfoldable pub bodyAfter : {I : Type 0} → Option Inside → Rec I → Option Inside
 bodyAfter body (field f) = fieldBody f
 bodyAfter body (instr x) = instrBody x body
 bodyAfter body bodyEnd = none
@@ -95,22 +87,22 @@ seenAfter seen x =
 -- ## Records, one after the other
 
 -- outside a body a field, in a body an instruction or its end
-abbrev pub recordIn : Room → Option ℕ → Reader (Rec Identifier)
+abbrev pub recordIn : Room → Option Inside → Reader (Rec Identifier)
 recordIn free none = fieldRec free >>= λ f. give (field f)
-recordIn free (some k) = bodyRec k
+recordIn free (some i) = bodyRec i
 
 unfoldable pub oneRecord : Seen → Reader (Rec Identifier)
 oneRecord seen = recordIn (room seen) (seen .body)
 
 -- may a record begin with this byte?
-abbrev pub beginsIn : ℕ → Option ℕ → Bool
-beginsIn b none = between 0x01 0x0A b
-beginsIn b (some k) = eqb b 0xFF || isSome (formOf b)
+abbrev pub beginsIn : ℕ → Option Inside → Bool
+beginsIn b none = fieldBegins b
+beginsIn b (some i) = bodyBegins b
 
 -- where the stream ends: in a body refused by 2, at the next record's number
-abbrev pub atEnd : ℕ → Option ℕ → Answer (List (Rec Identifier))
+abbrev pub atEnd : ℕ → Option Inside → Answer (List (Rec Identifier))
 atEnd r none = ok []
-atEnd r (some k) = refused 2 r
+atEnd r (some i) = refused 2 r
 
 abbrev pub before : {A : Type 0} → A → Answer (List A) → Answer (List A)
 before x (ok xs) = ok (x ∷ xs)

@@ -15,7 +15,9 @@ use syntax::TypeUse;
 use syntax::UseAt;
 ghost use mathlib.Core.Path.{_≡_};
 ghost use Rattle.definition.specs.Instructions as Instructions;
+ghost use Rattle.laws.specs.Depths.{deep};
 ghost use Rattle.syntax.specs.Instructions.{formIs, instrAt, bodyAt};
+ghost use Rattle.instr.specs.Bodies.{deepInstr};
 ghost use Rattle.instr.specs.Readers.{lowForm, middleForm, highForm};
 
 // Opcodes below 20: control, and drop and select.
@@ -124,7 +126,7 @@ pub fn opcode_form(opcode: u8) -> Form
 }
 
 fn opens(s: &[u8], at: usize, opcode: u8, k: u32) -> InstrAt
-    ensures { λ r. ⌜ Instructions.instruction k opcode Instructions.opening (now (s .entry)) at ≡ instrAt (now (s .entry)) r ⌝ }
+    ensures { λ r. ⌜ deepInstr k opcode Instructions.opening (now (s .entry)) at ≡ instrAt (now (s .entry)) r ⌝ }
 {
     if 128 <= k {
         return InstrAt::Fault(7);
@@ -145,7 +147,7 @@ fn opens(s: &[u8], at: usize, opcode: u8, k: u32) -> InstrAt
 }
 
 fn elses(s: &[u8], at: usize, opcode: u8, k: u32) -> InstrAt
-    ensures { λ r. ⌜ Instructions.instruction k opcode Instructions.elsing (now (s .entry)) at ≡ instrAt (now (s .entry)) r ⌝ }
+    ensures { λ r. ⌜ deepInstr k opcode Instructions.elsing (now (s .entry)) at ≡ instrAt (now (s .entry)) r ⌝ }
 {
     if k < 1 {
         return InstrAt::Fault(8);
@@ -161,7 +163,7 @@ fn elses(s: &[u8], at: usize, opcode: u8, k: u32) -> InstrAt
 }
 
 fn ends(s: &[u8], at: usize, opcode: u8, k: u32) -> InstrAt
-    ensures { λ r. ⌜ Instructions.instruction k opcode Instructions.ending (now (s .entry)) at ≡ instrAt (now (s .entry)) r ⌝ }
+    ensures { λ r. ⌜ deepInstr k opcode Instructions.ending (now (s .entry)) at ≡ instrAt (now (s .entry)) r ⌝ }
 {
     if k < 1 {
         return InstrAt::Fault(8);
@@ -176,8 +178,8 @@ fn ends(s: &[u8], at: usize, opcode: u8, k: u32) -> InstrAt
     }
 }
 
-fn indirect(s: &[u8], at: usize, opcode: u8, k: u32) -> InstrAt
-    ensures { λ r. ⌜ Instructions.instruction k opcode Instructions.calling (now (s .entry)) at ≡ instrAt (now (s .entry)) r ⌝ }
+fn indirect(s: &[u8], at: usize, opcode: u8) -> InstrAt
+    ensures { λ r. ⌜ Instructions.instruction opcode Instructions.calling (now (s .entry)) at ≡ instrAt (now (s .entry)) r ⌝ }
 {
     match token::read_optional(s, at) {
         IndexAt::Got(x, a) => match typeuse::read_type_use(s, a) {
@@ -196,7 +198,7 @@ fn indirect(s: &[u8], at: usize, opcode: u8, k: u32) -> InstrAt
 
 // An instruction where k blocks are open: what stands after its opcode.
 fn formed(s: &[u8], at: usize, opcode: u8, k: u32) -> InstrAt
-    ensures { λ r. ⌜ Instructions.formed k opcode (Instructions.formOf opcode) (now (s .entry)) at ≡ instrAt (now (s .entry)) r ⌝ }
+    ensures { λ r. ⌜ Instructions.formed (deep k) opcode (Instructions.formOf opcode) (now (s .entry)) at ≡ instrAt (now (s .entry)) r ⌝ }
 {
     match opcode_form(opcode) {
         Form::NoOpcode => {
@@ -212,7 +214,7 @@ fn formed(s: &[u8], at: usize, opcode: u8, k: u32) -> InstrAt
             return ends(s, at, opcode, k);
         }
         Form::Calling => {
-            return indirect(s, at, opcode, k);
+            return indirect(s, at, opcode);
         }
         Form::Operands(what) => match expr::read_plain(s, at, opcode, what) {
             PlainAt::Got(p, next) => {
@@ -227,7 +229,7 @@ fn formed(s: &[u8], at: usize, opcode: u8, k: u32) -> InstrAt
 
 // A record of a body where k blocks are open.
 pub fn read_body(s: &[u8], at: usize, k: u32) -> BodyAt
-    ensures { λ r. ⌜ Instructions.bodyRec k (now (s .entry)) at ≡ bodyAt (now (s .entry)) r ⌝ }
+    ensures { λ r. ⌜ Instructions.bodyRec (deep k) (now (s .entry)) at ≡ bodyAt (now (s .entry)) r ⌝ }
 {
     match token::read_byte(s, at) {
         ByteAt::Got(b, a) => {

@@ -11,9 +11,9 @@ use Rattle.definition.specs.Syntax as Syntax
 use Rattle.definition.specs.Syntax.{Bytes, Identifier, Rec, field, instr, bodyEnd}
 use Rattle.definition.specs.Reader.{Step, got, fault}
 use Rattle.definition.specs.Instructions.{bodyRec}
-use Rattle.definition.specs.Read.{openAfter}
+use Rattle.laws.specs.Depths.{deep, depthAfter}
 use Rattle.definition.specs.Types.{Uses, usedAt, instrUses, bodyUses}
-use Rattle.laws.proofs.Bodies.{opens-few, ends-one}
+use Rattle.laws.proofs.Bodies.{read-fits, open-some, deep-length}
 use Rattle.syntax.specs.declared.Refusal.{Refusal}
 use Rattle.syntax.specs.TypeUses.{useOf}
 use Rattle.syntax.specs.Instructions.{instrIs, bodyAt}
@@ -40,8 +40,8 @@ pub nested-is : (n k : ℕ) (i v : Instr) → i ≡ v → n ≡ nested v k → n
 nested-is n k i v e h = rw e h
 
 -- as the definition counts them
-nested-opens : (s : Bytes) (i : Instr) (k : ℕ) → openAfter (instrIs s i) k ≡ nested i k
-unfolding openAfter
+nested-opens : (s : Bytes) (i : Instr) (k : ℕ) → depthAfter (instrIs s i) k ≡ nested i k
+unfolding depthAfter
 nested-opens s (N.Opens op l t) k = refl
 nested-opens s (N.Elses l) k = refl
 nested-opens s (N.Ends l) k = refl
@@ -49,25 +49,25 @@ nested-opens s (N.Indirect x t) k = refl
 nested-opens s (N.Plain p) k = refl
 
 -- what was read nests
-pub read-nests : (s : Bytes) (here k : ℕ) (b : BodyAt) (i : Instr) (next : ℕ) → bodyRec k s here ≡ bodyAt s b → b ≡ B.Got i next → Nests i k
+pub read-nests : (s : Bytes) (here k : ℕ) (b : BodyAt) (i : Instr) (next : ℕ) → bodyRec (deep k) s here ≡ bodyAt s b → b ≡ B.Got i next → Nests i k
 read-nests s here k b i next e d = go i (e ∙ ap (bodyAt s) d)
   where
-    go : (i : Instr) → bodyRec k s here ≡ got (instr (instrIs s i)) next → Nests i k
-    go (N.Opens op l t) e = opens-few k s next op _ (useOf s t) here e
+    go : (i : Instr) → bodyRec (deep k) s here ≡ got (instr (instrIs s i)) next → Nests i k
+    go (N.Opens op l t) e = rw (deep-length k) at (read-fits (deep k) s next (instrIs s (N.Opens op l t)) here e)
     go (N.Elses l) e = tt
-    go (N.Ends l) e = ends-one k s next _ here e
+    go (N.Ends l) e = rw (deep-length k) at (open-some (deep k .blocks) (read-fits (deep k) s next (instrIs s (N.Ends l)) here e))
     go (N.Indirect x t) e = tt
     go (N.Plain p) e = tt
 
 -- ## One record more
 
 module _ (s : Bytes) (r k here : ℕ) (h : r < 4096) where
-  from-is : bodyFrom (4096 - r) k s here ≡ onBody (bodyRec k s here) (λ x next. x ∷ bodyFrom (4096 - (r + 1)) (openAfter x k) s next) (λ next. []) []
+  from-is : bodyFrom (4096 - r) k s here ≡ onBody (bodyRec (deep k) s here) (λ x next. x ∷ bodyFrom (4096 - (r + 1)) (depthAfter x k) s next) (λ next. []) []
   unfolding bodyFrom
   from-is = let e : 4096 - r ≡ suc (4096 - (r + 1)) = omega arith in rw e
 
   after-is : afterBody (4096 - r) k r s here
-      ≡ onBody (bodyRec k s here) (λ x next. afterBody (4096 - (r + 1)) (openAfter x k) (r + 1) s next) (λ next. record { at = next; rec = r + 1 }) (record { at = here; rec = r })
+      ≡ onBody (bodyRec (deep k) s here) (λ x next. afterBody (4096 - (r + 1)) (depthAfter x k) (r + 1) s next) (λ next. record { at = next; rec = r + 1 }) (record { at = here; rec = r })
   unfolding afterBody
   after-is = let e : 4096 - r ≡ suc (4096 - (r + 1)) = omega arith in rw e
 
@@ -79,10 +79,10 @@ from-none s r k here h = let e : 4096 - r ≡ 0 = omega arith in rw e
 pub after-low : (left k r : ℕ) (s : Bytes) (here : ℕ) → r ≤ afterBody left k r s here .rec
 unfolding afterBody
 after-low zero k r s here = omega arith
-after-low (suc left) k r s here = go (bodyRec k s here) (λ x next. after-low left (openAfter x k) (r + 1) s next)
+after-low (suc left) k r s here = go (bodyRec (deep k) s here) (λ x next. after-low left (depthAfter x k) (r + 1) s next)
   where
-    go : (st : Step (Rec Identifier)) → ((x : Syntax.Instr Identifier) (next : ℕ) → r + 1 ≤ afterBody left (openAfter x k) (r + 1) s next .rec)
-        → r ≤ onBody st (λ x next. afterBody left (openAfter x k) (r + 1) s next) (λ next. record { at = next; rec = r + 1 }) (record { at = here; rec = r }) .rec
+    go : (st : Step (Rec Identifier)) → ((x : Syntax.Instr Identifier) (next : ℕ) → r + 1 ≤ afterBody left (depthAfter x k) (r + 1) s next .rec)
+        → r ≤ onBody st (λ x next. afterBody left (depthAfter x k) (r + 1) s next) (λ next. record { at = next; rec = r + 1 }) (record { at = here; rec = r }) .rec
     go (got (field f) next) g = omega arith
     go (got (instr x) next) g = let e = g x next in omega arith
     go (got bodyEnd next) g = omega arith
@@ -91,10 +91,10 @@ after-low (suc left) k r s here = go (bodyRec k s here) (λ x next. after-low le
 pub after-high : (left k r : ℕ) (s : Bytes) (here : ℕ) → afterBody left k r s here .rec ≤ r + left
 unfolding afterBody
 after-high zero k r s here = omega arith
-after-high (suc left) k r s here = go (bodyRec k s here) (λ x next. after-high left (openAfter x k) (r + 1) s next)
+after-high (suc left) k r s here = go (bodyRec (deep k) s here) (λ x next. after-high left (depthAfter x k) (r + 1) s next)
   where
-    go : (st : Step (Rec Identifier)) → ((x : Syntax.Instr Identifier) (next : ℕ) → afterBody left (openAfter x k) (r + 1) s next .rec ≤ r + 1 + left)
-        → onBody st (λ x next. afterBody left (openAfter x k) (r + 1) s next) (λ next. record { at = next; rec = r + 1 }) (record { at = here; rec = r }) .rec ≤ r + suc left
+    go : (st : Step (Rec Identifier)) → ((x : Syntax.Instr Identifier) (next : ℕ) → afterBody left (depthAfter x k) (r + 1) s next .rec ≤ r + 1 + left)
+        → onBody st (λ x next. afterBody left (depthAfter x k) (r + 1) s next) (λ next. record { at = next; rec = r + 1 }) (record { at = here; rec = r }) .rec ≤ r + suc left
     go (got (field f) next) g = omega arith
     go (got (instr x) next) g = let e = g x next in omega arith
     go (got bodyEnd next) g = omega arith
@@ -128,7 +128,7 @@ module _ (s : Bytes) (w₀ : List ℕ) (k₀ at rec : ℕ) (w : List ℕ) (k her
   pub body-full : 4096 ≤ r → Handles rec (afterBody (4096 - rec) 0 rec s at .rec) s (bodyUses rec (bodyFrom (4096 - rec) 0 s at)) w₀ k₀ (U.Types k) w
   body-full h = over (from-none s r depth here h) (after-low (4096 - r) depth r s here)
 
-  module _ (b : BodyAt) (h : r < 4096) (told : bodyRec depth s here ≡ bodyAt s b) where
+  module _ (b : BodyAt) (h : r < 4096) (told : bodyRec (deep depth) s here ≡ bodyAt s b) where
     pub body-ends : (next : ℕ) → b ≡ B.End next → Handles rec (afterBody (4096 - rec) 0 rec s at .rec) s (bodyUses rec (bodyFrom (4096 - rec) 0 s at)) w₀ k₀ (U.Types k) w
     body-ends next d = over (from-is s r depth here h ∙ rw (told, d)) (after-low (4096 - r) depth r s here)
 
@@ -141,7 +141,7 @@ module _ (s : Bytes) (w₀ : List ℕ) (k₀ at rec : ℕ) (w : List ℕ) (k her
       here-uses = usedAt r (instrUses (instrIs s i))
 
       abbrev more : Uses
-      more = bodyUses (r + 1) (bodyFrom (4096 - (r + 1)) (openAfter (instrIs s i) depth) s next)
+      more = bodyUses (r + 1) (bodyFrom (4096 - (r + 1)) (depthAfter (instrIs s i) depth) s next)
 
       split : bodyUses r (bodyFrom (4096 - r) depth s here) ≡ here-uses ++ more
       unfolding bodyUses
@@ -160,7 +160,7 @@ module _ (s : Bytes) (w₀ : List ℕ) (k₀ at rec : ℕ) (w : List ℕ) (k her
       pub body-again : (m depth′ : ℕ) → q ≡ U.Types m → depth′ ≡ nested i depth → Going s w₀ k₀ at rec w′ m next (r + 1) depth′
       body-again m depth′ e f =
           let u = handles-types r (r + 1) s here-uses w k q w′ used m e in
-          let o : openAfter (instrIs s i) depth ≡ depth′ = nested-opens s i depth ∙ sym f in
+          let o : depthAfter (instrIs s i) depth ≡ depth′ = nested-opens s i depth ∙ sym f in
           record {
             done = v .done ++ here-uses;
             so-far = handled-then rec (r + 1) r r s (v .done) here-uses w₀ k₀ w k (v .so-far) w′ m (omega arith) (v .low) (omega arith) u;

@@ -8,6 +8,7 @@ use lib.ListN.{getD}
 use Rattle.definition.specs.Basic.{ok, refused}
 use Rattle.definition.specs.Syntax as Syntax
 use Rattle.definition.specs.Syntax.{Bytes, Identifier, FuncType}
+use Rattle.definition.specs.Instructions.{Inside}
 use Rattle.definition.specs.Read.{ownBody}
 use Rattle.definition.specs.Types.{Uses, usedAt, bodyUses, externUses, ownUses, typeAt, intern}
 use Rattle.syntax.specs.Refusals.{refusedBy}
@@ -43,7 +44,7 @@ usesField r (Syntax.elemR i m xs) s here = []
 usesField r (Syntax.dataR i m d) s here = []
 
 -- the record after a field, its body included
-abbrev pub endAfter : Option ℕ → ℕ → Bytes → ℕ → ℕ
+abbrev pub endAfter : Option Inside → ℕ → Bytes → ℕ → ℕ
 endAfter b r s here = afterField b (r + 1) s here .rec
 
 -- the body of an own function has no uses, where the work area says so

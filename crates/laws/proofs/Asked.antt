@@ -4,22 +4,23 @@ use mathlib.Core.Path.{_≡_, refl, ap, _∙_, sym}
 use mathlib.Core.Bool.{Bool, true, false}
 use mathlib.Core.List.{List, [], _∷_, _++_, map, map-append, append-assoc, append-nil}
 use mathlib.Core.Option.{Option, none, some}
-use lib.Dec.{eqb, leb}
+use lib.Dec.{leb}
 use lib.ListN.{length}
 use borrow.Author.Tests.{leb-true, leb-false}
 use native.Mathlib.Omega.{arith}
 use Rattle.definition.specs.Basic.{if_then_else_, ok, concatMap}
 use Rattle.definition.specs.Syntax as Syntax
 use Rattle.definition.specs.Syntax.{Bytes, Identifier, Space, FuncType, ExternType, Index, absent, number, named, TypeUse, Instr, Own, Source, FieldRec, Rec, field, instr, bodyEnd}
-use Rattle.definition.specs.Reader.{Step, got, fault, onward, require, give, byte, _>>=_, _>>_}
+use Rattle.definition.specs.Reader.{got}
 use Rattle.definition.specs.Records.{Room, fieldRec}
-use Rattle.definition.specs.Instructions.{formOf, formed, bodyRec}
-use Rattle.definition.specs.Read.{Seen, seenAfter, bodyAfter, ownBody, sourceBody, fieldBody, openAfter, recordIn, oneRecord, room, records, atEnd, nothingSeen, read}
+use Rattle.definition.specs.Instructions.{Inside, insideAfter}
+use Rattle.definition.specs.Read.{Seen, seenAfter, bodyAfter, ownBody, sourceBody, fieldBody, recordIn, oneRecord, room, records, atEnd, nothingSeen, read}
 use Rattle.definition.specs.Spaces.{sourceSpace, brings, count}
 use Rattle.definition.specs.Deinline.{Numbered, sourceFields, fieldsOf, bodyOf, deinlineFrom, deinline}
 use Rattle.definition.specs.Types.{Uses, signature, isShort, unlessIndexed, useOf, instrUses, bodyUses, externUses, ownUses, fieldUses, uses, declaredBy, declared, usedAt}
 use Rattle.laws.specs.TypeLists.{askedBy, useAsks, instrAsks, externAsks, ownAsks, sourceAsks, fieldAsks, asked, fieldDeclares, declaredIn}
-use Rattle.laws.proofs.Backwards.{came, passed}
+use Rattle.laws.proofs.Backwards.{came}
+use Rattle.laws.proofs.Bodies.{no-field}
 use Rattle.laws.proofs.Reading.{records-end, records-full, accepted-next}
 use Rattle.laws.proofs.Declared.{declared-append, item-declares}
 use Rattle.laws.proofs.Uses.{uses-append}
@@ -54,42 +55,29 @@ declared-records rs = declared-from 0 [] rs
 -- ## Where records stand
 
 -- outside a body fields, in a body instructions and its end
-abbrev Placed : Option ℕ → List (Rec Identifier) → Type 0
+abbrev Placed : Option Inside → List (Rec Identifier) → Type 0
 Placed none [] = Unit {0}
 Placed none (field f ∷ rs) = Placed (fieldBody f) rs
 Placed none (instr x ∷ rs) = ⊥
 Placed none (bodyEnd ∷ rs) = ⊥
-Placed (some k) [] = ⊥
-Placed (some k) (field f ∷ rs) = ⊥
-Placed (some k) (instr x ∷ rs) = Placed (some (openAfter x k)) rs
-Placed (some k) (bodyEnd ∷ rs) = Placed none rs
-
-no-field : (k : ℕ) (s : Bytes) (here : ℕ) (f : FieldRec Identifier) (q : ℕ) → bodyRec k s here ≡ got (field f) q → ⊥
-unfolding bodyRec
-no-field k s here f q e = let c = came (byte s here) e in go (eqb (c .value) 0xFF) (c .value) (c .next) (c .rest)
-  where
-    not-field : (m : Step (Instr Identifier)) → onward (λ y n. got (instr y) n) m ≡ got (field f) q → ⊥
-    not-field (got y n) e = let z : _≡_ {A = ℕ} 0 1 = cc in omega arith
-    not-field (fault j) e = let z : _≡_ {A = ℕ} 0 1 = cc in omega arith
-
-    go : (t : Bool) (b next : ℕ)
-        → (if t then (require 8 (eqb k 0) >> give bodyEnd) else (formed k b (formOf b) >>= λ x. give (instr x))) s next ≡ got (field f) q → ⊥
-    go true b next e = let p = passed _ 8 (eqb k 0) s next e in let d = p .1 in let z : _≡_ {A = ℕ} 0 1 = cc in omega arith
-    go false b next e = not-field (formed k b (formOf b) s next) e
+Placed (some i) [] = ⊥
+Placed (some i) (field f ∷ rs) = ⊥
+Placed (some i) (instr x ∷ rs) = Placed (some (insideAfter x i)) rs
+Placed (some i) (bodyEnd ∷ rs) = Placed none rs
 
 module _ (free : Room) (s : Bytes) (here q : ℕ) (rs : List (Rec Identifier)) where
-  placed-one : (body : Option ℕ) (x : Rec Identifier) → recordIn free body s here ≡ got x q → Placed (bodyAfter body x) rs → Placed body (x ∷ rs)
+  placed-one : (body : Option Inside) (x : Rec Identifier) → recordIn free body s here ≡ got x q → Placed (bodyAfter body x) rs → Placed body (x ∷ rs)
   unfolding bodyAfter
   placed-one none (field f) e p = p
   placed-one none (instr x) e p = let c = came (fieldRec free s here) e in let d = c .rest in let z : _≡_ {A = ℕ} 0 1 = cc in absurd (omega arith)
   placed-one none bodyEnd e p = let c = came (fieldRec free s here) e in let d = c .rest in let z : _≡_ {A = ℕ} 0 1 = cc in absurd (omega arith)
-  placed-one (some k) (field f) e p = no-field k s here f q e
-  placed-one (some k) (instr x) e p = p
-  placed-one (some k) bodyEnd e p = p
+  placed-one (some i) (field f) e p = absurd (no-field i s here f q e)
+  placed-one (some i) (instr x) e p = p
+  placed-one (some i) bodyEnd e p = p
 
-placed-end : (r : ℕ) (body : Option ℕ) (rs : List (Rec Identifier)) → atEnd r body ≡ ok rs → Placed body rs
+placed-end : (r : ℕ) (body : Option Inside) (rs : List (Rec Identifier)) → atEnd r body ≡ ok rs → Placed body rs
 placed-end r none rs e = let z : rs ≡ [] = cc in rw z tt
-placed-end r (some k) rs e = let z : _≡_ {A = ℕ} 0 1 = cc in absurd (omega arith)
+placed-end r (some i) rs e = let z : _≡_ {A = ℕ} 0 1 = cc in absurd (omega arith)
 
 placed-here : (seen : Seen) (s : Bytes) (here : ℕ) (x : Rec Identifier) (q : ℕ) (rs : List (Rec Identifier)) → oneRecord seen s here ≡ got x q
     → Placed (seenAfter seen x .body) rs → Placed (seen .body) (x ∷ rs)
@@ -144,9 +132,9 @@ used-at r [] = refl
 used-at r (t ∷ ts) = ap (λ (us : List FuncType). t ∷ us) (used-at r ts)
 
 -- what is used in the body that follows, if one does
-abbrev inBody : Option ℕ → ℕ → List (Instr Identifier) → Uses
+abbrev inBody : Option Inside → ℕ → List (Instr Identifier) → Uses
 inBody none q b = []
-inBody (some k) q b = bodyUses q b
+inBody (some i) q b = bodyUses q b
 
 module _ (r : ℕ) (i : Option Identifier) (b : List (Instr Identifier)) where
   own-asks : (o : Own Identifier) → (ownBody o ≡ none → b ≡ []) → signatures (usedAt r (ownUses o) ++ bodyUses (r + 1) b) ≡ ownAsks o ++ signatures (inBody (ownBody o) (r + 1) b)
@@ -187,16 +175,16 @@ body-asks : (q : ℕ) (x : Instr Identifier) (b : List (Instr Identifier)) → s
 unfolding bodyUses
 body-asks q x b = rw (map-append, used-at q (instrUses x), instr-asks x) refl
 
-no-body : (body : Option ℕ) (rs : List (Rec Identifier)) → Placed body rs → body ≡ none → bodyOf rs ≡ []
+no-body : (body : Option Inside) (rs : List (Rec Identifier)) → Placed body rs → body ≡ none → bodyOf rs ≡ []
 unfolding bodyOf
 no-body none [] p n = refl
 no-body none (field f ∷ rs) p n = refl
 no-body none (instr x ∷ rs) p n = absurd p
 no-body none (bodyEnd ∷ rs) p n = refl
-no-body (some k) rs p n = let z : _≡_ {A = ℕ} 0 1 = cc in absurd (omega arith)
+no-body (some i) rs p n = let z : _≡_ {A = ℕ} 0 1 = cc in absurd (omega arith)
 
 -- the uses of the body in which the records begin, and of all fields after
-uses-from : (body : Option ℕ) (rs : List (Rec Identifier)) → Placed body rs → (q r : ℕ) (seen : List Space)
+uses-from : (body : Option Inside) (rs : List (Rec Identifier)) → Placed body rs → (q r : ℕ) (seen : List Space)
     → signatures (inBody body q (bodyOf rs)) ++ signatures (uses (deinlineFrom r seen rs)) ≡ asked rs
 unfolding deinlineFrom asked concatMap bodyOf bodyUses
 uses-from none [] p q r seen = unfold uses in refl
@@ -211,14 +199,14 @@ uses-from none (field f ∷ rs) p q r seen =
     ∙ ap (λ (ts : List FuncType). fieldAsks f ++ ts) (uses-from (fieldBody f) rs p (r + 1) (r + 1) (brings f ++ seen))
 uses-from none (instr x ∷ rs) p q r seen = absurd p
 uses-from none (bodyEnd ∷ rs) p q r seen = absurd p
-uses-from (some k) [] p q r seen = absurd p
-uses-from (some k) (field f ∷ rs) p q r seen = absurd p
-uses-from (some k) (instr x ∷ rs) p q r seen =
+uses-from (some i) [] p q r seen = absurd p
+uses-from (some i) (field f ∷ rs) p q r seen = absurd p
+uses-from (some i) (instr x ∷ rs) p q r seen =
     let later = signatures (uses (deinlineFrom (r + 1) seen rs)) in
     ap (λ (ts : List FuncType). ts ++ later) (body-asks q x (bodyOf rs))
     ∙ append-assoc (instrAsks x) (signatures (bodyUses (q + 1) (bodyOf rs))) later
-    ∙ ap (λ (ts : List FuncType). instrAsks x ++ ts) (uses-from (some (openAfter x k)) rs p (q + 1) (r + 1) seen)
-uses-from (some k) (bodyEnd ∷ rs) p q r seen = uses-from none rs p q (r + 1) seen
+    ∙ ap (λ (ts : List FuncType). instrAsks x ++ ts) (uses-from (some (insideAfter x i)) rs p (q + 1) (r + 1) seen)
+uses-from (some i) (bodyEnd ∷ rs) p q r seen = uses-from none rs p q (r + 1) seen
 
 pub uses-records : (s : Bytes) (rs : List (Rec Identifier)) → read s ≡ ok rs → signatures (uses (deinline rs)) ≡ asked rs
 unfolding deinline read nothingSeen

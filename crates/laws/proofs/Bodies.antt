@@ -1,17 +1,20 @@
--- What a record of a body that was read tells: where its end stands, and that a block that opens found few enough open.
-use mathlib.Core.Path.{_≡_, refl}
-use Prim.Native.Nat.{ℕ, _+_, _≤_, _<_}
-use mathlib.Core.Bool.{Bool, true, false}
+-- What a record of a body that was read tells: where its end stands, that it was admitted, and that it is read again by the depth alone.
+use mathlib.Core.Path.{_≡_, refl, ap, sym, _∙_}
+use Prim.Native.Nat.{ℕ, zero, suc, _+_, _-_, _≤_, _<_}
+use mathlib.Core.Bool.{Bool, true, false, not, false≢true}
+use mathlib.Core.List.{[], _∷_}
 use mathlib.Core.Option.{Option, none, some}
 use lib.Dec.{eqb, ltb}
-use lib.ListN.{length, getD}
-use borrow.Author.Tests.{ltb-true}
+use lib.ListN.{length, getD, replicate, length-replicate}
+use borrow.Author.Tests.{ltb-true, lt-ltb}
 use native.Mathlib.Omega.{arith}
 use Rattle.definition.specs.Basic.{if_then_else_}
-use Rattle.definition.specs.Syntax.{Bytes, Identifier, TypeUse, Instr, opens, elses, ends, indirect, plain, instr, bodyEnd}
+use Rattle.definition.specs.Syntax.{Bytes, Identifier, TypeUse, Instr, opens, elses, ends, indirect, plain, FieldRec, Rec, field, instr, bodyEnd}
 use Rattle.definition.specs.Reader.{Step, got, fault, onward, require, give, byte, _>>=_, _>>_}
 use Rattle.definition.specs.Token.{identifier, typeUse, optional}
-use Rattle.definition.specs.Instructions.{Form, opening, elsing, ending, calling, operands, formOf, plainOf, instruction, formed, bodyRec}
+use Rattle.definition.specs.Instructions.{Form, opening, elsing, ending, calling, operands, formOf, plainOf, instruction}
+use Rattle.definition.specs.Instructions.{Blocks, Inside, isOpen, mayElse, admits, opened, elsed, openAfter, formed, bodyRec}
+use Rattle.laws.specs.Depths.{deep, depthAfter}
 use Rattle.laws.proofs.Backwards.{came, passed}
 
 byte-inside : (s : Bytes) (at b q : ℕ) → byte s at ≡ got b q → q ≤ length s
@@ -27,9 +30,9 @@ instr-rec : (m : Step (Instr Identifier)) (x : Instr Identifier) (q : ℕ) → o
 instr-rec (got y n) x q e = cc
 instr-rec (fault k) x q e = let z : _≡_ {A = ℕ} 0 1 = cc in absurd (omega arith)
 
-module _ (k : ℕ) (s : Bytes) (at : ℕ) where
+module _ (i : Inside) (s : Bytes) (at : ℕ) where
   -- a body's end is within the stream
-  pub end-inside : (q : ℕ) → bodyRec k s at ≡ got bodyEnd q → q ≤ length s
+  pub end-inside : (q : ℕ) → bodyRec i s at ≡ got bodyEnd q → q ≤ length s
   unfolding bodyRec
   end-inside q e =
       let c = came (byte s at) e in
@@ -40,60 +43,156 @@ module _ (k : ℕ) (s : Bytes) (at : ℕ) where
       not-end (fault j) e = let z : _≡_ {A = ℕ} 0 1 = cc in omega arith
 
       go : (t : Bool) (b next : ℕ) → next ≤ length s
-          → (if t then (require 8 (eqb k 0) >> give bodyEnd) else (formed k b (formOf b) >>= λ x. give (instr x))) s next ≡ got bodyEnd q → q ≤ length s
-      go true b next h e = let p = passed _ 8 (eqb k 0) s next e in let d = p .1 in let z : next ≡ q = cc in omega arith
-      go false b next h e = absurd (not-end (formed k b (formOf b) s next) e)
+          → (if t then (require 8 (not (isOpen (i .blocks))) >> give bodyEnd) else (formed i b (formOf b) >>= λ x. give (instr x))) s next ≡ got bodyEnd q → q ≤ length s
+      go true b next h e = let p = passed _ 8 (not (isOpen (i .blocks))) s next e in let d = p .1 in let z : next ≡ q = cc in omega arith
+      go false b next h e = absurd (not-end (formed i b (formOf b) s next) e)
+
+  -- no field stands in a body
+  pub no-field : (f : FieldRec Identifier) (q : ℕ) → bodyRec i s at ≡ got (field f) q → ⊥
+  unfolding bodyRec
+  no-field f q e = let c = came (byte s at) e in go (eqb (c .value) 0xFF) (c .value) (c .next) (c .rest)
+    where
+      not-field : (m : Step (Instr Identifier)) → onward (λ y n. got (instr y) n) m ≡ got (field f) q → ⊥
+      not-field (got y n) e = let z : _≡_ {A = ℕ} 0 1 = cc in omega arith
+      not-field (fault j) e = let z : _≡_ {A = ℕ} 0 1 = cc in omega arith
+
+      go : (t : Bool) (b next : ℕ)
+          → (if t then (require 8 (not (isOpen (i .blocks))) >> give bodyEnd) else (formed i b (formOf b) >>= λ x. give (instr x))) s next ≡ got (field f) q → ⊥
+      go true b next e = let p = passed _ 8 (not (isOpen (i .blocks))) s next e in let d = p .1 in let z : _≡_ {A = ℕ} 0 1 = cc in omega arith
+      go false b next e = not-field (formed i b (formOf b) s next) e
 
   -- an instruction stands after its opcode
-  pub instr-formed : (x : Instr Identifier) (q : ℕ) → bodyRec k s at ≡ got (instr x) q → (b : ℕ) × (next : ℕ) × (formed k b (formOf b) s next ≡ got x q)
+  pub instr-formed : (x : Instr Identifier) (q : ℕ) → bodyRec i s at ≡ got (instr x) q → (b : ℕ) × (next : ℕ) × (formed i b (formOf b) s next ≡ got x q)
   unfolding bodyRec
   instr-formed x q e =
       let c = came (byte s at) e in
       go (eqb (c .value) 0xFF) (c .value) (c .next) (c .rest)
     where
       go : (t : Bool) (b next : ℕ)
-          → (if t then (require 8 (eqb k 0) >> give bodyEnd) else (formed k b (formOf b) >>= λ x. give (instr x))) s next ≡ got (instr x) q
-          → (b : ℕ) × (next : ℕ) × (formed k b (formOf b) s next ≡ got x q)
-      go true b next e = let p = passed _ 8 (eqb k 0) s next e in let d = p .1 in let z : _≡_ {A = ℕ} 0 1 = cc in absurd (omega arith)
-      go false b next e = (b, next, instr-rec (formed k b (formOf b) s next) x q e)
+          → (if t then (require 8 (not (isOpen (i .blocks))) >> give bodyEnd) else (formed i b (formOf b) >>= λ x. give (instr x))) s next ≡ got (instr x) q
+          → (b : ℕ) × (next : ℕ) × (formed i b (formOf b) s next ≡ got x q)
+      go true b next e = let p = passed _ 8 (not (isOpen (i .blocks))) s next e in let d = p .1 in let z : _≡_ {A = ℕ} 0 1 = cc in absurd (omega arith)
+      go false b next e = (b, next, instr-rec (formed i b (formOf b) s next) x q e)
 
--- what opens a block was read where fewer than 128 are open, and an end where one is
-abbrev Fits : ℕ → Instr Identifier → Type 0
-Fits k (opens op l t) = k < 128
-Fits k (elses l) = 0 < k
-Fits k (ends l) = 0 < k
-Fits k (indirect x t) = Unit {0}
-Fits k (plain p) = Unit {0}
+-- ## What was read was admitted
 
-module _ (k : ℕ) (s : Bytes) (q : ℕ) where
+-- what opens a block was read where fewer than 128 are open, an else where one may come, and an end where a block is open
+abbrev pub Fits : Blocks → Instr Identifier → Type 0
+Fits bs (opens op l t) = length bs < 128
+Fits bs (elses l) = mayElse bs ≡ true
+Fits bs (ends l) = isOpen bs ≡ true
+Fits bs (indirect x t) = Unit {0}
+Fits bs (plain p) = Unit {0}
+
+pub open-some : (bs : Blocks) → isOpen bs ≡ true → 0 < length bs
+unfolding isOpen
+open-some [] e = absurd (false≢true e)
+open-some (b ∷ bs) e = omega arith
+
+module _ (i : Inside) (s : Bytes) (q : ℕ) where
   -- an answer that was given is the instruction that it gives
-  same-fits : (x y : Instr Identifier) (n : ℕ) → got y n ≡ got x q → Fits k y → Fits k x
+  same-fits : (x y : Instr Identifier) (n : ℕ) → got y n ≡ got x q → Fits (i .blocks) y → Fits (i .blocks) x
   same-fits x y n e h = let z : y ≡ x = cc in rw z at h
 
-  fits-form : (b : ℕ) (form : Form) (at : ℕ) (x : Instr Identifier) → instruction k b form s at ≡ got x q → Fits k x
-  unfolding instruction
+  fits-form : (b : ℕ) (form : Form) (at : ℕ) (x : Instr Identifier) → (admits i form >> instruction b form) s at ≡ got x q → Fits (i .blocks) x
+  unfolding admits instruction
   fits-form b opening at x e =
-      let c = came ((require 7 (ltb k 128) >> identifier) s at) e in
+      let p = passed _ 7 (ltb (length (i .blocks)) 128) s at e in
+      let c = came (identifier s at) (p .1) in
       let f = came (typeUse s (c .next)) (c .rest) in
-      same-fits x _ _ (f .rest) (ltb-true k 128 (passed _ 7 (ltb k 128) s at (c .first) .0))
+      same-fits x _ _ (f .rest) (ltb-true (length (i .blocks)) 128 (p .0))
   fits-form b elsing at x e =
-      let c = came ((require 8 (ltb 0 k) >> identifier) s at) e in
-      same-fits x _ _ (c .rest) (ltb-true 0 k (passed _ 8 (ltb 0 k) s at (c .first) .0))
+      let p = passed _ 8 (mayElse (i .blocks)) s at e in
+      same-fits x _ _ (came (identifier s at) (p .1) .rest) (p .0)
   fits-form b ending at x e =
-      let c = came ((require 8 (ltb 0 k) >> identifier) s at) e in
-      same-fits x _ _ (c .rest) (ltb-true 0 k (passed _ 8 (ltb 0 k) s at (c .first) .0))
+      let p = passed _ 8 (isOpen (i .blocks)) s at e in
+      same-fits x _ _ (came (identifier s at) (p .1) .rest) (p .0)
   fits-form b calling at x e =
       let c = came (optional s at) e in
       let f = came (typeUse s (c .next)) (c .rest) in
       same-fits x _ _ (f .rest) tt
   fits-form b (operands w) at x e = same-fits x _ _ (came (plainOf b w s at) e .rest) tt
 
-  fits-formed : (b : ℕ) (form : Option Form) (at : ℕ) (x : Instr Identifier) → formed k b form s at ≡ got x q → Fits k x
+  fits-formed : (b : ℕ) (form : Option Form) (at : ℕ) (x : Instr Identifier) → formed i b form s at ≡ got x q → Fits (i .blocks) x
   fits-formed b none at x e = let z : _≡_ {A = ℕ} 0 1 = cc in absurd (omega arith)
   fits-formed b (some form) at x e = fits-form b form at x e
 
-  pub opens-few : (op : ℕ) (l : Option Identifier) (t : TypeUse Identifier) (at : ℕ) → bodyRec k s at ≡ got (instr (opens op l t)) q → k < 128
-  opens-few op l t at e = let f = instr-formed k s at (opens op l t) q e in fits-formed (f .0) (formOf (f .0)) (f .1) (opens op l t) (f .2)
+  pub read-fits : (x : Instr Identifier) (at : ℕ) → bodyRec i s at ≡ got (instr x) q → Fits (i .blocks) x
+  read-fits x at e = let f = instr-formed i s at x q e in fits-formed (f .0) (formOf (f .0)) (f .1) x (f .2)
 
-  pub ends-one : (l : Option Identifier) (at : ℕ) → bodyRec k s at ≡ got (instr (ends l)) q → 0 < k
-  ends-one l at e = let f = instr-formed k s at (ends l) q e in fits-formed (f .0) (formOf (f .0)) (f .1) (ends l) (f .2)
+-- ## Read again by the depth alone
+
+pub deep-length : (k : ℕ) → length (deep k .blocks) ≡ k
+unfolding deep
+deep-length k = length-replicate k true
+
+pub deep-open : (k : ℕ) → isOpen (deep k .blocks) ≡ ltb 0 k
+unfolding deep isOpen
+deep-open zero = refl
+deep-open (suc k) = sym (lt-ltb 0 (suc k) (omega arith))
+
+pub deep-else : (k : ℕ) → mayElse (deep k .blocks) ≡ ltb 0 k
+unfolding deep mayElse
+deep-else zero = refl
+deep-else (suc k) = sym (lt-ltb 0 (suc k) (omega arith))
+
+-- so many are open after an instruction
+pub after-length : (x : Instr Identifier) (bs : Blocks) → length (openAfter x bs) ≡ depthAfter x (length bs)
+unfolding openAfter opened elsed depthAfter
+after-length (opens op l t) bs = omega arith
+after-length (elses l) [] = refl
+after-length (elses l) (b ∷ bs) = refl
+after-length (ends l) [] = refl
+after-length (ends l) (b ∷ bs) = omega arith
+after-length (indirect x t) bs = refl
+after-length (plain p) bs = refl
+
+is-open : (bs : Blocks) → isOpen bs ≡ ltb 0 (length bs)
+unfolding isOpen
+is-open [] = refl
+is-open (b ∷ bs) = sym (lt-ltb 0 (suc (length bs)) (omega arith))
+
+-- an else that may come has a block
+else-some : (bs : Blocks) → mayElse bs ≡ true → 0 < length bs
+unfolding mayElse
+else-some [] e = absurd (false≢true e)
+else-some (b ∷ bs) e = omega arith
+
+module _ (i : Inside) (s : Bytes) (q : ℕ) where
+  abbrev again : Inside
+  again = deep (length (i .blocks))
+
+  same-open : isOpen (again .blocks) ≡ isOpen (i .blocks)
+  same-open = deep-open (length (i .blocks)) ∙ sym (is-open (i .blocks))
+
+  deep-form : (b : ℕ) (form : Form) (at : ℕ) (x : Instr Identifier) → (admits i form >> instruction b form) s at ≡ got x q → (admits again form >> instruction b form) s at ≡ got x q
+  unfolding admits
+  deep-form b opening at x e = rw (deep-length (length (i .blocks))) e
+  deep-form b elsing at x e =
+      let p = passed _ 8 (mayElse (i .blocks)) s at e in
+      rw (deep-else (length (i .blocks)), lt-ltb 0 (length (i .blocks)) (else-some (i .blocks) (p .0))) (p .1)
+  deep-form b ending at x e = rw same-open e
+  deep-form b calling at x e = e
+  deep-form b (operands w) at x e = e
+
+  deep-formed : (b : ℕ) (form : Option Form) (at : ℕ) (x : Instr Identifier) → formed i b form s at ≡ got x q → formed again b form s at ≡ got x q
+  deep-formed b none at x e = e
+  deep-formed b (some form) at x e = deep-form b form at x e
+
+  -- a record that was read is read the same
+  pub reads-deep : (at : ℕ) (x : Rec Identifier) → bodyRec i s at ≡ got x q → bodyRec again s at ≡ got x q
+  unfolding bodyRec
+  reads-deep at x e = let c = came (byte s at) e in rw (c .first) (go (eqb (c .value) 0xFF) (c .value) (c .next) x (c .rest))
+    where
+      as-instr : (b next : ℕ) (m : Step (Instr Identifier)) (x : Rec Identifier) → formed i b (formOf b) s next ≡ m → onward (λ y n. got (instr y) n) m ≡ got x q
+          → onward (λ y n. got (instr y) n) (formed again b (formOf b) s next) ≡ got x q
+      as-instr b next (got y n) x f e =
+          let z : n ≡ q = cc in
+          rw (deep-formed b (formOf b) next y (f ∙ ap (got y) z)) (ap (got (instr y)) (sym z) ∙ e)
+      as-instr b next (fault j) x f e = let z : _≡_ {A = ℕ} 0 1 = cc in absurd (omega arith)
+
+      go : (t : Bool) (b next : ℕ) (x : Rec Identifier)
+          → (if t then (require 8 (not (isOpen (i .blocks))) >> give bodyEnd) else (formed i b (formOf b) >>= λ y. give (instr y))) s next ≡ got x q
+          → (if t then (require 8 (not (isOpen (again .blocks))) >> give bodyEnd) else (formed again b (formOf b) >>= λ y. give (instr y))) s next ≡ got x q
+      go true b next x e = rw same-open e
+      go false b next x e = as-instr b next (formed i b (formOf b) s next) x refl e

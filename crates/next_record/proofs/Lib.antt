@@ -1,3 +1,4 @@
+pub mod Bits
 pub mod Records
 pub mod Skims
 pub mod Steps

@@ -1,7 +1,7 @@
 -- One record at the running place: what each way out of its readers comes to.
 use mathlib.Core.Path.{_≡_, refl, ap, sym, _∙_}
 use Prim.Native.Nat.{ℕ, zero, suc, _-_, _≤_, _<_}
-use mathlib.Core.Bool.{true, false}
+use mathlib.Core.Bool.{Bool, true, false, not, false≢true}
 use mathlib.Core.List.{[], _∷_}
 use mathlib.Core.Option.{Option, none, some}
 use lib.Dec.{leb}
@@ -9,13 +9,14 @@ use borrow.Author.Tests.{le-leb, ne-eqb}
 use types.Run.{OneOf, miss}
 use denote.Enum.Declared.{tagOf}
 use native.Mathlib.Omega.{arith}
-use native.Mathlib.Numerals.{add-one}
 use Rattle.definition.specs.Basic.{ok, refused, between, isSome}
 use Rattle.definition.specs.Syntax.{Bytes, field}
-use Rattle.definition.specs.Instructions.{formOf}
-use Rattle.definition.specs.Records.{Room, fieldRec}
-use Rattle.definition.specs.Read.{bodyAfter, fieldBody, sourceBody, ownBody, beginsIn}
+use Rattle.definition.specs.Reader.{chooses}
+use Rattle.definition.specs.Instructions.{formOf, bodyBegins}
+use Rattle.definition.specs.Records.{Room, fieldRecs, fieldRec, fieldBegins}
+use Rattle.definition.specs.Read.{fieldBody, sourceBody, ownBody, beginsIn}
 use Rattle.laws.proofs.Exits.{between-low}
+use Rattle.laws.proofs.Table.{everywhere}
 use Rattle.syntax.specs.declared.Own.the-variants as O
 use Rattle.syntax.specs.declared.Source.the-variants as S
 use Rattle.syntax.specs.Fields.{fieldOf, fieldAt}
@@ -24,6 +25,8 @@ use Rattle.syntax.specs.declared.Field.the-variants as F
 use Rattle.syntax.specs.declared.FieldAt.{FieldAt}
 use Rattle.syntax.specs.declared.FieldAt.the-variants as FA
 use Rattle.syntax.specs.Instructions.{formIs}
+use Rattle.syntax.specs.Marks.{noMarks, insideOf}
+use Rattle.syntax.specs.declared.Marks.{Marks}
 use Rattle.syntax.specs.declared.Form.{Form}
 use Rattle.syntax.specs.declared.Form.the-variants as FM
 use Rattle.syntax.proofs.Form as FormOf
@@ -33,50 +36,65 @@ use Rattle.syntax.specs.declared.Place.{Place}
 
 -- ## Depths
 
-pub outside : (d : ℕ) → d < 1 → bodyOf d ≡ none
-outside zero h = refl
-outside (suc k) h = absurd (omega arith)
+pub outside : (d : ℕ) (m : Marks) → d < 1 → bodyOf d m ≡ none
+outside zero m h = refl
+outside (suc k) m h = absurd (omega arith)
 
-pub inside : (d : ℕ) → 1 ≤ d → bodyOf d ≡ some (d - 1)
-inside zero h = absurd (omega arith)
-inside (suc k) h = let e : suc k - 1 ≡ k = omega arith in rw e
+pub inside : (d : ℕ) (m : Marks) → 1 ≤ d → bodyOf d m ≡ some (insideOf (d - 1) m)
+inside zero m h = absurd (omega arith)
+inside (suc k) m h = let e : suc k - 1 ≡ k = omega arith in rw e
 
-pub body-depth : (b : Option ℕ) → bodyOf (depthOf b) ≡ b
-body-depth none = refl
-body-depth (some k) = rw add-one
-
-field-depth : (s : Bytes) (b : Option ℕ) (f : Field) → fieldDepth f ≡ depthOf (bodyAfter b (field (fieldOf s f)))
-unfolding bodyAfter fieldBody sourceBody ownBody
-field-depth s b (F.Type i ps rs) = refl
-field-depth s b (F.Import n i x) = refl
-field-depth s b (F.Item i es (S.Own (O.Func t ls))) = refl
-field-depth s b (F.Item i es (S.Own (O.Table t))) = refl
-field-depth s b (F.Item i es (S.Own (O.Mem l))) = refl
-field-depth s b (F.Item i es (S.Own (O.Global t c))) = refl
-field-depth s b (F.Item i es (S.Imported n x)) = refl
-field-depth s b (F.Item i es (S.TableOf w xs)) = refl
-field-depth s b (F.Item i es (S.MemOf w d)) = refl
-field-depth s b (F.Export n k x) = refl
-field-depth s b (F.Start x) = refl
-field-depth s b (F.Elem i m xs) = refl
-field-depth s b (F.Data i m d) = refl
+field-depth : (s : Bytes) (f : Field) → fieldDepth f ≡ depthOf (fieldBody (fieldOf s f))
+unfolding fieldBody sourceBody ownBody
+field-depth s (F.Type i ps rs) = refl
+field-depth s (F.Import n i x) = refl
+field-depth s (F.Item i es (S.Own (O.Func t ls))) = refl
+field-depth s (F.Item i es (S.Own (O.Table t))) = refl
+field-depth s (F.Item i es (S.Own (O.Mem l))) = refl
+field-depth s (F.Item i es (S.Own (O.Global t c))) = refl
+field-depth s (F.Item i es (S.Imported n x)) = refl
+field-depth s (F.Item i es (S.TableOf w xs)) = refl
+field-depth s (F.Item i es (S.MemOf w d)) = refl
+field-depth s (F.Export n k x) = refl
+field-depth s (F.Start x) = refl
+field-depth s (F.Elem i m xs) = refl
+field-depth s (F.Data i m d) = refl
 
 -- ## Which bytes may begin a record
 
-pub begins-low : (b d : ℕ) → d < 1 → b < 1 → false ≡ beginsIn b (bodyOf d)
-begins-low b d h l = rw (outside d h) (sym (between-low 1 10 b l))
+abbrev alike : Bool → Bool → Bool
+alike true b = b
+alike false b = not b
 
-pub begins-field : (b d : ℕ) → d < 1 → 1 ≤ b → leb b 10 ≡ beginsIn b (bodyOf d)
-unfolding between
-begins-field b d h l = rw (outside d h, le-leb 1 b l)
+alike-same : (a b : Bool) → alike a b ≡ true → a ≡ b
+alike-same true true e = refl
+alike-same true false e = absurd (false≢true e)
+alike-same false true e = absurd (false≢true e)
+alike-same false false e = refl
 
-pub begins-end : (b d : ℕ) → 1 ≤ d → b ≡ 0xFF → true ≡ beginsIn b (bodyOf d)
-begins-end b d h e = rw (inside d h, e)
+-- the bytes of the definition's table as the code tests them: compared at every byte, by computing
+field-bytes : (b : ℕ) → b < 256 → between 0x01 0x0A b ≡ fieldBegins b
+unfolding between fieldBegins fieldRecs chooses
+field-bytes b h = alike-same _ _ (everywhere (λ k. alike (between 0x01 0x0A k) (fieldBegins k)) 256 tt b h)
 
-some-form : (b d : ℕ) (r : Form) → 1 ≤ d → (b ≡ 0xFF → ⊥) → formOf b ≡ formIs r → isSome (formIs r) ≡ beginsIn b (bodyOf d)
-some-form b d r h n e = rw (inside d h, ne-eqb b 0xFF n, e)
+pub begins-low : (b d : ℕ) → b < 256 → d < 1 → b < 1 → false ≡ beginsIn b (bodyOf d noMarks)
+begins-low b d f h l = rw (outside d noMarks h) (sym (between-low 1 10 b l) ∙ field-bytes b f)
 
-pub begins-not : (b d : ℕ) (r : Form) → 1 ≤ d → (b ≡ 0xFF → ⊥) → formOf b ≡ formIs r → r ≡ FM.NoOpcode → false ≡ beginsIn b (bodyOf d)
+pub begins-field : (b d : ℕ) → b < 256 → d < 1 → 1 ≤ b → leb b 10 ≡ beginsIn b (bodyOf d noMarks)
+begins-field b d f h l = rw (outside d noMarks h) (go (field-bytes b f))
+  where
+    go : between 0x01 0x0A b ≡ fieldBegins b → leb b 10 ≡ fieldBegins b
+    go e = unfold between in rw (le-leb 1 b l) at e
+
+pub begins-end : (b d : ℕ) → 1 ≤ d → b ≡ 0xFF → true ≡ beginsIn b (bodyOf d noMarks)
+unfolding bodyBegins
+begins-end b d h e = rw (inside d noMarks h, e)
+
+some-form : (b d : ℕ) (r : Form) → 1 ≤ d → (b ≡ 0xFF → ⊥) → formOf b ≡ formIs r → isSome (formIs r) ≡ beginsIn b (bodyOf d noMarks)
+unfolding bodyBegins
+some-form b d r h n e = rw (inside d noMarks h, ne-eqb b 0xFF n, e)
+
+pub begins-not : (b d : ℕ) (r : Form) → 1 ≤ d → (b ≡ 0xFF → ⊥) → formOf b ≡ formIs r → r ≡ FM.NoOpcode → false ≡ beginsIn b (bodyOf d noMarks)
 unfolding isSome
 begins-not b d r h n e g = ap (λ x. isSome (formIs x)) (sym g) ∙ some-form b d r h n e
 
@@ -91,7 +109,7 @@ is-form FM.Calling h = refl
 is-form (FM.Operands w) h = refl
 
 pub begins-form : (b d : ℕ) (r : Form) → 1 ≤ d → (b ≡ 0xFF → ⊥) → formOf b ≡ formIs r → OneOf (1 ∷ 2 ∷ 3 ∷ 4 ∷ 5 ∷ []) (tagOf FormOf.the-type r)
-    → true ≡ beginsIn b (bodyOf d)
+    → true ≡ beginsIn b (bodyOf d noMarks)
 begins-form b d r h n e t = is-form r t ∙ some-form b d r h n e
 
 -- ## The ways out
@@ -99,7 +117,7 @@ begins-form b d r h n e t = is-form r t ∙ some-form b d r h n e
 module _ (free : Room) (p : Place) (s : Bytes) (r : FieldAt) (e : fieldRec free s (p .at) ≡ fieldAt s r) where
   pub record-field : (f : Field) (next d : ℕ) (q : Place) → r ≡ FA.Got f next → q ≡ recordPast p next d → d ≡ fieldDepth f → fieldRecordAt free p s ≡ (ok (field (fieldOf s f)), q)
   unfolding fieldRecordAt placeAfter
-  record-field f next d q g a l = rw (a, e, g, l, field-depth s (bodyOf (p .depth)) f)
+  record-field f next d q g a l = rw (a, e, g, l, field-depth s f)
 
   pub record-no-field : (n : ℕ) → r ≡ FA.Fault n → fieldRecordAt free p s ≡ (refused n (p .rec), p)
   unfolding fieldRecordAt

@@ -19,8 +19,9 @@ use Rattle.syntax.specs.declared.Field.the-variants as F
 use Rattle.syntax.proofs.Field as FieldOf
 use Rattle.next_record.specs.Places.{bodyOf, recordPast}
 use Rattle.next_record.specs.Answers.{ownDepth, sourceDepth, fieldDepth, onPast}
+use Rattle.syntax.specs.Marks.{noMarks}
 use Rattle.syntax.specs.declared.Place.{Place}
-use Rattle.next_record.specs.declared.record.Inside.the-variants as N
+use Rattle.next_record.specs.declared.record.Inside.{Inside}
 use Rattle.next_record.specs.declared.record.InsideAt.{InsideAt}
 
 -- ## Depths
@@ -58,14 +59,14 @@ field-flat (F.Data i m d) h = refl
 
 -- ## An instruction
 
-pub on-is : (p q : Place) (next d : ℕ) (u : Bool) → q ≡ recordPast p next d → _≡_ {A = InsideAt} (record { what = N.On u; place = q }) (onPast p next d u)
+pub on-is : (p q : Place) (next d : ℕ) (what : Inside) → q ≡ recordPast p next d → _≡_ {A = InsideAt} (record { what = what; place = q }) (onPast p next d what)
 unfolding onPast
-on-is p q next d u e = rw e
+on-is p q next d what e = rw e
 
 -- ## One record too many
 
-pub may-begin : (s : List ℕ) (at b d : ℕ) (t : Bool) → b ≡ getD s at 0 → t ≡ beginsIn b (bodyOf d) → t ≡ true → _≡_ {A = ℕ} 7 (if beginsIn (getD s at 0) (bodyOf d) then 7 else 4)
+pub may-begin : (s : List ℕ) (at b d : ℕ) (t : Bool) → b ≡ getD s at 0 → t ≡ beginsIn b (bodyOf d noMarks) → t ≡ true → _≡_ {A = ℕ} 7 (if beginsIn (getD s at 0) (bodyOf d noMarks) then 7 else 4)
 may-begin s at b d t e f g = rw (← e, ← f, g)
 
-pub may-not-begin : (s : List ℕ) (at b d : ℕ) (t : Bool) → b ≡ getD s at 0 → t ≡ beginsIn b (bodyOf d) → t ≡ false → _≡_ {A = ℕ} 4 (if beginsIn (getD s at 0) (bodyOf d) then 7 else 4)
+pub may-not-begin : (s : List ℕ) (at b d : ℕ) (t : Bool) → b ≡ getD s at 0 → t ≡ beginsIn b (bodyOf d noMarks) → t ≡ false → _≡_ {A = ℕ} 4 (if beginsIn (getD s at 0) (bodyOf d noMarks) then 7 else 4)
 may-not-begin s at b d t e f g = rw (← e, ← f, g)

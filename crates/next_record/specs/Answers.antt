@@ -1,12 +1,13 @@
 -- What the code's answers and small steps mean.
 use Prim.Native.Nat.{ℕ}
-use mathlib.Core.Bool.{Bool}
-use mathlib.Core.Option.{Option}
-use lib.Dec.{ltb}
+use mathlib.Core.Bool.{Bool, false}
+use lib.Dec.{eqb, ltb}
 use Rattle.definition.specs.Basic.{Answer, ok, refused}
-use Rattle.definition.specs.Syntax.{Bytes, Identifier, Instr, Rec, field, instr, bodyEnd}
+use Rattle.definition.specs.Syntax.{Bytes, Identifier, Instr, opens, elses, ends, indirect, plain, Rec, field, instr, bodyEnd}
 use Rattle.definition.specs.Reader.{Step, got, fault, Reader, _>>_, require}
-use Rattle.definition.specs.Token.{identifier}
+use Rattle.definition.specs.Instructions.{opening, elsing, ending, instruction, mayElse}
+use Rattle.syntax.specs.Marks.{insideOf}
+use Rattle.syntax.specs.declared.Marks.{Marks}
 use Rattle.syntax.specs.declared.Own.{Own}
 use Rattle.syntax.specs.declared.Own.the-variants as O
 use Rattle.syntax.specs.declared.Source.{Source}
@@ -28,15 +29,29 @@ abbrev pub outsideAnswer : Bytes → Outside → Place → Answer (Rec Identifie
 outsideAnswer s (U.Field f) q = (ok (field (fieldOf s f)), q)
 outsideAnswer s (U.Refused n) q = (refused n (q .rec), q)
 
--- what the pass keeps of a record in a body: of an instruction, whether it may use a type
+-- what an instruction does to the open blocks; of one that opens, whether an else may come in it
+pub data Shift : Type 0 where
+  stay : Shift
+  open-one : Bool → Shift
+  else-one : Shift
+  end-one : Shift
+
+abbrev pub shiftOf : Instr Identifier → Shift
+shiftOf (opens op l t) = open-one (eqb op 0x04)
+shiftOf (elses l) = else-one
+shiftOf (ends l) = end-one
+shiftOf (indirect x t) = stay
+shiftOf (plain p) = stay
+
+-- what the pass keeps of a record in a body: of an instruction, whether it may use a type and what it does to the open blocks
 pub data Kept : Type 0 where
   a-field : Kept
-  an-instr : Bool → Kept
+  an-instr : Bool → Shift → Kept
   an-end : Kept
 
 abbrev pub keptOf : Rec Identifier → Kept
 keptOf (field f) = a-field
-keptOf (instr x) = an-instr (mayUse x)
+keptOf (instr x) = an-instr (mayUse x) (shiftOf x)
 keptOf bodyEnd = an-end
 
 abbrev pub keptAnswer : Answer (Rec Identifier) → Answer Kept
@@ -47,22 +62,31 @@ abbrev pub keptAt : Answer (Rec Identifier) × Place → Answer Kept × Place
 keptAt y = (keptAnswer (y .0), y .1)
 
 abbrev pub insideAnswer : Inside → Place → Answer Kept × Place
-insideAnswer (N.On u) q = (ok (an-instr u), q)
+insideAnswer (N.On u) q = (ok (an-instr u stay), q)
+insideAnswer (N.Opens u e) q = (ok (an-instr u (open-one e)), q)
+insideAnswer N.Elses q = (ok (an-instr false else-one), q)
+insideAnswer N.Ends q = (ok (an-instr false end-one), q)
 insideAnswer N.End q = (ok an-end, q)
 insideAnswer (N.Refused n) q = (refused n (q .rec), q)
 
 -- the same of an instruction
 abbrev pub keptInstr : Place → Step (Instr Identifier) → Answer Kept × Place
-keptInstr p (got x next) = (ok (an-instr (mayUse x)), placeAfter p (instr x) next)
+keptInstr p (got x next) = (ok (keptOf (instr x)), placeAfter p (instr x) next)
 keptInstr p (fault n) = (refused n (p .rec), p)
 
--- the label of an else or an end where `k` blocks are open
-unfoldable pub labelIn : ℕ → Reader (Option Identifier)
-labelIn k = require 8 (ltb 0 k) >> identifier
+-- a block, an else and an end where `k` blocks are open, with these marks
+unfoldable pub opensIn : ℕ → ℕ → Reader (Instr Identifier)
+opensIn k op = require 7 (ltb k 128) >> instruction op opening
+
+unfoldable pub elsesIn : ℕ → Marks → Reader (Instr Identifier)
+elsesIn k m = require 8 (mayElse (insideOf k m .blocks)) >> instruction 0x05 elsing
+
+unfoldable pub endsIn : ℕ → Reader (Instr Identifier)
+endsIn k = require 8 (ltb 0 k) >> instruction 0x0B ending
 
 -- an instruction was passed, or refused
-unfoldable pub onPast : Place → ℕ → ℕ → Bool → InsideAt
-onPast p next depth u = record { what = N.On u; place = recordPast p next depth }
+unfoldable pub onPast : Place → ℕ → ℕ → Inside → InsideAt
+onPast p next depth what = record { what = what; place = recordPast p next depth }
 
 unfoldable pub refusedHere : Place → ℕ → InsideAt
 refusedHere p n = record { what = N.Refused n; place = p }

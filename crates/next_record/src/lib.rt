@@ -1,8 +1,12 @@
 // One record at the running place: outside a body a field, inside one an instruction or the body's end.
+pub mod marks;
 pub mod record;
 mod skim;
 mod thin;
 
+pub use marks::with_block;
+pub use marks::without_block;
+pub use marks::without_else;
 pub use record::Inside;
 pub use record::InsideAt;
 pub use record::Outside;

@@ -3,6 +3,7 @@ use syntax::ByteAt;
 use syntax::Field;
 use syntax::FieldAt;
 use syntax::Form;
+use syntax::Marks;
 use syntax::Own;
 use syntax::Place;
 use syntax::Seen;
@@ -13,6 +14,7 @@ ghost use lib.ListN.{getD};
 ghost use Rattle.definition.specs.Basic.{if_then_else_};
 ghost use Rattle.definition.specs.Read as Read;
 ghost use Rattle.syntax.specs.Items.{roomOf};
+ghost use Rattle.syntax.specs.Marks.{noMarks};
 ghost use Rattle.next_record.specs.Places.{bodyOf, recordPast, fieldRecordAt, bodyRecordAt};
 ghost use Rattle.next_record.specs.Answers.{outsideAnswer, keptAt, insideAnswer, onPast, refusedHere, fieldDepth};
 
@@ -28,10 +30,15 @@ pub struct OutsideAt {
     pub place: Place,
 }
 
-// What stands in a body. Of an instruction the pass keeps one thing only, so nothing larger is handed on.
+// What stands in a body. Of an instruction the pass keeps whether it may use a type and what it does to the open blocks, so nothing larger is
+// handed on.
 pub enum Inside {
-    // an instruction: may it use a type?
+    // an instruction that leaves the blocks as they are: may it use a type?
     On(bool),
+    // a block opens: may it use a type, and may an else come in it?
+    Opens(bool, bool),
+    Elses,
+    Ends,
     // the body's end
     End,
     Refused(u8),
@@ -67,9 +74,9 @@ pub fn field_depth(f: Field) -> u32
     }
 }
 
-// May a record begin with this byte?
+// May a record begin with this byte? The marks do not matter.
 fn begins(b: u8, depth: u32) -> bool
-    ensures { λ r. ⌜ r ≡ Read.beginsIn b (bodyOf depth) ⌝ }
+    ensures { λ r. ⌜ r ≡ Read.beginsIn b (bodyOf depth noMarks) ⌝ }
 {
     if depth < 1 {
         if b < 0x01 {
@@ -101,7 +108,7 @@ fn byte_or_zero(s: &[u8], at: usize) -> u8
 
 // The refusal of a record that is one too many: 7, and 4 where no record may begin so.
 pub fn too_many(s: &[u8], p: Place) -> u8
-    ensures { λ r. ⌜ r ≡ (if Read.beginsIn (getD (now (s .entry)) (p .at) 0) (bodyOf (p .depth)) then 7 else 4) ⌝ }
+    ensures { λ r. ⌜ r ≡ (if Read.beginsIn (getD (now (s .entry)) (p .at) 0) (bodyOf (p .depth) noMarks) then 7 else 4) ⌝ }
 {
     let b = byte_or_zero(s, p.at);
     if begins(b, p.depth) {
@@ -142,12 +149,11 @@ pub fn field_record(s: &[u8], p: Place, seen: Seen) -> OutsideAt
 }
 
 // An instruction was passed.
-pub fn on(p: Place, at: usize, depth: u32, uses: bool) -> InsideAt
+pub fn on(p: Place, at: usize, depth: u32, what: Inside) -> InsideAt
     requires { ⌜ p .rec < 4096 ⌝ }
-    ensures { λ r. ⌜ r ≡ onPast p at depth uses ⌝ }
+    ensures { λ r. ⌜ r ≡ onPast p at depth what ⌝ }
 {
     let place = after_record(p, at, depth);
-    let what = Inside::On(uses);
     InsideAt { what, place }
 }
 
@@ -159,14 +165,14 @@ pub fn refused(p: Place, n: u8) -> InsideAt
 }
 
 // A record of a body: the byte FF where no block is open, or an instruction.
-pub fn body_record(s: &[u8], p: Place) -> InsideAt
+pub fn body_record(s: &[u8], p: Place, marks: Marks) -> InsideAt
     requires { ⌜ (p .rec < 4096) × (1 ≤ p .depth) ⌝ }
-    ensures { λ r. ⌜ keptAt (bodyRecordAt p (now (s .entry))) ≡ insideAnswer (r .what) (r .place) ⌝ }
+    ensures { λ r. ⌜ keptAt (bodyRecordAt p marks (now (s .entry))) ≡ insideAnswer (r .what) (r .place) ⌝ }
 {
     match token::read_byte(s, p.at) {
         ByteAt::Got(b, at) => {
             if b != 0xFF {
-                return crate::skim::pass_instr(s, p, at, b);
+                return crate::skim::pass_instr(s, p, marks, at, b);
             }
             if 1 < p.depth {
                 return refused(p, 8);

@@ -1,23 +1,25 @@
-// An instruction that is passed over. The pass needs where it ends, how deep the place is then, and whether it may use a type; nothing else of it
-// is built.
+// An instruction that is passed over. The pass needs where it ends, how deep the place is then, whether it may use a type and what it does to
+// the open blocks; nothing else of it is built.
+use crate::marks::may_else;
+use crate::record::Inside;
 use crate::record::InsideAt;
 use crate::record::on;
 use crate::record::refused;
 use syntax::Form;
+use syntax::Marks;
 use syntax::Place;
 use syntax::Skip;
 use syntax::UseAt;
 ghost use mathlib.Core.Path.{_≡_};
 ghost use Prim.Native.Nat.{_-_, _≤_, _<_};
 ghost use Rattle.definition.specs.Instructions as Instructions;
-ghost use Rattle.laws.specs.Steps.{stops};
-ghost use Rattle.syntax.specs.Tokens.{skip};
-ghost use Rattle.next_record.specs.Answers.{labelIn, keptInstr, insideAnswer};
+ghost use Rattle.syntax.specs.Marks.{insideOf};
+ghost use Rattle.next_record.specs.Answers.{opensIn, elsesIn, endsIn, keptInstr, insideAnswer};
 
-// A block opens, where fewer than 128 are open. It is kept in the same way for every opcode, so the contract names the opcode 0.
-fn opens(s: &[u8], p: Place, at: usize) -> InsideAt
+// A block opens, where fewer than 128 are open.
+fn opens(s: &[u8], p: Place, at: usize, opcode: u8) -> InsideAt
     requires { ⌜ (p .rec < 4096) × (1 ≤ p .depth) ⌝ }
-    ensures { λ r. ⌜ keptInstr p (Instructions.instruction (p .depth - 1) 0 Instructions.opening (now (s .entry)) at) ≡ insideAnswer (r .what) (r .place) ⌝ }
+    ensures { λ r. ⌜ keptInstr p (opensIn (p .depth - 1) opcode (now (s .entry)) at) ≡ insideAnswer (r .what) (r .place) ⌝ }
 {
     if 128 < p.depth {
         return refused(p, 7);
@@ -25,7 +27,9 @@ fn opens(s: &[u8], p: Place, at: usize) -> InsideAt
     match token::pass_identifier(s, at) {
         Skip::Past(a) => match typeuse::read_type_use(s, a) {
             UseAt::Got(t, next) => {
-                return on(p, next, p.depth + 1, !type_table::is_short(s, t));
+                let uses = !type_table::is_short(s, t);
+                let what = Inside::Opens(uses, opcode == 0x04);
+                return on(p, next, p.depth + 1, what);
             }
             UseAt::Fault(n) => {
                 return refused(p, n);
@@ -37,37 +41,35 @@ fn opens(s: &[u8], p: Place, at: usize) -> InsideAt
     }
 }
 
-// The label of an else or an end, where a block is open.
-fn pass_label(s: &[u8], at: usize, depth: u32) -> Skip
-    ensures { λ r. ⌜ stops (labelIn (depth - 1) (now (s .entry)) at) ≡ skip r ⌝ }
-{
-    if depth < 2 {
-        return Skip::Fault(8);
-    }
-    token::pass_identifier(s, at)
-}
-
-fn elses(s: &[u8], p: Place, at: usize) -> InsideAt
+// An else, where one may come.
+fn elses(s: &[u8], p: Place, marks: Marks, at: usize) -> InsideAt
     requires { ⌜ (p .rec < 4096) × (1 ≤ p .depth) ⌝ }
-    ensures { λ r. ⌜ keptInstr p (Instructions.instruction (p .depth - 1) 0 Instructions.elsing (now (s .entry)) at) ≡ insideAnswer (r .what) (r .place) ⌝ }
+    ensures { λ r. ⌜ keptInstr p (elsesIn (p .depth - 1) marks (now (s .entry)) at) ≡ insideAnswer (r .what) (r .place) ⌝ }
 {
-    match pass_label(s, at, p.depth) {
-        Skip::Past(next) => {
-            return on(p, next, p.depth, false);
-        }
-        Skip::Fault(n) => {
-            return refused(p, n);
+    if may_else(marks, p.depth) {
+        match token::pass_identifier(s, at) {
+            Skip::Past(next) => {
+                return on(p, next, p.depth, Inside::Elses);
+            }
+            Skip::Fault(n) => {
+                return refused(p, n);
+            }
         }
     }
+    refused(p, 8)
 }
 
+// An end, where a block is open.
 fn ends(s: &[u8], p: Place, at: usize) -> InsideAt
     requires { ⌜ (p .rec < 4096) × (1 ≤ p .depth) ⌝ }
-    ensures { λ r. ⌜ keptInstr p (Instructions.instruction (p .depth - 1) 0 Instructions.ending (now (s .entry)) at) ≡ insideAnswer (r .what) (r .place) ⌝ }
+    ensures { λ r. ⌜ keptInstr p (endsIn (p .depth - 1) (now (s .entry)) at) ≡ insideAnswer (r .what) (r .place) ⌝ }
 {
-    match pass_label(s, at, p.depth) {
+    if p.depth < 2 {
+        return refused(p, 8);
+    }
+    match token::pass_identifier(s, at) {
         Skip::Past(next) => {
-            return on(p, next, p.depth - 1, false);
+            return on(p, next, p.depth - 1, Inside::Ends);
         }
         Skip::Fault(n) => {
             return refused(p, n);
@@ -77,12 +79,12 @@ fn ends(s: &[u8], p: Place, at: usize) -> InsideAt
 
 fn indirect(s: &[u8], p: Place, at: usize) -> InsideAt
     requires { ⌜ (p .rec < 4096) × (1 ≤ p .depth) ⌝ }
-    ensures { λ r. ⌜ keptInstr p (Instructions.instruction (p .depth - 1) 0 Instructions.calling (now (s .entry)) at) ≡ insideAnswer (r .what) (r .place) ⌝ }
+    ensures { λ r. ⌜ keptInstr p (Instructions.instruction 0x11 Instructions.calling (now (s .entry)) at) ≡ insideAnswer (r .what) (r .place) ⌝ }
 {
     match token::pass_optional(s, at) {
         Skip::Past(a) => match typeuse::read_type_use(s, a) {
             UseAt::Got(_, next) => {
-                return on(p, next, p.depth, true);
+                return on(p, next, p.depth, Inside::On(true));
             }
             UseAt::Fault(n) => {
                 return refused(p, n);
@@ -95,18 +97,18 @@ fn indirect(s: &[u8], p: Place, at: usize) -> InsideAt
 }
 
 // What stands after an opcode.
-pub fn pass_instr(s: &[u8], p: Place, at: usize, opcode: u8) -> InsideAt
+pub fn pass_instr(s: &[u8], p: Place, marks: Marks, at: usize, opcode: u8) -> InsideAt
     requires { ⌜ (p .rec < 4096) × (1 ≤ p .depth) ⌝ }
-    ensures { λ r. ⌜ keptInstr p (Instructions.formed (p .depth - 1) opcode (Instructions.formOf opcode) (now (s .entry)) at) ≡ insideAnswer (r .what) (r .place) ⌝ }
+    ensures { λ r. ⌜ keptInstr p (Instructions.formed (insideOf (p .depth - 1) marks) opcode (Instructions.formOf opcode) (now (s .entry)) at) ≡ insideAnswer (r .what) (r .place) ⌝ }
 {
     match instr::opcode_form(opcode) {
         Form::NoOpcode => refused(p, 4),
-        Form::Opening => opens(s, p, at),
-        Form::Elsing => elses(s, p, at),
+        Form::Opening => opens(s, p, at, opcode),
+        Form::Elsing => elses(s, p, marks, at),
         Form::Ending => ends(s, p, at),
         Form::Calling => indirect(s, p, at),
         Form::Operands(what) => match expr::pass_plain(s, at, what) {
-            Skip::Past(next) => on(p, next, p.depth, false),
+            Skip::Past(next) => on(p, next, p.depth, Inside::On(false)),
             Skip::Fault(n) => refused(p, n),
         },
     }

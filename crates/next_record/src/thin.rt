@@ -6,6 +6,7 @@ use crate::record::Outside;
 use crate::record::OutsideAt;
 use crate::record::body_record;
 use crate::record::field_record;
+use syntax::Marks;
 use syntax::Place;
 use syntax::Seen;
 ghost use mathlib.Core.Path.{_≡_};
@@ -25,11 +26,11 @@ fn read_field(s: &[u8], place: &mut Place, seen: Seen) -> Outside
 }
 
 // A record of a body.
-fn read_instr(s: &[u8], place: &mut Place) -> Inside
+fn read_instr(s: &[u8], place: &mut Place, marks: Marks) -> Inside
     requires { ⌜ (now place .rec < 4096) × (1 ≤ now place .depth) ⌝ }
-    ensures { λ r. ⌜ keptAt (bodyRecordAt (now (place .entry)) (now (s .entry))) ≡ insideAnswer r (now (place .exit)) ⌝ }
+    ensures { λ r. ⌜ keptAt (bodyRecordAt (now (place .entry)) marks (now (s .entry))) ≡ insideAnswer r (now (place .exit)) ⌝ }
 {
-    let r = body_record(s, *place);
+    let r = body_record(s, *place, marks);
     *place = r.place;
     r.what
 }
@@ -44,12 +45,12 @@ pub fn next_field(s: &[u8], p: Place, seen: Seen) -> OutsideAt
     OutsideAt { what, place }
 }
 
-// The record of a body at a place.
-pub fn next_instr(s: &[u8], p: Place) -> InsideAt
+// The record of a body at a place, where the open blocks have these marks.
+pub fn next_instr(s: &[u8], p: Place, marks: Marks) -> InsideAt
     requires { ⌜ (p .rec < 4096) × (1 ≤ p .depth) ⌝ }
-    ensures { λ r. ⌜ keptAt (bodyRecordAt p (now (s .entry))) ≡ insideAnswer (r .what) (r .place) ⌝ }
+    ensures { λ r. ⌜ keptAt (bodyRecordAt p marks (now (s .entry))) ≡ insideAnswer (r .what) (r .place) ⌝ }
 {
     let mut place = p;
-    let what = read_instr(s, &mut place);
+    let what = read_instr(s, &mut place, marks);
     InsideAt { what, place }
 }

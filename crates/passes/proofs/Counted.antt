@@ -16,6 +16,7 @@ use Rattle.area.specs.Layout.{COUNTS, DECLARED, ENDS}
 use Rattle.definition.specs.Syntax.{Bytes, Identifier, Space, types, ExternType, Instr, Own, Source}
 use Rattle.definition.specs.Syntax.{FieldRec, typeR, importR, itemR, exportR, startR, elemR, dataR, Rec, field, instr, bodyEnd}
 use Rattle.definition.specs.Reader.{got}
+use Rattle.definition.specs.Instructions.{Inside}
 use Rattle.definition.specs.Records.{fieldRec}
 use Rattle.definition.specs.Spaces.{sourceSpace, externSpace, ownSpace, segments, brings, count}
 use Rattle.definition.specs.Read as Read
@@ -23,6 +24,7 @@ use Rattle.definition.specs.Read.{room, seenAfter, itemsAfter, recordIn, oneRec
 use Rattle.definition.specs.Deinline.{Numbered, sourceFields, fieldsOf, bodyOf, deinlineFrom, deinline}
 use Rattle.definition.specs.Types.{declaredBy, declared}
 use Rattle.laws.proofs.Backwards.{came}
+use Rattle.laws.proofs.Bodies.{no-field}
 use Rattle.laws.proofs.Reading.{records-end, records-full, accepted-next}
 use Rattle.reread.proofs.Gives.{RoomyField, roomy}
 use Rattle.stream.specs.Pass.{usedAfter, endOf, pass, passed, Reads}
@@ -31,7 +33,7 @@ use Rattle.stream.specs.declared.pass.Count.{Count}
 use Rattle.stream.specs.declared.pass.Count.the-variants as C
 use Rattle.stream.proofs.Model.{pass-end, pass-got}
 use Rattle.walk.specs.Walk.{begin, endsFrom, fieldsIn}
-use Rattle.passes.proofs.Join.{no-field, fields-in}
+use Rattle.passes.proofs.Join.{fields-in}
 use Rattle.passes.proofs.Begin.{area-is, left}
 
 -- ## The types that a field brings
@@ -89,13 +91,13 @@ module _ (seen : Read.Seen) (s : Bytes) (here next : ℕ) (few : count types (se
   unfolding oneRecord
   few-types f e = go (seen .body) e
     where
-      go : (b : Option ℕ) → recordIn (room seen) b s here ≡ got (field f) next → count types (brings f ++ seen .items) ≤ 256
+      go : (b : Option Inside) → recordIn (room seen) b s here ≡ got (field f) next → count types (brings f ++ seen .items) ≤ 256
       go none e =
           let c = came (fieldRec (room seen) s here) e in
           let d = c .rest in
           let i : c .value ≡ f = cc in
           rw (← i) (roomy-types (c .value) (roomy (room seen) s here (c .value) (c .next) (c .first)))
-      go (some k) e = absurd (no-field k s here f next e)
+      go (some i) e = absurd (no-field i s here f next e)
 
 -- ## All records
 
@@ -108,9 +110,9 @@ counted-end : (r : ℕ) (seen : Read.Seen) (rs : List (Rec Identifier)) → coun
 unfolding deinlineFrom declared
 counted-end r seen rs few e = let d = empty (seen .body) e in record { sum = rw d (omega arith); few = few }
   where
-    empty : (b : Option ℕ) → atEnd r b ≡ ok rs → rs ≡ []
+    empty : (b : Option Inside) → atEnd r b ≡ ok rs → rs ≡ []
     empty none e = cc
-    empty (some k) e = let z : _≡_ {A = ℕ} 0 1 = cc in absurd (omega arith)
+    empty (some i) e = let z : _≡_ {A = ℕ} 0 1 = cc in absurd (omega arith)
 
 -- one record more
 counted-more : (r : ℕ) (seen : Read.Seen) (x : Rec Identifier) (s : Bytes) (here next : ℕ) (seen′ : Read.Seen) (rest : List (Rec Identifier)) → oneRecord seen s here ≡ got x next

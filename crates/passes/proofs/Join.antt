@@ -1,10 +1,10 @@
 -- On an accepted stream the fields of the walk are the definition's, and the ends of bodies are those that reading leaves.
-use mathlib.Core.Path.{_≡_, refl, ap, sym, _∙_}
+use mathlib.Core.Path.{_≡_, refl, ap, sym, _∙_, subst}
 use Prim.Native.Nat.{ℕ, zero, suc, _+_, _-_, _*_, _≤_, _<_}
 use mathlib.Core.Bool.{Bool, true, false, _||_}
 use mathlib.Core.List.{List, [], _∷_, _++_, append-nil, append-assoc}
 use mathlib.Core.Option.{Option, none, some}
-use lib.Dec.{eqb, leb, ltb}
+use lib.Dec.{leb, ltb}
 use lib.ListN.{length, length-append}
 use borrow.Author.Tests.{lt-leb, le-leb, ltb-true}
 use native.Mathlib.Omega.{arith}
@@ -13,14 +13,16 @@ use Rattle.definition.specs.Basic.{if_then_else_, Answer, ok, refused}
 use Rattle.definition.specs.Syntax as Syntax
 use Rattle.definition.specs.Syntax.{Bytes, Identifier, Space, funcs, Source, own, imported, tableOf, memOf, ownFunc, ownTable, ownMem, ownGlobal}
 use Rattle.definition.specs.Syntax.{FieldRec, typeR, importR, itemR, exportR, startR, elemR, dataR, Rec, field, instr, bodyEnd}
-use Rattle.definition.specs.Reader.{Step, got, fault, onward, require, give, byte, _>>=_, _>>_}
-use Rattle.definition.specs.Instructions.{formOf, formed, bodyRec}
+use Rattle.definition.specs.Reader.{got}
+use Rattle.definition.specs.Instructions.{Inside, insideAfter, bodyRec}
 use Rattle.definition.specs.Records.{fieldRec}
 use Rattle.definition.specs.Spaces.{sourceSpace, externSpace, ownSpace, segments, brings, count}
 use Rattle.definition.specs.Read as Read
-use Rattle.definition.specs.Read.{room, seenAfter, bodyAfter, itemsAfter, startedAfter, fieldBody, sourceBody, ownBody, openAfter, instrBody, recordIn, oneRecord, atEnd, nothingSeen, records, read}
+use Rattle.definition.specs.Read.{room, seenAfter, bodyAfter, itemsAfter, startedAfter, fieldBody, sourceBody, ownBody, instrBody, recordIn, oneRecord, atEnd, nothingSeen, records, read}
 use Rattle.definition.specs.Deinline.{fieldsOf, bodyOf, deinlineFrom, deinline}
-use Rattle.laws.proofs.Backwards.{came, passed}
+use Rattle.laws.specs.Depths.{depthAfter}
+use Rattle.laws.proofs.Backwards.{came}
+use Rattle.laws.proofs.Bodies.{no-field, after-length, reads-deep}
 use Rattle.laws.proofs.Reading.{records-end, records-full, accepted-next, Next}
 use Rattle.syntax.specs.Items.{countOf, roomOf}
 use Rattle.syntax.specs.declared.Seen.{Seen}
@@ -47,7 +49,7 @@ module _ (r : ℕ) (seen : Read.Seen) (s : Bytes) (here : ℕ) (rs : List (Rec I
       cc
 
   -- in a body it may not
-  not-in-body : (left k : ℕ) → length s ≤ here → records left r seen s here ≡ ok rs → seen .body ≡ some k → ⊥
+  not-in-body : (left : ℕ) (j : Inside) → length s ≤ here → records left r seen s here ≡ ok rs → seen .body ≡ some j → ⊥
   not-in-body left k h e b =
       let d : _≡_ {A = Answer (List (Rec Identifier))} (refused 2 r) (ok rs) = ap (atEnd r) (sym b) ∙ sym (records-end r seen s here left h) ∙ e in
       let z : _≡_ {A = ℕ} 0 1 = cc in omega arith
@@ -60,20 +62,6 @@ module _ (r : ℕ) (seen : Read.Seen) (s : Bytes) (here : ℕ) (rs : List (Rec I
   some-left (suc n) h e = omega arith
 
 -- ## Bodies
-
--- no field stands in a body
-pub no-field : (k : ℕ) (s : Bytes) (at : ℕ) (f : FieldRec Identifier) (q : ℕ) → bodyRec k s at ≡ got (field f) q → ⊥
-unfolding bodyRec
-no-field k s at f q e = let c = came (byte s at) e in go (eqb (c .value) 0xFF) (c .value) (c .next) (c .rest)
-  where
-    not-instr : (m : Step (Syntax.Instr Identifier)) → onward (λ y n. got (instr y) n) m ≡ got (field f) q → ⊥
-    not-instr (got y n) e = let z : _≡_ {A = ℕ} 0 1 = cc in omega arith
-    not-instr (fault j) e = let z : _≡_ {A = ℕ} 0 1 = cc in omega arith
-
-    go : (t : Bool) (b next : ℕ)
-        → (if t then (require 8 (eqb k 0) >> give bodyEnd) else (formed k b (formOf b) >>= λ x. give (instr x))) s next ≡ got (field f) q → ⊥
-    go true b next e = let p = passed _ 8 (eqb k 0) s next e in let d = p .1 in let z : _≡_ {A = ℕ} 0 1 = cc in omega arith
-    go false b next e = not-instr (formed k b (formOf b) s next) e
 
 -- what follows a body: the records outside it
 record After (left k r : ℕ) (seen : Read.Seen) (s : Bytes) (here : ℕ) (rs : List (Rec Identifier)) : Type 0 where
@@ -102,31 +90,32 @@ or-more : (t u v : Bool) → (t || u) || v ≡ t || (u || v)
 or-more true u v = refl
 or-more false u v = refl
 
-body-record : (k : ℕ) (seen : Read.Seen) (s : Bytes) (here : ℕ) (x : Rec Identifier) (next : ℕ) → seen .body ≡ some k → oneRecord seen s here ≡ got x next
-    → bodyRec k s here ≡ got x next
+body-record : (j : Inside) (seen : Read.Seen) (s : Bytes) (here : ℕ) (x : Rec Identifier) (next : ℕ) → seen .body ≡ some j → oneRecord seen s here ≡ got x next
+    → bodyRec j s here ≡ got x next
 unfolding oneRecord
-body-record k seen s here x next b e = ap (λ z. recordIn (room seen) z s here) (sym b) ∙ e
+body-record j seen s here x next b e = ap (λ z. recordIn (room seen) z s here) (sym b) ∙ e
 
-body-after : (left k r : ℕ) (seen : Read.Seen) (s : Bytes) (here : ℕ) (rs : List (Rec Identifier)) → seen .body ≡ some k
-    → records left r seen s here ≡ ok rs → After left k r seen s here rs
-unfolding bodyFrom afterBody wholeBody bodyOf deinlineFrom seenAfter bodyAfter itemsAfter startedAfter anyUse
-body-after zero k r seen s here rs b e = go (decLe (length s) here)
+body-after : (left : ℕ) (j : Inside) (r : ℕ) (seen : Read.Seen) (s : Bytes) (here : ℕ) (rs : List (Rec Identifier)) → seen .body ≡ some j
+    → records left r seen s here ≡ ok rs → After left (length (j .blocks)) r seen s here rs
+unfolding insideAfter bodyFrom afterBody wholeBody bodyOf deinlineFrom seenAfter bodyAfter itemsAfter startedAfter anyUse
+body-after zero j r seen s here rs b e = go (decLe (length s) here)
   where
-    go : Dec (length s ≤ here) → After zero k r seen s here rs
-    go (yes h) = absurd (not-in-body r seen s here rs zero k h e b)
+    go : Dec (length s ≤ here) → After zero (length (j .blocks)) r seen s here rs
+    go (yes h) = absurd (not-in-body r seen s here rs zero j h e b)
     go (no h) = let z = some-left r seen s here rs zero (omega arith) e in absurd (omega arith)
-body-after (suc n) k r seen s here rs b e = go (decLe (length s) here) (λ k′ seen′ next rest. body-after n k′ (r + 1) seen′ s next rest)
+body-after (suc n) j r seen s here rs b e = go (decLe (length s) here) (λ j′ seen′ next rest. body-after n j′ (r + 1) seen′ s next rest)
   where
     Again : Type 0
-    Again = (k′ : ℕ) (seen′ : Read.Seen) (next : ℕ) (rest : List (Rec Identifier)) → seen′ .body ≡ some k′ → records n (r + 1) seen′ s next ≡ ok rest
-        → After n k′ (r + 1) seen′ s next rest
+    Again = (j′ : Inside) (seen′ : Read.Seen) (next : ℕ) (rest : List (Rec Identifier)) → seen′ .body ≡ some j′ → records n (r + 1) seen′ s next ≡ ok rest
+        → After n (length (j′ .blocks)) (r + 1) seen′ s next rest
 
     on : here < length s → Again → (x : Rec Identifier) (next : ℕ) (rest : List (Rec Identifier)) → oneRecord seen s here ≡ got x next → rs ≡ x ∷ rest
-        → records n (r + 1) (seenAfter seen x) s next ≡ ok rest → After (suc n) k r seen s here rs
-    on h ih (field f) next rest e i g = absurd (no-field k s here f next (body-record k seen s here (field f) next b e))
+        → records n (r + 1) (seenAfter seen x) s next ≡ ok rest → After (suc n) (length (j .blocks)) r seen s here rs
+    on h ih (field f) next rest e i g = absurd (no-field j s here f next (body-record j seen s here (field f) next b e))
     on h ih (instr x) next rest e i g =
-        let d = body-record k seen s here (instr x) next b e in
-        let v = ih (openAfter x k) (seenAfter seen (instr x)) next rest (ap (instrBody x) b) g in
+        let d = reads-deep j s next here (instr x) (body-record j seen s here (instr x) next b e) in
+        let v : After n (depthAfter x (length (j .blocks))) (r + 1) (seenAfter seen (instr x)) s next rest =
+        subst (λ k. After n k (r + 1) (seenAfter seen (instr x)) s next rest) (after-length x (j .blocks)) (ih (insideAfter x j) (seenAfter seen (instr x)) next rest (ap (instrBody x) b) g) in
         let m : suc n - 1 ≡ n = omega arith in
         record {
           stop = v .stop;
@@ -145,10 +134,10 @@ body-after (suc n) k r seen s here rs b e = go (decLe (length s) here) (λ k′ 
           fields = λ seen. rw i (v .fields seen);
           passes = λ used ends.
               pass-got r seen used ends s here (suc n) (instr x) next h (omega arith) e
-              ∙ rw (m, append-nil, d, ← or-more used (mayUse x) (anyUse (bodyFrom n (openAfter x k) s next))) (v .passes (used || mayUse x) ends);
+              ∙ rw (m, append-nil, d, ← or-more used (mayUse x) (anyUse (bodyFrom n (depthAfter x (length (j .blocks))) s next))) (v .passes (used || mayUse x) ends);
         }
     on h ih bodyEnd next rest e i g =
-        let d = body-record k seen s here bodyEnd next b e in
+        let d = reads-deep j s next here bodyEnd (body-record j seen s here bodyEnd next b e) in
         let m : suc n - 1 ≡ n = omega arith in
         record {
           stop = record { at = next; rec = r + 1 };
@@ -168,8 +157,8 @@ body-after (suc n) k r seen s here rs b e = go (decLe (length s) here) (λ k′ 
           passes = λ used ends. pass-got r seen used ends s here (suc n) bodyEnd next h (omega arith) e ∙ rw (m, d, ← or-none used);
         }
 
-    go : Dec (length s ≤ here) → Again → After (suc n) k r seen s here rs
-    go (yes h) ih = absurd (not-in-body r seen s here rs (suc n) k h e b)
+    go : Dec (length s ≤ here) → Again → After (suc n) (length (j .blocks)) r seen s here rs
+    go (yes h) ih = absurd (not-in-body r seen s here rs (suc n) j h e b)
     go (no h) ih =
         let l : here < length s = omega arith in
         let v = accepted-next n r seen s here rs l e in
@@ -323,12 +312,12 @@ module _ (c : Cursor) (f : FieldRec Identifier) (s : Bytes) (next n : ℕ) (seen
         more = k .more;
       }
 
-  onward-some : (j : ℕ) → fieldBody f ≡ some j → After n j (c .rec + 1) (seenAfter seen (field f)) s next rest → Onward c f s next n seen rest
+  onward-some : (j : Inside) → fieldBody f ≡ some j → After n (length (j .blocks)) (c .rec + 1) (seenAfter seen (field f)) s next rest → Onward c f s next n seen rest
   unfolding cursorAfter seenAfter bodyAfter itemsAfter startedAfter
   onward-some j b a =
       let m : 4096 - (c .rec + 1) ≡ n = omega arith in
       let q : afterField (fieldBody f) (c .rec + 1) s next ≡ a .stop =
-      ap (λ z. afterField z (c .rec + 1) s next) b ∙ ap (λ z. afterBody z j (c .rec + 1) s next) m ∙ a .stops in
+      ap (λ z. afterField z (c .rec + 1) s next) b ∙ ap (λ z. afterBody z (length (j .blocks)) (c .rec + 1) s next) m ∙ a .stops in
       let w = counts-with seen (c .seen) f v in
       let i = a .items in
       record {
@@ -343,28 +332,28 @@ module _ (c : Cursor) (f : FieldRec Identifier) (s : Bytes) (next n : ℕ) (seen
           funcs = rw i (k .few);
         };
         fewer = omega (arith, a .fewer);
-        whole = ap (λ z. wholeField z (c .rec + 1) s next) b ∙ ap (λ z. wholeBody z j s next) m ∙ a .whole;
-        body = ap (λ z. bodyIn z (c .rec + 1) s next) b ∙ ap (λ z. bodyFrom z j s next) m ∙ a .body;
+        whole = ap (λ z. wholeField z (c .rec + 1) s next) b ∙ ap (λ z. wholeBody z (length (j .blocks)) s next) m ∙ a .whole;
+        body = ap (λ z. bodyIn z (c .rec + 1) s next) b ∙ ap (λ z. bodyFrom z (length (j .blocks)) s next) m ∙ a .body;
         fields =
             a .fields (brings f ++ seen .items)
             ∙ sym (ap (λ (z : Stop). deinlineFrom (z .rec) (brings f ++ seen .items) (a .rest)) q)
             ∙ ap (λ z. deinlineFrom (cursorAfter c f s next .rec) z (a .rest)) (sym i);
         passes = λ es.
             a .passes false es
-            ∙ sym (ap (λ (z : Stop). pass (a .later) (z .rec) (a .seen′) false (es ++ (z .at ∷ endWord (z .rec) (anyUse (bodyFrom n j s next)) ∷ [])) s (z .at)) q)
-            ∙ ap (λ i. pass (a .later) (cursorAfter c f s next .rec) (a .seen′) false (es ++ endOf (some j) (cursorAfter c f s next) (bodyFrom i j s next)) s (cursorAfter c f s next .at)) (sym m)
+            ∙ sym (ap (λ (z : Stop). pass (a .later) (z .rec) (a .seen′) false (es ++ (z .at ∷ endWord (z .rec) (anyUse (bodyFrom n (length (j .blocks)) s next)) ∷ [])) s (z .at)) q)
+            ∙ ap (λ i. pass (a .later) (cursorAfter c f s next .rec) (a .seen′) false (es ++ endOf (some j) (cursorAfter c f s next) (bodyFrom i (length (j .blocks)) s next)) s (cursorAfter c f s next .at)) (sym m)
             ∙ ap (λ z. pass (a .later) (cursorAfter c f s next .rec) (a .seen′) false (es ++ endOf z (cursorAfter c f s next) (bodyIn z (c .rec + 1) s next)) s (cursorAfter c f s next .at)) (sym b);
         more = rw i (k .more);
       }
 
-  in-body : (j : ℕ) → fieldBody f ≡ some j → After n j (c .rec + 1) (seenAfter seen (field f)) s next rest
+  in-body : (j : Inside) → fieldBody f ≡ some j → After n (length (j .blocks)) (c .rec + 1) (seenAfter seen (field f)) s next rest
   unfolding seenAfter bodyAfter
   in-body j b = body-after n j (c .rec + 1) (seenAfter seen (field f)) s next rest b g
 
   onward-is : Onward c f s next n seen rest
   onward-is = go (fieldBody f) refl
     where
-      go : (b : Option ℕ) → fieldBody f ≡ b → Onward c f s next n seen rest
+      go : (b : Option Inside) → fieldBody f ≡ b → Onward c f s next n seen rest
       go none b = onward-none b
       go (some j) b = onward-some j b (in-body j b)
 
@@ -402,9 +391,9 @@ visit-read c s seen f next v l h e =
     let d : fieldRec (roomOf (c .seen)) s (c .at) ≡ got f next = rw (← room-same v) e in
     rw (lt-leb _ _ l, lt-leb _ _ h, d)
 
-ends-long : (b : Option ℕ) (c : Cursor) (xs : List (Syntax.Instr Identifier)) → length (endOf b c xs) ≡ 2 * bodies b
+ends-long : (b : Option Inside) (c : Cursor) (xs : List (Syntax.Instr Identifier)) → length (endOf b c xs) ≡ 2 * bodies b
 ends-long none c xs = refl
-ends-long (some k) c xs = refl
+ends-long (some i) c xs = refl
 
 -- nothing is left
 joined-end : (fuel : ℕ) (c : Cursor) (s : Bytes) (left : ℕ) (seen : Read.Seen) (rs : List (Rec Identifier)) → length s ≤ c .at

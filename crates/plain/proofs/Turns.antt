@@ -7,7 +7,7 @@ use Rattle.definition.specs.Basic.{refused}
 use Rattle.definition.specs.Syntax as Syntax
 use Rattle.definition.specs.Syntax.{Identifier, Rec, instr, plain}
 use Rattle.definition.specs.Reader.{Step, got, fault}
-use Rattle.definition.specs.Read.{openAfter}
+use Rattle.laws.specs.Depths.{depthAfter}
 use Rattle.definition.specs.Names.{Namespace, blocksAfter, plainOp, instrOp}
 use Rattle.definition.specs.Binary.{instruction}
 use Rattle.syntax.specs.Refusals.{refusedBy}
@@ -46,7 +46,7 @@ module _ (s w : List ℕ) (ls : Namespace Identifier) (k rec : ℕ) (m : Step (R
   turned-refused x next q new reads e = record { read = x; next = next; reads = reads; says = e; area = refl }
 
   -- an instruction was read and emitted
-  module _ (x : Syntax.Instr Identifier) (p : Place) (reads : m ≡ got (instr x) (p .at)) (d : p .depth ≡ openAfter x k + 1) (f : p .depth ≤ 129) (n : p .rec ≡ rec + 1) (new : List ℕ) where
+  module _ (x : Syntax.Instr Identifier) (p : Place) (reads : m ≡ got (instr x) (p .at)) (d : p .depth ≡ depthAfter x k + 1) (f : p .depth ≤ 129) (n : p .rec ≡ rec + 1) (new : List ℕ) where
     pub turned-on : (o : ℕ) (w′ : List ℕ) → Wrote instruction (instrOp (scopeIn s w) ls (labelsIn s w k) rec x) old at o new
         → labelsIn s w′ (p .depth - 1) ≡ blocksAfter (labelsIn s w k) x → Kept LABELS w w′ → Turned s w ls k rec m old at (T.On o p) w′ new
     unfolding Turned
@@ -68,7 +68,7 @@ module _ (s w : List ℕ) (ls : Namespace Identifier) (p : Place) (m : Step (Syn
   pub plain-got : (x : Syntax.Plain Identifier) (next : ℕ) (y : Emitted) (r : Turn) (new : List ℕ) → m ≡ got x next → InBody p
       → Emits instruction (plainOp (scopeIn s w) ls (labelsIn s w (p .depth - 1)) (p .rec) x) old at y new → r ≡ turnOf y (past p next (p .depth))
       → Turned s w ls (p .depth - 1) (p .rec) (plainRecord m) old at r w new
-  unfolding blocksAfter openAfter instrOp
+  unfolding blocksAfter depthAfter instrOp
   plain-got x next y r new d f e t =
       let g : 1 ≤ p .depth = f .deep in
       rw t (turned-same s w ls (p .depth - 1) (p .rec) (plainRecord m) old at (plain x) (past p next (p .depth)) (rw d) (omega arith) (f .few) refl new y refl e)

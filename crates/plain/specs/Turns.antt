@@ -8,7 +8,7 @@ use Rattle.definition.specs.Syntax.{Identifier, Op, Rec, instr, plain}
 use Rattle.definition.specs.Reader.{Step, got, fault, Reader, onward, _>>=_}
 use Rattle.definition.specs.Token as Token
 use Rattle.definition.specs.Instructions.{done}
-use Rattle.definition.specs.Read.{openAfter}
+use Rattle.laws.specs.Depths.{depthAfter}
 use Rattle.definition.specs.Types.{Uses, usedAt, instrUses}
 use Rattle.definition.specs.Names.{Namespace, blocksAfter, instrOp}
 use Rattle.definition.specs.Binary.{instruction}
@@ -79,7 +79,7 @@ pub record Stepped (s w : List ℕ) (locals : Namespace Identifier) (k rec : ℕ
   pub is : instrOp (scopeIn s w) locals (labelsIn s w k) rec read ≡ ok op
   pub put : Put old at (instruction op) o new
   pub blocks : labelsIn s w′ (p .depth - 1) ≡ blocksAfter (labelsIn s w k) read
-  pub depth : p .depth ≡ openAfter read k + 1
+  pub depth : p .depth ≡ depthAfter read k + 1
   pub few : p .depth ≤ 129
   pub next : p .rec ≡ rec + 1
   pub kept : Kept LABELS w w′

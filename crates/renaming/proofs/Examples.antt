@@ -32,10 +32,11 @@ unfolding
     Reader.byte Reader.many
     Token.needed Token.groups Token.u32 Token.upTo Token.counted Token.idchar Token.idByte Token.identifier Token.identifier₁ Token.stringByte Token.string
     Token.isVal Token.valType Token.namedIndex Token.present Token.optional Token.param Token.typeUse
-    Instructions.opcodes Instructions.formIn Instructions.formOf Instructions.plainOf Instructions.instruction Instructions.bodyRec
+    Instructions.opcodes Instructions.formIn Instructions.formOf Instructions.plainOf Instructions.instruction
+    Instructions.isOpen Instructions.mayElse Instructions.admits Instructions.opened Instructions.elsed Instructions.openAfter Instructions.insideAfter Instructions.bodyRec
     Records.importName Records.funcExtern Records.importOf Records.importRec Records.itemRec Records.ownFuncForm Records.funcRec Records.typeRec
     Records.fieldRecs Records.fieldRec
-    Read.nothingSeen Read.room Read.ownBody Read.sourceBody Read.fieldBody Read.openAfter Read.bodyAfter Read.itemsAfter Read.startedAfter Read.seenAfter Read.oneRecord Read.records Read.read
+    Read.nothingSeen Read.room Read.ownBody Read.sourceBody Read.fieldBody Read.bodyAfter Read.itemsAfter Read.startedAfter Read.seenAfter Read.oneRecord Read.records Read.read
     Spaces.externSpace Spaces.ownSpace Spaces.sourceSpace Spaces.segments Spaces.brings Spaces.count
     Deinline.sourceFields Deinline.fieldsOf Deinline.bodyOf Deinline.deinlineFrom Deinline.deinline Deinline.importsFrom Deinline.importOrder
     Types.signature Types.sameType Types.typeAt Types.typeNumber Types.isInline Types.isShort Types.useOf Types.instrUses Types.bodyUses

@@ -1,39 +1,48 @@
 -- The loop over all records: what it started from passes as what is left passes from here.
 use mathlib.Core.Path.{_≡_, refl, ap, sym, _∙_, subst}
-use Prim.Native.Nat.{ℕ, suc, _+_, _-_, _*_, _≤_, _<_, _^_}
+use Prim.Native.Nat.{ℕ, zero, suc, _+_, _-_, _*_, _≤_, _<_, _^_}
 use mathlib.Core.Bool.{Bool, true, false, _||_}
 use mathlib.Core.List.{List, [], _∷_, _++_, append-nil}
-use mathlib.Core.Option.{none}
+use mathlib.Core.Option.{none, some}
 use lib.ListN.{length, getD, set, take, length-set, length-append}
 use lib.Seq.{sets, take-all, take-append-le}
 use borrow.Author.Tests.{lt-ltb, le-ltb}
 use native.Mathlib.Omega.{arith}
 use native.Mathlib.Decide.{decLe}
+use native.Mathlib.Numerals.{add-one}
 use mir.Syntax.{w32}
 use mir.Val.{Fits}
 use Rattle.definition.specs.Basic.{if_then_else_, Answer, ok, refused}
 use Rattle.definition.specs.Syntax as Syntax
 use Rattle.definition.specs.Syntax.{Bytes, Identifier, Rec, field, instr, bodyEnd}
 use Rattle.definition.specs.Reader.{Step, got, fault}
-use Rattle.definition.specs.Instructions.{bodyRec}
+use Rattle.definition.specs.Instructions.{Blocks, opened, openAfter, insideAfter, bodyRec}
 use Rattle.definition.specs.Records.{Room}
 use Rattle.definition.specs.Read as Read
-use Rattle.definition.specs.Read.{bodyAfter, seenAfter, nothingSeen, recordIn, oneRecord, beginsIn, atEnd}
+use Rattle.definition.specs.Read.{ownBody, sourceBody, fieldBody, instrBody, bodyAfter, seenAfter, nothingSeen, recordIn, oneRecord, beginsIn, atEnd}
 use Rattle.laws.specs.Steps.{total}
-use Rattle.laws.proofs.Bodies.{end-inside}
+use Rattle.laws.specs.Depths.{depthAfter}
+use Rattle.laws.proofs.Bodies as Bodies
+use Rattle.laws.proofs.Bodies.{end-inside, read-fits}
 use Rattle.laws.proofs.Sets.{sets-append}
 use Rattle.syntax.specs.Refusals.{refusal, refusedBy}
 use Rattle.syntax.specs.declared.Refusal.{Refusal}
 use Rattle.area.specs.Layout.{BYTES, COUNTS, ENDS, WORDS, endAt}
 use Rattle.syntax.specs.Items.{roomOf, noneSeen}
+use Rattle.syntax.specs.Marks.{noMarks, bitsOf, marksIn, insideOf}
+use Rattle.syntax.specs.declared.Marks.{Marks}
 use Rattle.syntax.specs.declared.Seen.{Seen}
 use Rattle.syntax.specs.Fields.{fieldOf}
+use Rattle.syntax.specs.declared.Own.the-variants as O
+use Rattle.syntax.specs.declared.Source.the-variants as S
 use Rattle.syntax.specs.declared.Field.{Field}
+use Rattle.syntax.specs.declared.Field.the-variants as F
 use Rattle.next_record.specs.Uses.{mayUse, endWord}
 use Rattle.stream.specs.Pass.{Passed, usedAfter, endOf, pass, passed, endWords, areaAfter, reading, readingArea, firstPlace, refusedAt, Ends, Walks, Reads}
-use Rattle.next_record.specs.Places.{bodyOf, recordPast, placeAfter, movedBy, fieldRecordAt, bodyRecordAt}
+use Rattle.next_record.specs.Places.{bodyOf, depthOf, depthPast, recordPast, placeAfter, movedBy, fieldRecordAt, bodyRecordAt}
+use Rattle.next_record.specs.Marks.{Opened, Elsed, Ended}
 use Rattle.counting.specs.Counting.{fieldSeen}
-use Rattle.next_record.specs.Answers.{outsideAnswer, Kept, an-instr, an-end, keptOf, keptAnswer, keptAt, insideAnswer}
+use Rattle.next_record.specs.Answers.{outsideAnswer, Shift, stay, open-one, else-one, end-one, shiftOf, Kept, an-instr, an-end, keptOf, keptAnswer, keptAt, insideAnswer}
 use Rattle.stream.specs.Pass.{endPut}
 use Rattle.syntax.specs.declared.Place.{Place}
 use Rattle.next_record.specs.declared.record.Outside.{Outside}
@@ -44,19 +53,20 @@ use Rattle.stream.specs.declared.pass.Count.{Count}
 use Rattle.stream.specs.declared.pass.Count.the-variants as C
 use Rattle.stream.proofs.Model.{passed-says, pass-end, pass-fault, pass-full, pass-got}
 use Rattle.counting.proofs.Counts.{Counts, counts-none, counts-field, counts-instr, counts-end, room-same, counts-words}
-use Rattle.next_record.proofs.Records.{outside, inside, body-depth}
+use Rattle.next_record.proofs.Records.{outside, inside}
+use Rattle.next_record.proofs.Bits.{marks-length}
 
 -- ## Backwards through a record that was read
 
 -- what was read, and that the place has moved on by it
-pub record Was (free : Room) (p : Place) (s : Bytes) (x : Rec Identifier) (q : Place) : Type 0 where
+pub record Was (free : Room) (p : Place) (m : Marks) (s : Bytes) (x : Rec Identifier) (q : Place) : Type 0 where
   pub few : p .rec < 4096
-  pub reads : recordIn free (bodyOf (p .depth)) s (p .at) ≡ got x (q .at)
+  pub reads : recordIn free (bodyOf (p .depth) m) s (p .at) ≡ got x (q .at)
   pub next : q .rec ≡ p .rec + 1
-  pub deep : bodyOf (q .depth) ≡ bodyAfter (bodyOf (p .depth)) x
+  pub deep : q .depth ≡ depthPast (p .depth) x
 
-module _ (free : Room) (p : Place) (s : Bytes) (x : Rec Identifier) (q : Place) (h : p .rec < 4096) where
-  moved-was : (st : Step (Rec Identifier)) → recordIn free (bodyOf (p .depth)) s (p .at) ≡ st → movedBy p st ≡ (ok x, q) → Was free p s x q
+module _ (free : Room) (p : Place) (m : Marks) (s : Bytes) (x : Rec Identifier) (q : Place) (h : p .rec < 4096) where
+  moved-was : (st : Step (Rec Identifier)) → recordIn free (bodyOf (p .depth) m) s (p .at) ≡ st → movedBy p st ≡ (ok x, q) → Was free p m s x q
   unfolding placeAfter recordPast
   moved-was (fault k) f e = let j : refused k (p .rec) ≡ ok x = ap (λ (z : Answer (Rec Identifier) × Place). z .0) e in let z : _≡_ {A = ℕ} 0 1 = cc in absurd (omega arith)
   moved-was (got y n) f e =
@@ -67,18 +77,18 @@ module _ (free : Room) (p : Place) (s : Bytes) (x : Rec Identifier) (q : Place) 
         few = h;
         reads = f ∙ ap (λ z. got z n) a ∙ ap (λ (z : Place). got x (z .at)) b;
         next = sym (ap (λ (z : Place). z .rec) b);
-        deep = sym (ap (λ (z : Place). bodyOf (z .depth)) b) ∙ body-depth (bodyAfter (bodyOf (p .depth)) y) ∙ ap (bodyAfter (bodyOf (p .depth))) a;
+        deep = sym (ap (λ (z : Place). z .depth) b) ∙ ap (depthPast (p .depth)) a;
       }
 
   -- outside a body
-  field-was : p .depth < 1 → fieldRecordAt free p s ≡ (ok x, q) → Was free p s x q
+  field-was : p .depth < 1 → fieldRecordAt free p s ≡ (ok x, q) → Was free p m s x q
   unfolding fieldRecordAt
-  field-was d e = moved-was (recordIn free none s (p .at)) (ap (λ b. recordIn free b s (p .at)) (outside (p .depth) d)) e
+  field-was d e = moved-was (recordIn free none s (p .at)) (ap (λ b. recordIn free b s (p .at)) (outside (p .depth) m d)) e
 
   -- in one
-  body-was : 1 ≤ p .depth → bodyRecordAt p s ≡ (ok x, q) → Was free p s x q
+  body-was : 1 ≤ p .depth → bodyRecordAt p m s ≡ (ok x, q) → Was free p m s x q
   unfolding bodyRecordAt
-  body-was d e = moved-was (bodyRec (p .depth - 1) s (p .at)) (ap (λ b. recordIn free b s (p .at)) (inside (p .depth) d)) e
+  body-was d e = moved-was (bodyRec (insideOf (p .depth - 1) m) s (p .at)) (ap (λ b. recordIn free b s (p .at)) (inside (p .depth) m d)) e
 
 -- the record of which this was kept
 record Kept-of (y : Answer (Rec Identifier) × Place) (k : Kept) (q : Place) : Type 0 where
@@ -95,15 +105,16 @@ kept-of (refused n r, p) k q e =
     let a : refused n r ≡ ok k = ap (λ (z : Answer Kept × Place). z .0) e in let z : _≡_ {A = ℕ} 0 1 = cc in absurd (omega arith)
 
 -- an instruction
-record On-instr (u : Bool) (x : Rec Identifier) : Type 0 where
+record On-instr (u : Bool) (h : Shift) (x : Rec Identifier) : Type 0 where
   it : Syntax.Instr Identifier
   is : x ≡ instr it
   uses : mayUse it ≡ u
+  shifts : shiftOf it ≡ h
 
-on-instr : (u : Bool) (x : Rec Identifier) → keptOf x ≡ an-instr u → On-instr u x
-on-instr u (field f) e = let z : _≡_ {A = ℕ} 0 1 = cc in absurd (omega arith)
-on-instr u (instr x) e = record { it = x; is = refl; uses = cc }
-on-instr u bodyEnd e = let z : _≡_ {A = ℕ} 0 1 = cc in absurd (omega arith)
+on-instr : (u : Bool) (h : Shift) (x : Rec Identifier) → keptOf x ≡ an-instr u h → On-instr u h x
+on-instr u h (field f) e = let z : _≡_ {A = ℕ} 0 1 = cc in absurd (omega arith)
+on-instr u h (instr x) e = record { it = x; is = refl; uses = cc; shifts = cc }
+on-instr u h bodyEnd e = let z : _≡_ {A = ℕ} 0 1 = cc in absurd (omega arith)
 
 -- a body's end
 on-end : (x : Rec Identifier) → keptOf x ≡ an-end → x ≡ bodyEnd
@@ -111,13 +122,64 @@ on-end (field f) e = let z : _≡_ {A = ℕ} 0 1 = cc in absurd (omega arith)
 on-end (instr x) e = let z : _≡_ {A = ℕ} 0 1 = cc in absurd (omega arith)
 on-end bodyEnd e = refl
 
+-- ## Marks
+
+-- what an instruction does to the blocks the marks have done
+abbrev Shifted : Shift → Marks → Marks → Type 0
+Shifted stay m r = m ≡ r
+Shifted (open-one may) m r = Opened m may r
+Shifted else-one m r = Elsed m r
+Shifted end-one m r = Ended m r
+
+blocks-shift : (k : ℕ) (m r : Marks) (x : Syntax.Instr Identifier) → Shifted (shiftOf x) m r → Bodies.Fits (marksIn k (bitsOf m)) x → marksIn (depthAfter x k) (bitsOf r) ≡ openAfter x (marksIn k (bitsOf m))
+unfolding depthAfter openAfter opened
+blocks-shift k m r (Syntax.opens op l t) g f = g .each k (let e = f in rw (marks-length k (bitsOf m)) at e)
+blocks-shift k m r (Syntax.elses l) g f = g .each k
+blocks-shift k m r (Syntax.ends l) g f = g .each k
+blocks-shift k m r (Syntax.indirect x t) g f = rw g
+blocks-shift k m r (Syntax.plain p) g f = rw g
+
+body-shifts : (d : ℕ) (m r : Marks) (x : Syntax.Instr Identifier) → 1 ≤ d → Shifted (shiftOf x) m r → Bodies.Fits (insideOf (d - 1) m .blocks) x → bodyOf (depthAfter x (d - 1) + 1) r ≡ instrBody x (bodyOf d m)
+unfolding insideOf insideAfter
+body-shifts d m r x h g f = rw (inside d m h, add-one (depthAfter x (d - 1))) (ap (λ (bs : Blocks). some (record { blocks = bs })) (blocks-shift (d - 1) m r x g f))
+
+-- a field begins a body with no block open, and there no mark counts
+field-body : (s : Bytes) (f : Field) (m : Marks) → bodyOf (depthOf (fieldBody (fieldOf s f))) m ≡ fieldBody (fieldOf s f)
+unfolding fieldBody sourceBody ownBody insideOf marksIn
+field-body s (F.Type i ps rs) m = refl
+field-body s (F.Import n i x) m = refl
+field-body s (F.Item i es (S.Own (O.Func t ls))) m = refl
+field-body s (F.Item i es (S.Own (O.Table t))) m = refl
+field-body s (F.Item i es (S.Own (O.Mem l))) m = refl
+field-body s (F.Item i es (S.Own (O.Global t c))) m = refl
+field-body s (F.Item i es (S.Imported n x)) m = refl
+field-body s (F.Item i es (S.TableOf w xs)) m = refl
+field-body s (F.Item i es (S.MemOf w d)) m = refl
+field-body s (F.Export n k x) m = refl
+field-body s (F.Start x) m = refl
+field-body s (F.Elem i k xs) m = refl
+field-body s (F.Data i k d) m = refl
+
+-- whether a body is open does not hang on the marks
+begins-any : (b d : ℕ) (m r : Marks) → beginsIn b (bodyOf d m) ≡ beginsIn b (bodyOf d r)
+begins-any b zero m r = refl
+begins-any b (suc k) m r = refl
+
+end-any : (n d : ℕ) (m r : Marks) → atEnd n (bodyOf d m) ≡ atEnd n (bodyOf d r)
+end-any n zero m r = refl
+end-any n (suc k) m r = refl
+
+or-none : (u : Bool) → u ≡ u || false
+or-none true = refl
+or-none false = refl
+
 -- ## The loop
 
-pub record Going (s : Bytes) (w₀ : List ℕ) (p : Place) (c : Seen) (ended : ℕ) (used : Bool) (w : List ℕ) : Type 0 where
+pub record Going (s : Bytes) (w₀ : List ℕ) (p : Place) (m : Marks) (c : Seen) (ended : ℕ) (used : Bool) (w : List ℕ) : Type 0 where
   pub seen : Read.Seen
   pub ends : List ℕ
   pub few : p .rec ≤ 4096
-  pub body : seen .body ≡ bodyOf (p .depth)
+  pub body : seen .body ≡ bodyOf (p .depth) m
   pub counts : Counts seen c
   pub same : passed s ≡ pass (4096 - p .rec) (p .rec) seen used ends s (p .at)
   pub area : w ≡ sets w₀ ENDS (endWords ends)
@@ -125,9 +187,9 @@ pub record Going (s : Bytes) (w₀ : List ℕ) (p : Place) (c : Seen) (ended : �
   pub fewer : ended ≤ p .rec
   pub long : length w ≡ length w₀
 
-pub begin : (s : Bytes) (w : List ℕ) (p : Place) (c : Seen) → p ≡ firstPlace → c ≡ noneSeen → Going s w p c 0 false w
+pub begin : (s : Bytes) (w : List ℕ) (p : Place) (m : Marks) (c : Seen) → p ≡ firstPlace → c ≡ noneSeen → Going s w p m c 0 false w
 unfolding passed nothingSeen endWords
-begin s w p c d e = rw d (record {
+begin s w p m c d e = rw d (record {
   seen = nothingSeen;
   ends = [];
   few = omega arith;
@@ -140,23 +202,24 @@ begin s w p c d e = rw d (record {
   long = refl;
 })
 
-module _ (s : Bytes) (w₀ : List ℕ) (p : Place) (c : Seen) (ended : ℕ) (used : Bool) (w : List ℕ) (v : Going s w₀ p c ended used w) (h : p .at < length s) where
+module _ (s : Bytes) (w₀ : List ℕ) (p : Place) (m : Marks) (c : Seen) (ended : ℕ) (used : Bool) (w : List ℕ) (v : Going s w₀ p m c ended used w) (h : p .at < length s) where
   -- the definition reads the same record
-  one-read : (x : Rec Identifier) (q : Place) → Was (roomOf c) p s x q → oneRecord (v .seen) s (p .at) ≡ got x (q .at)
+  one-read : (x : Rec Identifier) (q : Place) → Was (roomOf c) p m s x q → oneRecord (v .seen) s (p .at) ≡ got x (q .at)
   unfolding oneRecord
   one-read x q a = rw (room-same (v .counts), v .body) (a .reads)
 
-  turned : (x : Rec Identifier) (q : Place) → Was (roomOf c) p s x q
+  turned : (x : Rec Identifier) (q : Place) → Was (roomOf c) p m s x q
       → passed s ≡ pass (4096 - q .rec) (q .rec) (seenAfter (v .seen) x) (usedAfter used x) (v .ends ++ endOf used x (q .at) (q .rec)) s (q .at)
   turned x q a =
       let l : 0 < 4096 - p .rec = omega (arith, a .few) in
       let d : 4096 - p .rec - 1 ≡ 4096 - q .rec = omega (arith, a .next) in
-      let m = a .next in
-      v .same ∙ pass-got (p .rec) (v .seen) used (v .ends) s (p .at) (4096 - p .rec) x (q .at) h l (one-read x q a) ∙ rw (d, ← m)
+      let n = a .next in
+      v .same ∙ pass-got (p .rec) (v .seen) used (v .ends) s (p .at) (4096 - p .rec) x (q .at) h l (one-read x q a) ∙ rw (d, ← n)
 
-  body-on : (x : Rec Identifier) (q : Place) → Was (roomOf c) p s x q → seenAfter (v .seen) x .body ≡ bodyOf (q .depth)
+  -- where the body stands after it, by the marks after it
+  body-on : (x : Rec Identifier) (q : Place) (m′ : Marks) → bodyOf (q .depth) m′ ≡ bodyAfter (bodyOf (p .depth) m) x → seenAfter (v .seen) x .body ≡ bodyOf (q .depth) m′
   unfolding seenAfter
-  body-on x q a = ap (λ b. bodyAfter b x) (v .body) ∙ sym (a .deep)
+  body-on x q m′ e = ap (λ b. bodyAfter b x) (v .body) ∙ sym e
 
   -- a refusal ends the pass
   stopped : (r : Refusal) → passed s ≡ record { says = refusedBy r; seen = v .seen; ends = v .ends } → Walks s w₀ (C.Refused r) w
@@ -164,42 +227,47 @@ module _ (s : Bytes) (w₀ : List ℕ) (p : Place) (c : Seen) (ended : ℕ) (use
   stopped r g = record { says = sym (passed-says s) ∙ ap (λ (x : Passed). x .says) g; leaves = v .area ∙ rw g }
 
   -- one record too many
-  pub full-walk : (n : ℕ) → 4096 ≤ p .rec → n ≡ (if beginsIn (getD s (p .at) 0) (bodyOf (p .depth)) then 7 else 4) → Walks s w₀ (C.Refused (refusal n (p .rec))) w
+  pub full-walk : (n : ℕ) → 4096 ≤ p .rec → n ≡ (if beginsIn (getD s (p .at) 0) (bodyOf (p .depth) noMarks) then 7 else 4) → Walks s w₀ (C.Refused (refusal n (p .rec))) w
   full-walk n l e =
-      let m : 4096 - p .rec ≡ 0 = omega arith in
+      let z : 4096 - p .rec ≡ 0 = omega arith in
       let b = v .body in
-      stopped (refusal n (p .rec)) (v .same ∙ pass-full (p .rec) (v .seen) used (v .ends) s (p .at) (4096 - p .rec) h m ∙ rw (b, e))
+      stopped (refusal n (p .rec)) (v .same ∙ pass-full (p .rec) (v .seen) used (v .ends) s (p .at) (4096 - p .rec) h z ∙ rw (b, begins-any (getD s (p .at) 0) (p .depth) m noMarks, e))
 
   module _ (l : p .rec < 4096) (q : Place) where
     -- a record that is not read
-    faulted : (n : ℕ) (st : Step (Rec Identifier)) → recordIn (roomOf c) (bodyOf (p .depth)) s (p .at) ≡ st → movedBy p st .0 ≡ refused n (q .rec)
+    faulted : (n : ℕ) (st : Step (Rec Identifier)) → recordIn (roomOf c) (bodyOf (p .depth) m) s (p .at) ≡ st → movedBy p st .0 ≡ refused n (q .rec)
         → Walks s w₀ (C.Refused (refusal n (q .rec))) w
     unfolding oneRecord
     faulted n (got y next) f e = let z : _≡_ {A = ℕ} 0 1 = cc in absurd (omega arith)
-    faulted n (fault m) f e =
-        let j : m ≡ n = cc in
+    faulted n (fault k) f e =
+        let j : k ≡ n = cc in
         let i : p .rec ≡ q .rec = cc in
-        let g : oneRecord (v .seen) s (p .at) ≡ fault m = rw (room-same (v .counts), v .body) f in
-        stopped (refusal n (q .rec)) (v .same ∙ pass-fault (p .rec) (v .seen) used (v .ends) s (p .at) (4096 - p .rec) m h (omega arith) g ∙ rw (j, i))
+        let g : oneRecord (v .seen) s (p .at) ≡ fault k = rw (room-same (v .counts), v .body) f in
+        stopped (refusal n (q .rec)) (v .same ∙ pass-fault (p .rec) (v .seen) used (v .ends) s (p .at) (4096 - p .rec) k h (omega arith) g ∙ rw (j, i))
 
     -- ### Outside a body
 
     module _ (d : p .depth < 1) (what : Outside) (e : fieldRecordAt (roomOf c) p s ≡ outsideAnswer s what q) where
-      was-field : (f : Field) → what ≡ U.Field f → Was (roomOf c) p s (field (fieldOf s f)) q
-      was-field f k = field-was (roomOf c) p s (field (fieldOf s f)) q l d (e ∙ ap (λ y. outsideAnswer s y q) k)
+      was-field : (f : Field) → what ≡ U.Field f → Was (roomOf c) p m s (field (fieldOf s f)) q
+      was-field f k = field-was (roomOf c) p m s (field (fieldOf s f)) q l d (e ∙ ap (λ y. outsideAnswer s y q) k)
 
       -- the record number is the measure
       pub less-field : (f : Field) → what ≡ U.Field f → 4097 - q .rec < 4097 - p .rec
       less-field f k = omega (arith, was-field f k .next, l)
 
-      pub again-field : (f : Field) (c′ : Seen) → what ≡ U.Field f → c′ ≡ fieldSeen c f → Going s w₀ q c′ ended used w
+      -- a field begins a body with no block open, and there no mark counts
+      after-field : (f : Field) → (q : Place) → Was (roomOf c) p m s (field (fieldOf s f)) q → bodyOf (q .depth) m ≡ bodyAfter (bodyOf (p .depth) m) (field (fieldOf s f))
+      unfolding bodyAfter
+      after-field f q a = ap (λ d. bodyOf d m) (a .deep) ∙ field-body s f m
+
+      pub again-field : (f : Field) (c′ : Seen) → what ≡ U.Field f → c′ ≡ fieldSeen c f → Going s w₀ q m c′ ended used w
       again-field f c′ k g =
           let a = was-field f k in
           record {
             seen = seenAfter (v .seen) (field (fieldOf s f));
             ends = v .ends;
             few = omega (arith, a .next);
-            body = body-on _ q a;
+            body = body-on _ q m (after-field f q a);
             counts = rw g (counts-field s (v .seen) c f (v .counts));
             same = rw append-nil at (turned _ q a);
             area = v .area;
@@ -211,44 +279,61 @@ module _ (s : Bytes) (w₀ : List ℕ) (p : Place) (c : Seen) (ended : ℕ) (use
       pub refused-field : (n : ℕ) → what ≡ U.Refused n → Walks s w₀ (C.Refused (refusal n (q .rec))) w
       unfolding fieldRecordAt
       refused-field n k =
-          faulted n (recordIn (roomOf c) none s (p .at)) (ap (λ b. recordIn (roomOf c) b s (p .at)) (outside (p .depth) d))
+          faulted n (recordIn (roomOf c) none s (p .at)) (ap (λ b. recordIn (roomOf c) b s (p .at)) (outside (p .depth) m d))
           (ap (λ (x : Answer (Rec Identifier) × Place). x .0) (e ∙ ap (λ y. outsideAnswer s y q) k))
 
     -- ### In a body
 
-    module _ (d : 1 ≤ p .depth) (what : Inside) (e : keptAt (bodyRecordAt p s) ≡ insideAnswer what q) where
-      record Was-instr (u : Bool) : Type 0 where
+    module _ (d : 1 ≤ p .depth) (what : Inside) (e : keptAt (bodyRecordAt p m s) ≡ insideAnswer what q) where
+      record Was-instr (u : Bool) (j : Shift) : Type 0 where
         it : Syntax.Instr Identifier
         uses : mayUse it ≡ u
-        was : Was (roomOf c) p s (instr it) q
+        shifts : shiftOf it ≡ j
+        was : Was (roomOf c) p m s (instr it) q
 
-      was-instr : (u : Bool) → what ≡ N.On u → Was-instr u
-      was-instr u k =
-          let a = kept-of (bodyRecordAt p s) (an-instr u) q (e ∙ ap (λ y. insideAnswer y q) k) in
-          let b = on-instr u (a .rec) (a .keeps) in
-          record { it = b .it; uses = b .uses; was = body-was (roomOf c) p s (instr (b .it)) q l d (a .is ∙ ap (λ z. (ok z, q)) (b .is)) }
+      was-instr : (u : Bool) (j : Shift) → insideAnswer what q ≡ (ok (an-instr u j), q) → Was-instr u j
+      was-instr u j k =
+          let a = kept-of (bodyRecordAt p m s) (an-instr u j) q (e ∙ k) in
+          let b = on-instr u j (a .rec) (a .keeps) in
+          record { it = b .it; uses = b .uses; shifts = b .shifts; was = body-was (roomOf c) p m s (instr (b .it)) q l d (a .is ∙ ap (λ z. (ok z, q)) (b .is)) }
 
-      was-end : what ≡ N.End → Was (roomOf c) p s bodyEnd q
+      was-end : what ≡ N.End → Was (roomOf c) p m s bodyEnd q
       was-end k =
-          let a = kept-of (bodyRecordAt p s) an-end q (e ∙ ap (λ y. insideAnswer y q) k) in
-          body-was (roomOf c) p s bodyEnd q l d (a .is ∙ ap (λ z. (ok z, q)) (on-end (a .rec) (a .keeps)))
+          let a = kept-of (bodyRecordAt p m s) an-end q (e ∙ ap (λ y. insideAnswer y q) k) in
+          body-was (roomOf c) p m s bodyEnd q l d (a .is ∙ ap (λ z. (ok z, q)) (on-end (a .rec) (a .keeps)))
 
-      pub less-instr : (u : Bool) → what ≡ N.On u → 4097 - q .rec < 4097 - p .rec
-      less-instr u k = omega (arith, was-instr u k .was .next, l)
+      less : (u : Bool) (j : Shift) → insideAnswer what q ≡ (ok (an-instr u j), q) → 4097 - q .rec < 4097 - p .rec
+      less u j k = omega (arith, was-instr u j k .was .next, l)
+
+      pub less-on : (u : Bool) → what ≡ N.On u → 4097 - q .rec < 4097 - p .rec
+      less-on u k = less u stay (ap (λ y. insideAnswer y q) k)
+
+      pub less-opens : (u may : Bool) → what ≡ N.Opens u may → 4097 - q .rec < 4097 - p .rec
+      less-opens u may k = less u (open-one may) (ap (λ y. insideAnswer y q) k)
+
+      pub less-elses : what ≡ N.Elses → 4097 - q .rec < 4097 - p .rec
+      less-elses k = less false else-one (ap (λ y. insideAnswer y q) k)
+
+      pub less-ends : what ≡ N.Ends → 4097 - q .rec < 4097 - p .rec
+      less-ends k = less false end-one (ap (λ y. insideAnswer y q) k)
 
       pub less-end : what ≡ N.End → 4097 - q .rec < 4097 - p .rec
       less-end k = omega (arith, was-end k .next, l)
 
-      -- an instruction
-      again-instr : (u : Bool) → what ≡ N.On u → Going s w₀ q c ended (used || u) w
-      again-instr u k =
-          let a = was-instr u k in
+      -- an instruction, with the marks after it
+      again-instr : (u : Bool) (j : Shift) (m′ : Marks) → insideAnswer what q ≡ (ok (an-instr u j), q) → Shifted j m m′ → Going s w₀ q m′ c ended (used || u) w
+      unfolding bodyAfter
+      again-instr u j m′ k g =
+          let a = was-instr u j k in
           let b = a .uses in
+          let r = ap (λ b. recordIn (roomOf c) b s (p .at)) (sym (inside (p .depth) m d)) ∙ a .was .reads in
+          let i : bodyOf (q .depth) m′ ≡ bodyAfter (bodyOf (p .depth) m) (instr (a .it)) =
+          ap (λ z. bodyOf z m′) (a .was .deep) ∙ body-shifts (p .depth) m m′ (a .it) d (subst (λ z. Shifted z m m′) (sym (a .shifts)) g) (read-fits (insideOf (p .depth - 1) m) s (q .at) (a .it) (p .at) r) in
           record {
             seen = seenAfter (v .seen) (instr (a .it));
             ends = v .ends;
             few = omega (arith, a .was .next);
-            body = body-on _ q (a .was);
+            body = body-on _ q m′ i;
             counts = counts-instr (v .seen) c (a .it) (v .counts);
             same = rw (append-nil, b) at (turned _ q (a .was));
             area = v .area;
@@ -258,15 +343,36 @@ module _ (s : Bytes) (w₀ : List ℕ) (p : Place) (c : Seen) (ended : ℕ) (use
           }
 
       -- the body may use a type by an instruction before, or not before this one
-      pub again-first : (u : Bool) → what ≡ N.On u → used ≡ true → Going s w₀ q c ended used w
-      again-first u k t = rw t (subst (λ z. Going s w₀ q c ended (z || u) w) t (again-instr u k))
+      first : (u : Bool) (m′ : Marks) → used ≡ true → Going s w₀ q m′ c ended (used || u) w → Going s w₀ q m′ c ended used w
+      first u m′ t g = rw t (subst (λ z. Going s w₀ q m′ c ended (z || u) w) t g)
 
-      pub again-second : (u : Bool) → what ≡ N.On u → used ≡ false → Going s w₀ q c ended u w
-      again-second u k t = subst (λ z. Going s w₀ q c ended (z || u) w) t (again-instr u k)
+      second : (u : Bool) (m′ : Marks) → used ≡ false → Going s w₀ q m′ c ended (used || u) w → Going s w₀ q m′ c ended u w
+      second u m′ t g = subst (λ z. Going s w₀ q m′ c ended (z || u) w) t g
+
+      -- the marks stay
+      pub on-first : (u : Bool) (m′ : Marks) → what ≡ N.On u → m ≡ m′ → used ≡ true → Going s w₀ q m′ c ended used w
+      on-first u m′ k g t = first u m′ t (again-instr u stay m′ (ap (λ y. insideAnswer y q) k) g)
+
+      pub on-second : (u : Bool) (m′ : Marks) → what ≡ N.On u → m ≡ m′ → used ≡ false → Going s w₀ q m′ c ended u w
+      on-second u m′ k g t = second u m′ t (again-instr u stay m′ (ap (λ y. insideAnswer y q) k) g)
+
+      pub opens-first : (u may : Bool) (m′ : Marks) → what ≡ N.Opens u may → Opened m may m′ → used ≡ true → Going s w₀ q m′ c ended used w
+      opens-first u may m′ k g t = first u m′ t (again-instr u (open-one may) m′ (ap (λ y. insideAnswer y q) k) g)
+
+      pub opens-second : (u may : Bool) (m′ : Marks) → what ≡ N.Opens u may → Opened m may m′ → used ≡ false → Going s w₀ q m′ c ended u w
+      opens-second u may m′ k g t = second u m′ t (again-instr u (open-one may) m′ (ap (λ y. insideAnswer y q) k) g)
+
+      pub again-elses : (m′ : Marks) → what ≡ N.Elses → Elsed m m′ → Going s w₀ q m′ c ended used w
+      again-elses m′ k g = subst (λ z. Going s w₀ q m′ c ended z w) (sym (or-none used)) (again-instr false else-one m′ (ap (λ y. insideAnswer y q) k) g)
+
+      pub again-ends : (m′ : Marks) → what ≡ N.Ends → Ended m m′ → Going s w₀ q m′ c ended used w
+      again-ends m′ k g = subst (λ z. Going s w₀ q m′ c ended z w) (sym (or-none used)) (again-instr false end-one m′ (ap (λ y. insideAnswer y q) k) g)
 
       -- a body's end: its place fits a word, and two words are stored while there is room for them
       pub end-fits : what ≡ N.End → length s ≤ BYTES → q .at < 2 ^ 32
-      end-fits k m = let a = was-end k in omega (arith, end-inside (p .depth - 1) s (p .at) (q .at) (ap (λ b. recordIn (roomOf c) b s (p .at)) (sym (inside (p .depth) d)) ∙ a .reads))
+      end-fits k z =
+          let a = was-end k in
+          omega (arith, end-inside (insideOf (p .depth - 1) m) s (p .at) (q .at) (ap (λ b. recordIn (roomOf c) b s (p .at)) (sym (inside (p .depth) m d)) ∙ a .reads))
 
       pub end-few : what ≡ N.End → q .rec ≤ 4096
       end-few k = omega (arith, was-end k .next, l)
@@ -274,15 +380,15 @@ module _ (s : Bytes) (w₀ : List ℕ) (p : Place) (c : Seen) (ended : ℕ) (use
       pub ended-fits : what ≡ N.End → Fits w32 (ended + 1)
       ended-fits k = record { fits = omega (arith, v .fewer, l) }
 
-      pub again-end : (w′ : List ℕ) → what ≡ N.End → w′ ≡ endPut w ended (q .at) (endWord (q .rec) used) → Going s w₀ q c (ended + 1) false w′
-      unfolding endPut endWords
-      again-end w′ k g =
+      pub again-end : (m′ : Marks) (w′ : List ℕ) → what ≡ N.End → w′ ≡ endPut w ended (q .at) (endWord (q .rec) used) → Going s w₀ q m′ c (ended + 1) false w′
+      unfolding endPut endWords bodyAfter
+      again-end m′ w′ k g =
           let a = was-end k in
           record {
             seen = seenAfter {I = Identifier} (v .seen) bodyEnd;
             ends = v .ends ++ (q .at ∷ second ∷ []);
             few = omega (arith, a .next);
-            body = body-on bodyEnd q a;
+            body = body-on bodyEnd q m′ (ap (λ n. bodyOf n m′) (a .deep));
             counts = counts-end (v .seen) c (v .counts);
             same = turned bodyEnd q a;
             area = g ∙ stored (decLe 256 ended);
@@ -314,18 +420,18 @@ module _ (s : Bytes) (w₀ : List ℕ) (p : Place) (c : Seen) (ended : ℕ) (use
       pub refused-instr : (n : ℕ) → what ≡ N.Refused n → Walks s w₀ (C.Refused (refusal n (q .rec))) w
       unfolding bodyRecordAt
       refused-instr n k =
-          faulted n (bodyRec (p .depth - 1) s (p .at)) (ap (λ b. recordIn (roomOf c) b s (p .at)) (inside (p .depth) d))
-          (not-kept (movedBy p (bodyRec (p .depth - 1) s (p .at)) .0) (ap (λ (x : Answer Kept × Place). x .0) (e ∙ ap (λ y. insideAnswer y q) k)))
+          faulted n (bodyRec (insideOf (p .depth - 1) m) s (p .at)) (ap (λ b. recordIn (roomOf c) b s (p .at)) (inside (p .depth) m d))
+          (not-kept (movedBy p (bodyRec (insideOf (p .depth - 1) m) s (p .at)) .0) (ap (λ (x : Answer Kept × Place). x .0) (e ∙ ap (λ y. insideAnswer y q) k)))
         where
           not-kept : (y : Answer (Rec Identifier)) → keptAnswer y ≡ refused n (q .rec) → y ≡ refused n (q .rec)
           not-kept (ok x) e = let z : _≡_ {A = ℕ} 0 1 = cc in absurd (omega arith)
-          not-kept (refused m r) e = cc
+          not-kept (refused k r) e = cc
 
 -- ## The stream's end
 
-module _ (s : Bytes) (w₀ : List ℕ) (p : Place) (c : Seen) (ended : ℕ) (used : Bool) (w : List ℕ) (v : Going s w₀ p c ended used w) (h : length s ≤ p .at) where
-  at-end : passed s ≡ record { says = total (p .rec) (atEnd (p .rec) (bodyOf (p .depth))); seen = v .seen; ends = v .ends }
-  at-end = let b = v .body in v .same ∙ pass-end (p .rec) (v .seen) used (v .ends) s (p .at) (4096 - p .rec) h ∙ rw b
+module _ (s : Bytes) (w₀ : List ℕ) (p : Place) (m : Marks) (c : Seen) (ended : ℕ) (used : Bool) (w : List ℕ) (v : Going s w₀ p m c ended used w) (h : length s ≤ p .at) where
+  at-end : passed s ≡ record { says = total (p .rec) (atEnd (p .rec) (bodyOf (p .depth) noMarks)); seen = v .seen; ends = v .ends }
+  at-end = let b = v .body in v .same ∙ pass-end (p .rec) (v .seen) used (v .ends) s (p .at) (4096 - p .rec) h ∙ rw (b, end-any (p .rec) (p .depth) m noMarks)
 
   pub walk-ends : (r : Count) (w′ : List ℕ) → Ends p (c .counts) w r w′ → Walks s w₀ r w′
   unfolding areaAfter
@@ -340,11 +446,11 @@ module _ (s : Bytes) (w₀ : List ℕ) (p : Place) (c : Seen) (ended : ℕ) (use
 module _ (p : Place) (counts w : List ℕ) where
   -- in a body it is refused
   pub end-in-body : (r : Count) → 0 < p .depth → r ≡ refusedAt 2 p → Ends p counts w r w
-  end-in-body r d e = rw e (record { says = rw (inside (p .depth) d); leaves = refl })
+  end-in-body r d e = rw e (record { says = rw (inside (p .depth) noMarks d); leaves = refl })
 
   -- outside one the counts are left
   pub end-accepted : (w′ : List ℕ) → p .depth ≤ 0 → w′ ≡ sets w COUNTS counts → Ends p counts w (C.Records (p .rec)) w′
-  end-accepted w′ d e = let n : p .rec + 0 ≡ p .rec = omega arith in record { says = rw (outside (p .depth) (omega arith), n); leaves = e }
+  end-accepted w′ d e = let n : p .rec + 0 ≡ p .rec = omega arith in record { says = rw (outside (p .depth) noMarks (omega arith), n); leaves = e }
 
 -- what a refusal is
 pub walk-refused : (s : Bytes) (w₀ w : List ℕ) (n : ℕ) (p : Place) (r : Count) → r ≡ refusedAt n p → Walks s w₀ (refusedAt n p) w → Walks s w₀ r w

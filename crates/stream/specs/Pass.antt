@@ -6,6 +6,7 @@ use mathlib.Core.Path.{_≡_}
 use lib.Dec.{leb, ltb}
 use lib.ListN.{length, take, set}
 use lib.Seq.{sets}
+use Rattle.syntax.specs.Marks.{noMarks}
 use Rattle.syntax.specs.Refusals.{refusal, refusedBy}
 use Rattle.syntax.specs.declared.Place.{Place}
 use Rattle.area.specs.Layout.{BYTES, COUNTS, ENDS, WORDS, endAt}
@@ -96,9 +97,9 @@ firstPlace = record { at = 0; rec = 0; depth = 0 }
 abbrev pub refusedAt : ℕ → Place → Count
 refusedAt n p = C.Refused (refusal n (p .rec))
 
--- the stream ends at a place, with these counts of items
+-- the stream ends at a place, with these counts of items; the marks do not matter
 pub record Ends (p : Place) (counts w : List ℕ) (r : Count) (w′ : List ℕ) : Type 0 where
-  pub says : total (p .rec) (atEnd (p .rec) (bodyOf (p .depth))) ≡ counted r
+  pub says : total (p .rec) (atEnd (p .rec) (bodyOf (p .depth) noMarks)) ≡ counted r
   pub leaves : w′ ≡ areaOf (counted r) counts w
 
 -- over a stream and a work area that are long enough and not too long

@@ -6,6 +6,10 @@ use next_record::Outside;
 use next_record::next_field;
 use next_record::next_instr;
 use next_record::too_many;
+use next_record::with_block;
+use next_record::without_block;
+use next_record::without_else;
+use syntax::Marks;
 use syntax::Place;
 use syntax::Refusal;
 use syntax::Seen;
@@ -82,6 +86,7 @@ fn read_records(s: &[u8], work: &mut [u32]) -> Count
 {
     let mut p = start();
     let mut seen = Seen::none();
+    let mut marks = Marks::none();
     let mut ended: u32 = 0;
     let mut used = false;
     loop {
@@ -104,12 +109,22 @@ fn read_records(s: &[u8], work: &mut [u32]) -> Count
                 }
             }
         } else {
-            let r = next_instr(s, p);
+            let r = next_instr(s, p, marks);
             let what = r.what;
             p = r.place;
             match what {
                 Inside::On(uses) => {
                     used = used || uses;
+                }
+                Inside::Opens(uses, may) => {
+                    marks = with_block(marks, may);
+                    used = used || uses;
+                }
+                Inside::Elses => {
+                    marks = without_else(marks);
+                }
+                Inside::Ends => {
+                    marks = without_block(marks);
                 }
                 Inside::End => {
                     put_end(work, ended, p, used);

@@ -3,10 +3,11 @@ use Prim.Native.Nat.{ℕ, _+_, _-_, _≤_, _<_}
 use mathlib.Core.Path.{_≡_, sym, _∙_, ap}
 use mathlib.Core.List.{List, [], _++_, append-nil, append-assoc}
 use mathlib.Core.Option.{Option, none, some}
-use lib.ListN.{getD}
+use lib.ListN.{length, getD}
 use native.Mathlib.Omega.{arith}
 use Rattle.definition.specs.Basic.{ok, refused}
 use Rattle.definition.specs.Syntax.{Bytes, Identifier}
+use Rattle.definition.specs.Instructions.{Inside}
 use Rattle.definition.specs.Read.{fieldBody}
 use Rattle.definition.specs.Deinline.{Numbered}
 use Rattle.definition.specs.Types.{Uses, bodyUses, uses, declared, intern, allTypes}
@@ -36,13 +37,13 @@ use Rattle.laws.proofs.Uses.{uses-append}
 
 -- ## The record after a field
 
-end-low : (b : Option ℕ) (r : ℕ) (s : Bytes) (here : ℕ) → r + 1 ≤ endAfter b r s here
+end-low : (b : Option Inside) (r : ℕ) (s : Bytes) (here : ℕ) → r + 1 ≤ endAfter b r s here
 end-low none r s here = omega arith
-end-low (some k) r s here = after-low (4096 - (r + 1)) k (r + 1) s here
+end-low (some i) r s here = after-low (4096 - (r + 1)) (length (i .blocks)) (r + 1) s here
 
-end-high : (b : Option ℕ) (r : ℕ) (s : Bytes) (here : ℕ) → r < 4096 → endAfter b r s here ≤ 4096
+end-high : (b : Option Inside) (r : ℕ) (s : Bytes) (here : ℕ) → r < 4096 → endAfter b r s here ≤ 4096
 end-high none r s here h = omega arith
-end-high (some k) r s here h = let e = after-high (4096 - (r + 1)) k (r + 1) s here in omega arith
+end-high (some i) r s here h = let e = after-high (4096 - (r + 1)) (length (i .blocks)) (r + 1) s here in omega arith
 
 -- ## The walk
 

@@ -2,6 +2,7 @@ pub mod CoreTypes
 pub mod Fields
 pub mod Instructions
 pub mod Items
+pub mod Marks
 pub mod Numbers
 pub mod Plain
 pub mod Refusals

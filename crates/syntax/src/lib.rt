@@ -3,6 +3,7 @@
 ghost use mathlib.Core.Path.{_≡_};
 ghost use Rattle.definition.specs.Syntax.{code};
 ghost use Rattle.syntax.specs.Items.{noneSeen};
+ghost use Rattle.syntax.specs.Marks.{noMarks};
 ghost use Rattle.syntax.specs.Tokens.{spaceOf};
 
 // ## Answers of readers of numbers and bytes
@@ -361,6 +362,20 @@ pub struct Place {
     pub at: usize,
     pub rec: u32,
     pub depth: u32,
+}
+
+// Of each open block whether an else may still come in it: one bit each, that of the innermost block the lowest of `low`.
+pub struct Marks {
+    pub low: u64,
+    pub high: u64,
+}
+
+impl Marks {
+    pub fn none() -> Marks
+        ensures { λ r. ⌜ r ≡ noMarks ⌝ }
+    {
+        Marks { low: 0, high: 0 }
+    }
 }
 
 // How many items each space has, by its code, and whether there was a start.

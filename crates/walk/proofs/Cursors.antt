@@ -14,10 +14,10 @@ use mir.Syntax.{w32}
 use mir.Val.{Fits}
 use Rattle.definition.specs.Syntax.{Bytes, Identifier, Instr, Rec, field, instr, bodyEnd}
 use Rattle.definition.specs.Reader.{Step, got, fault}
-use Rattle.definition.specs.Instructions.{bodyRec}
+use Rattle.definition.specs.Instructions.{begun, bodyRec}
 use Rattle.definition.specs.Records.{fieldRec}
 use Rattle.definition.specs.Spaces.{brings, sourceSpace, segments}
-use Rattle.definition.specs.Read.{openAfter, fieldBody, sourceBody, ownBody, isStart}
+use Rattle.definition.specs.Read.{fieldBody, sourceBody, ownBody, isStart}
 use Rattle.area.specs.Layout.{MARK, TYPES, endAt}
 use Rattle.syntax.specs.Items.{roomOf, sourceOf, noneSeen}
 use Rattle.syntax.specs.declared.Seen.{Seen}
@@ -31,6 +31,8 @@ use Rattle.syntax.specs.declared.Field.the-variants as F
 use Rattle.syntax.specs.declared.FieldAt.{FieldAt}
 use Rattle.syntax.specs.declared.FieldAt.the-variants as FA
 use Rattle.next_record.specs.Uses.{anyUse, endWord}
+use Rattle.laws.specs.Depths.{deep, depthAfter}
+use Rattle.syntax.specs.Marks.{noMarks, insideOf, marksIn}
 use Rattle.next_record.specs.Places.{bodyOf}
 use Rattle.counting.specs.Counting.{oneMore, sourceBrings, fieldSeen}
 use Rattle.next_record.specs.Answers.{fieldDepth}
@@ -110,8 +112,8 @@ depth-few (F.Data i m d) = omega arith
 pub own-fits : (c : Cursor) (f : Field) (d : ℕ) → d ≡ fieldDepth f → 1 ≤ c .left → c .own + c .left ≤ 4096 → Fits w32 (c .own + d)
 own-fits c f d e h g = let k = depth-few f in record { fits = omega arith }
 
-body-is : (s : Bytes) (f : Field) → fieldBody (fieldOf s f) ≡ bodyOf (fieldDepth f)
-unfolding fieldBody sourceBody ownBody
+body-is : (s : Bytes) (f : Field) → fieldBody (fieldOf s f) ≡ bodyOf (fieldDepth f) noMarks
+unfolding fieldBody sourceBody ownBody insideOf marksIn
 body-is s (F.Type i ps rs) = refl
 body-is s (F.Import n i x) = refl
 body-is s (F.Item i es (S.Own (O.Func t ls))) = refl
@@ -125,6 +127,10 @@ body-is s (F.Export n k x) = refl
 body-is s (F.Start x) = refl
 body-is s (F.Elem i m xs) = refl
 body-is s (F.Data i m d) = refl
+
+begun-is : bodyOf 1 noMarks ≡ some begun
+unfolding insideOf marksIn
+begun-is = refl
 
 -- ## The two words of a body's end
 
@@ -147,10 +153,10 @@ end-record r false h = let l : r < MARK = omega arith in rw (lt-leb _ _ l)
 after-few : (left k r : ℕ) (s : Bytes) (here : ℕ) → afterBody left k r s here .rec ≤ left + r
 unfolding afterBody
 after-few zero k r s here = omega arith
-after-few (suc n) k r s here = go (bodyRec k s here) (λ x next. after-few n (openAfter x k) (r + 1) s next)
+after-few (suc n) k r s here = go (bodyRec (deep k) s here) (λ x next. after-few n (depthAfter x k) (r + 1) s next)
   where
-    go : (st : Step (Rec Identifier)) → ((x : Instr Identifier) (next : ℕ) → afterBody n (openAfter x k) (r + 1) s next .rec ≤ n + (r + 1))
-        → onBody st (λ x next. afterBody n (openAfter x k) (r + 1) s next) (λ next. record { at = next; rec = r + 1 }) (record { at = here; rec = r }) .rec ≤ suc n + r
+    go : (st : Step (Rec Identifier)) → ((x : Instr Identifier) (next : ℕ) → afterBody n (depthAfter x k) (r + 1) s next .rec ≤ n + (r + 1))
+        → onBody st (λ x next. afterBody n (depthAfter x k) (r + 1) s next) (λ next. record { at = next; rec = r + 1 }) (record { at = here; rec = r }) .rec ≤ suc n + r
     go (got (field f) next) ih = omega arith
     go (got (instr x) next) ih = omega (arith, ih x next)
     go (got bodyEnd next) ih = omega arith
@@ -167,13 +173,13 @@ module _ (s : Bytes) (w : List ℕ) (c : Cursor) (v : Ahead s w c) (f : Field) (
       go zero l d g k = absurd (omega arith)
       go (suc n) l zero g k = let b : fieldBody (fieldOf s f) ≡ none = body-is s f ∙ rw g in rw (g, b, field-seen s (c .seen) f)
       go (suc n) l (suc zero) g k =
-          let b : fieldBody (fieldOf s f) ≡ some 0 = body-is s f ∙ rw g in
+          let b : fieldBody (fieldOf s f) ≡ some begun = body-is s f ∙ rw g begun-is in
           let next = cursorAfter c (fieldOf s f) s here in
           let x : endsFrom (c .left) c s ≡ endOf (fieldBody (fieldOf s f)) next (bodyIn (fieldBody (fieldOf s f)) (c .rec + 1) s here) ++ endsFrom n next s =
           ap (λ m. endsFrom m c s) l ∙ ap (λ m. onVisit m (λ v. endHere c s v ++ endsFrom n (v .next) s) []) e in
-          let r = afterField (some 0) (c .rec + 1) s here .rec in
-          let u = anyUse (bodyIn (some 0) (c .rec + 1) s here) in
-          let y = end-words w (c .own) (afterField (some 0) (c .rec + 1) s here .at) (endWord r u) (endsFrom n next s ++ v .ends .rest) (v .ends .is ∙ ap (λ z. z ++ v .ends .rest) x ∙ rw b) in
+          let r = afterField (some begun) (c .rec + 1) s here .rec in
+          let u = anyUse (bodyIn (some begun) (c .rec + 1) s here) in
+          let y = end-words w (c .own) (afterField (some begun) (c .rec + 1) s here .at) (endWord r u) (endsFrom n next s ++ v .ends .rest) (v .ends .is ∙ ap (λ z. z ++ v .ends .rest) x ∙ rw b) in
           let y₀ = y .0 in
           let y₁ = y .1 in
           let z = end-record r u (omega (arith, after-few (4096 - (c .rec + 1)) 0 (c .rec + 1) s here)) in

@@ -11,6 +11,7 @@ use borrow.Author.Tests.{leb-false, lt-leb}
 use native.Mathlib.Omega.{arith}
 use Rattle.definition.specs.Basic.{if_then_else_}
 use Rattle.definition.specs.Syntax.{Bytes, Identifier, FieldRec, Instr, opens, elses, ends, indirect, plain}
+use Rattle.definition.specs.Instructions.{Inside}
 use Rattle.definition.specs.Reader.{Step, got, fault}
 use Rattle.definition.specs.Records.{fieldRec}
 use Rattle.definition.specs.Types as Types
@@ -210,7 +211,7 @@ module _ (s : Bytes) (c : Cursor) (r : Met) (told : visitIn (c .left) c s ≡ vi
     unfolding usesIn bodyUses
     visit-unused w v e = go (fieldBody (fieldOf s f)) refl ends-are
       where
-        go : (b : Option ℕ) → fieldBody (fieldOf s f) ≡ b → endsFrom (c .left) c s ≡ endOf b (r .next) body ++ endsFrom (r .next .left) (r .next) s
+        go : (b : Option Inside) → fieldBody (fieldOf s f) ≡ b → endsFrom (c .left) c s ≡ endOf b (r .next) body ++ endsFrom (r .next .left) (r .next) s
             → bodyUses (c .rec + 1) body ≡ []
         go none d g = rw d
         go (some k) d g =
@@ -242,7 +243,7 @@ module _ (s : Bytes) (c : Cursor) (r : Met) (told : visitIn (c .left) c s ≡ vi
     pub visit-ahead : (w : List ℕ) → Ahead s w c → Ahead s w (r .next)
     visit-ahead w v = go (fieldBody (fieldOf s f)) ends-are own-is
       where
-        go : (b : Option ℕ) → endsFrom (c .left) c s ≡ endOf b (r .next) body ++ endsFrom (r .next .left) (r .next) s → r .next .own ≡ c .own + bodies b
+        go : (b : Option Inside) → endsFrom (c .left) c s ≡ endOf b (r .next) body ++ endsFrom (r .next .left) (r .next) s → r .next .own ≡ c .own + bodies b
             → Ahead s w (r .next)
         go none e o =
             let same : endAt (r .next .own) ≡ endAt (c .own) = omega arith in

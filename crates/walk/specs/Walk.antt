@@ -10,12 +10,13 @@ use Rattle.definition.specs.Basic.{if_then_else_}
 use Rattle.definition.specs.Syntax as Syntax
 use Rattle.definition.specs.Syntax.{Bytes, Identifier, Space, FieldRec, field}
 use Rattle.definition.specs.Reader.{Step, got, fault}
-use Rattle.definition.specs.Instructions.{bodyRec}
+use Rattle.definition.specs.Instructions.{Inside, bodyRec}
 use Rattle.definition.specs.Records.{fieldRec}
 use Rattle.definition.specs.Spaces.{brings}
-use Rattle.definition.specs.Read.{openAfter, fieldBody, isStart}
+use Rattle.definition.specs.Read.{fieldBody, isStart}
 use Rattle.definition.specs.Deinline.{Numbered, fieldsOf}
 use Rattle.area.specs.Layout.{MARK, TYPES, endAt}
+use Rattle.laws.specs.Depths.{deep, depthAfter}
 use Rattle.syntax.specs.Items.{countOf, roomOf, noneSeen}
 use Rattle.syntax.specs.declared.Seen.{Seen}
 use Rattle.reread.specs.Known.{ReadableHead}
@@ -37,21 +38,21 @@ use Rattle.walk.specs.declared.What.the-variants as W
 unfoldable pub afterBody : ℕ → ℕ → ℕ → Bytes → ℕ → Stop
 afterBody zero k r s here = record { at = here; rec = r }
 afterBody (suc left) k r s here =
-    onBody (bodyRec k s here) (λ x next. afterBody left (openAfter x k) (r + 1) s next) (λ next. record { at = next; rec = r + 1 })
+    onBody (bodyRec (deep k) s here) (λ x next. afterBody left (depthAfter x k) (r + 1) s next) (λ next. record { at = next; rec = r + 1 })
     (record { at = here; rec = r })
 
 -- the body of a field that has one; `r` is the record of its first instruction
-abbrev pub bodyIn : Option ℕ → ℕ → Bytes → ℕ → List (Syntax.Instr Identifier)
+abbrev pub bodyIn : Option Inside → ℕ → Bytes → ℕ → List (Syntax.Instr Identifier)
 bodyIn none r s here = []
-bodyIn (some k) r s here = bodyFrom (4096 - r) k s here
+bodyIn (some i) r s here = bodyFrom (4096 - r) (length (i .blocks)) s here
 
-abbrev pub afterField : Option ℕ → ℕ → Bytes → ℕ → Stop
+abbrev pub afterField : Option Inside → ℕ → Bytes → ℕ → Stop
 afterField none r s here = record { at = here; rec = r }
-afterField (some k) r s here = afterBody (4096 - r) k r s here
+afterField (some i) r s here = afterBody (4096 - r) (length (i .blocks)) r s here
 
-abbrev pub bodies : Option ℕ → ℕ
+abbrev pub bodies : Option Inside → ℕ
 bodies none = 0
-bodies (some k) = 1
+bodies (some i) = 1
 
 -- ## One field
 
@@ -78,9 +79,9 @@ cursorAfter c f s here =
     }
 
 -- does the body of a field that has one read to its end? `r` is the record of its first instruction
-abbrev pub wholeField : Option ℕ → ℕ → Bytes → ℕ → Bool
+abbrev pub wholeField : Option Inside → ℕ → Bytes → ℕ → Bool
 wholeField none r s here = true
-wholeField (some k) r s here = wholeBody (4096 - r) k s here
+wholeField (some i) r s here = wholeBody (4096 - r) (length (i .blocks)) s here
 
 -- a field that was read, or none
 abbrev pub onField : {B : Type 0} → Step (FieldRec Identifier) → (FieldRec Identifier → ℕ → B) → B → B
@@ -155,9 +156,9 @@ fieldsIn s = fieldsAhead begin s
 -- ## The ends of bodies, in the work area
 
 -- the place after a body, and the record after it with what the body may use
-abbrev pub endOf : Option ℕ → Cursor → List (Syntax.Instr Identifier) → List ℕ
+abbrev pub endOf : Option Inside → Cursor → List (Syntax.Instr Identifier) → List ℕ
 endOf none c b = []
-endOf (some k) c b = c .at ∷ endWord (c .rec) (anyUse b) ∷ []
+endOf (some i) c b = c .at ∷ endWord (c .rec) (anyUse b) ∷ []
 
 unfoldable pub endHere : Cursor → Bytes → Visited → List ℕ
 endHere c s v = endOf (fieldBody (v .field)) (v .next) (bodyIn (fieldBody (v .field)) (c .rec + 1) s (v .head-end))

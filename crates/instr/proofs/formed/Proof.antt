@@ -1,5 +1,6 @@
-use Rattle.definition.specs.Instructions.{instruction}
+use Rattle.definition.specs.Instructions.{instruction, admits}
 use Rattle.expr.proofs.Ways.{plain-answers}
+use Rattle.instr.specs.Bodies.{deepInstr}
 use Rattle.instr.proofs.Ways.{instr-answers, form-is}
 use Rattle.laws.proofs.Ways.{ways}
 use Rattle.token.proofs.Ways.{answers}
@@ -15,7 +16,7 @@ enum-told : tie.Need-enum-told
 enum-told c = search needs
 
 returns : tie.Need-returns
-unfolding instruction
+unfolding instruction admits deepInstr
 returns c = search (form-is, ways, answers, use-answers, plain-answers, instr-answers) depth 10
 
 enum-told-2 : tie.Need-enum-told-2
@@ -25,7 +26,7 @@ opens-requires : tie.Need-opens-requires
 opens-requires c κs = search needs
 
 returns-2 : tie.Need-returns-2
-unfolding instruction
+unfolding instruction admits deepInstr
 returns-2 c = search (form-is, ways, answers, use-answers, plain-answers, instr-answers) depth 10
 
 enum-told-3 : tie.Need-enum-told-3
@@ -35,7 +36,7 @@ elses-requires : tie.Need-elses-requires
 elses-requires c κs = search needs
 
 returns-3 : tie.Need-returns-3
-unfolding instruction
+unfolding instruction admits deepInstr
 returns-3 c = search (form-is, ways, answers, use-answers, plain-answers, instr-answers) depth 10
 
 enum-told-4 : tie.Need-enum-told-4
@@ -45,7 +46,7 @@ ends-requires : tie.Need-ends-requires
 ends-requires c κs = search needs
 
 returns-4 : tie.Need-returns-4
-unfolding instruction
+unfolding instruction admits deepInstr
 returns-4 c = search (form-is, ways, answers, use-answers, plain-answers, instr-answers) depth 10
 
 enum-told-5 : tie.Need-enum-told-5
@@ -55,7 +56,7 @@ indirect-requires : tie.Need-indirect-requires
 indirect-requires c κs = search needs
 
 returns-5 : tie.Need-returns-5
-unfolding instruction
+unfolding instruction admits deepInstr
 returns-5 c = search (form-is, ways, answers, use-answers, plain-answers, instr-answers) depth 10
 
 enum-known-what : tie.Need-enum-known-what
@@ -68,14 +69,14 @@ enum-known-p : tie.Need-enum-known-p
 enum-known-p c = search needs
 
 returns-6 : tie.Need-returns-6
-unfolding instruction
+unfolding instruction admits deepInstr
 returns-6 c = search (form-is, ways, answers, use-answers, plain-answers, instr-answers) depth 10
 
 enum-known-e : tie.Need-enum-known-e
 enum-known-e c = search needs
 
 returns-7 : tie.Need-returns-7
-unfolding instruction
+unfolding instruction admits deepInstr
 returns-7 c = search (form-is, ways, answers, use-answers, plain-answers, instr-answers) depth 10
 
 pub formed-spec : {M : Type 1} → statement M

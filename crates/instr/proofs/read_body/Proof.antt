@@ -1,6 +1,6 @@
 use Rattle.definition.specs.Instructions.{bodyRec}
 use Rattle.expr.proofs.Ways.{plain-answers}
-use Rattle.instr.proofs.Ways.{instr-answers}
+use Rattle.instr.proofs.Ways.{instr-answers, deep-shut, deep-not-shut}
 use Rattle.laws.proofs.Ways.{ways}
 use Rattle.token.proofs.Ways.{answers}
 use Rattle.typeuse.proofs.Ways.{use-answers}
@@ -16,11 +16,11 @@ enum-known-b c = search needs
 
 returns : tie.Need-returns
 unfolding bodyRec
-returns c = search (ways, answers, use-answers, plain-answers, instr-answers) depth 12
+returns c = search (deep-shut, deep-not-shut, ways, answers, use-answers, plain-answers, instr-answers) depth 12
 
 returns-2 : tie.Need-returns-2
 unfolding bodyRec
-returns-2 c = search (ways, answers, use-answers, plain-answers, instr-answers) depth 12
+returns-2 c = search (deep-shut, deep-not-shut, ways, answers, use-answers, plain-answers, instr-answers) depth 12
 
 formed-requires : tie.Need-formed-requires
 formed-requires c κs = search needs

@@ -3,8 +3,11 @@ use borrow.Author.Needs.{needs}
 use Rattle.next_record.proofs.skim.elses.Statement.{statement}
 use Rattle.next_record.proofs.skim.elses.Tie as tie
 
-pass-label-requires : tie.Need-pass-label-requires
-pass-label-requires c κs = search needs
+may-else-requires : tie.Need-may-else-requires
+may-else-requires c κs = search needs
+
+pass-identifier-requires : tie.Need-pass-identifier-requires
+pass-identifier-requires c κs = search needs
 
 enum-known-next : tie.Need-enum-known-next
 enum-known-next c = search needs
@@ -24,14 +27,23 @@ refused-requires c κs = search needs
 returns-2 : tie.Need-returns-2
 returns-2 c = search skims depth 8
 
+refused-requires-2 : tie.Need-refused-requires-2
+refused-requires-2 c κs = search needs
+
+returns-3 : tie.Need-returns-3
+returns-3 c = search skims depth 8
+
 pub elses-spec : {M : Type 1} → statement M
 elses-spec =
     tie.close
     (tie.spec
-    pass-label-requires
+    may-else-requires
+    pass-identifier-requires
     enum-known-next
     on-requires
     returns
     enum-known-n
     refused-requires
-    returns-2)
+    returns-2
+    refused-requires-2
+    returns-3)

@@ -21,11 +21,11 @@ read-type-use-requires c κs = search needs
 enum-known-t : tie.Need-enum-known-t
 enum-known-t c = search needs
 
-add-on : tie.Need-add-on
-add-on c = search needs
-
 is-short-requires : tie.Need-is-short-requires
 is-short-requires c κs = search needs
+
+add-on : tie.Need-add-on
+add-on c = search needs
 
 on-requires : tie.Need-on-requires
 on-requires c κs = search needs
@@ -61,8 +61,8 @@ opens-spec =
     enum-known-a
     read-type-use-requires
     enum-known-t
-    add-on
     is-short-requires
+    add-on
     on-requires
     returns-2
     enum-known-n

@@ -1,20 +1,23 @@
 use Prim.Native.Nat.{_-_}
-use Rattle.stream.proofs.Loop.{Going, begin, walk-ends, walk-refused, full-walk, less-field, again-field, refused-field, less-instr, again-first, again-second, end-fits, end-few, ended-fits, less-end, again-end, refused-instr}
+use Rattle.stream.proofs.Loop.{Going, begin, walk-ends, walk-refused, full-walk, less-field, again-field, refused-field, less-on, on-first, on-second, less-opens, opens-first, opens-second, less-elses, again-elses, less-ends, again-ends, end-fits, end-few, ended-fits, less-end, again-end, refused-instr}
 use borrow.Author.Needs.{needs}
 use Rattle.stream.proofs.pass.read_records.Statement.{statement}
 use Rattle.stream.proofs.pass.read_records.Tie as tie
 
 abbrev Inv-loop : tie.InvT-loop
-Inv-loop s work₀ p₀ seen₀ ended₀ used₀ work p seen ended used = Going s work₀ p seen ended used work
+Inv-loop s work₀ p₀ seen₀ marks₀ ended₀ used₀ work p seen marks ended used = Going s work₀ p marks seen ended used work
 
 abbrev μ-loop : tie.MeasureT-loop
-μ-loop s work₀ p₀ seen₀ ended₀ used₀ work p seen ended used = 4097 - p .rec
+μ-loop s work₀ p₀ seen₀ marks₀ ended₀ used₀ work p seen marks ended used = 4097 - p .rec
 
 start-requires : tie.Need-start-requires Inv-loop μ-loop
 start-requires c κs = search needs
 
 none-requires : tie.Need-none-requires Inv-loop μ-loop
 none-requires c κs = search needs
+
+none-requires-2 : tie.Need-none-requires-2 Inv-loop μ-loop
+none-requires-2 c κs = search needs
 
 loop-holds : tie.Need-loop-holds Inv-loop μ-loop
 loop-holds c = search begin
@@ -74,19 +77,61 @@ enum-known-what-3 : tie.Need-enum-known-what-3 Inv-loop μ-loop
 enum-known-what-3 c = search needs
 
 loop-less-2 : tie.Need-loop-less-2 Inv-loop μ-loop
-loop-less-2 c = search less-instr
+loop-less-2 c = search less-on
 
 loop-again-2 : tie.Need-loop-again-2 Inv-loop μ-loop
-loop-again-2 c = search again-first
+loop-again-2 c = search on-first
 
 loop-less-3 : tie.Need-loop-less-3 Inv-loop μ-loop
-loop-less-3 c = search less-instr
+loop-less-3 c = search less-on
 
 loop-again-3 : tie.Need-loop-again-3 Inv-loop μ-loop
-loop-again-3 c = search again-second
+loop-again-3 c = search on-second
+
+enum-known-what-4 : tie.Need-enum-known-what-4 Inv-loop μ-loop
+enum-known-what-4 c = search needs
+
+with-block-requires : tie.Need-with-block-requires Inv-loop μ-loop
+with-block-requires c κs = search needs
+
+loop-less-4 : tie.Need-loop-less-4 Inv-loop μ-loop
+loop-less-4 c = search less-opens
+
+loop-again-4 : tie.Need-loop-again-4 Inv-loop μ-loop
+loop-again-4 c = search opens-first
+
+loop-less-5 : tie.Need-loop-less-5 Inv-loop μ-loop
+loop-less-5 c = search less-opens
+
+loop-again-5 : tie.Need-loop-again-5 Inv-loop μ-loop
+loop-again-5 c = search opens-second
 
 enum-told : tie.Need-enum-told Inv-loop μ-loop
 enum-told c = search needs
+
+without-else-requires : tie.Need-without-else-requires Inv-loop μ-loop
+without-else-requires c κs = search needs
+
+loop-less-6 : tie.Need-loop-less-6 Inv-loop μ-loop
+loop-less-6 c = search less-elses
+
+loop-again-6 : tie.Need-loop-again-6 Inv-loop μ-loop
+loop-again-6 c = search again-elses
+
+enum-told-2 : tie.Need-enum-told-2 Inv-loop μ-loop
+enum-told-2 c = search needs
+
+without-block-requires : tie.Need-without-block-requires Inv-loop μ-loop
+without-block-requires c κs = search needs
+
+loop-less-7 : tie.Need-loop-less-7 Inv-loop μ-loop
+loop-less-7 c = search less-ends
+
+loop-again-7 : tie.Need-loop-again-7 Inv-loop μ-loop
+loop-again-7 c = search again-ends
+
+enum-told-3 : tie.Need-enum-told-3 Inv-loop μ-loop
+enum-told-3 c = search needs
 
 put-end-requires : tie.Need-put-end-requires Inv-loop μ-loop
 put-end-requires c κs = (search needs, search end-fits, search end-few)
@@ -94,14 +139,14 @@ put-end-requires c κs = (search needs, search end-fits, search end-few)
 add-ended : tie.Need-add-ended Inv-loop μ-loop
 add-ended c = search ended-fits
 
-loop-less-4 : tie.Need-loop-less-4 Inv-loop μ-loop
-loop-less-4 c = search less-end
+loop-less-8 : tie.Need-loop-less-8 Inv-loop μ-loop
+loop-less-8 c = search less-end
 
-loop-again-4 : tie.Need-loop-again-4 Inv-loop μ-loop
-loop-again-4 c = search again-end
+loop-again-8 : tie.Need-loop-again-8 Inv-loop μ-loop
+loop-again-8 c = search again-end
 
-enum-known-what-4 : tie.Need-enum-known-what-4 Inv-loop μ-loop
-enum-known-what-4 c = search needs
+enum-known-what-5 : tie.Need-enum-known-what-5 Inv-loop μ-loop
+enum-known-what-5 c = search needs
 
 refused-requires-3 : tie.Need-refused-requires-3 Inv-loop μ-loop
 refused-requires-3 c κs = search needs
@@ -120,6 +165,7 @@ read-records-spec =
     μ-loop
     start-requires
     none-requires
+    none-requires-2
     loop-holds
     at-end-requires
     same-length
@@ -143,12 +189,26 @@ read-records-spec =
     loop-again-2
     loop-less-3
     loop-again-3
-    enum-told
-    put-end-requires
-    add-ended
+    enum-known-what-4
+    with-block-requires
     loop-less-4
     loop-again-4
-    enum-known-what-4
+    loop-less-5
+    loop-again-5
+    enum-told
+    without-else-requires
+    loop-less-6
+    loop-again-6
+    enum-told-2
+    without-block-requires
+    loop-less-7
+    loop-again-7
+    enum-told-3
+    put-end-requires
+    add-ended
+    loop-less-8
+    loop-again-8
+    enum-known-what-5
     refused-requires-3
     same-length-4
     returns-4)
