@@ -72,6 +72,8 @@ pub struct Reader<'a> {
     at: usize,
     pub record: u32,
     pub open_blocks: u32,
+    /// For each open block, by its depth: may an else still come?
+    takes_else: u128,
     items: [u32; SPACES],
     started: bool,
 }
@@ -81,7 +83,7 @@ impl<'a> Reader<'a> {
         if stream.len() > STREAM {
             return Err((1, 0));
         }
-        Ok(Reader { stream, at: 0, record: 0, open_blocks: 0, items: [0; SPACES], started: false })
+        Ok(Reader { stream, at: 0, record: 0, open_blocks: 0, takes_else: 0, items: [0; SPACES], started: false })
     }
 
     pub fn at_end(&self) -> bool {
@@ -335,7 +337,18 @@ impl<'a> Reader<'a> {
             0x02..=0x04 if self.open_blocks == OPEN_BLOCKS => return Err(7),
             0x05 | 0x0B if self.open_blocks == 0 => return Err(8),
             0xFF if self.open_blocks > 0 => return Err(8),
-            0x02..=0x04 => self.open_blocks += 1,
+            0x02..=0x04 => {
+                let bit = 1 << self.open_blocks;
+                self.takes_else = if opcode == 0x04 { self.takes_else | bit } else { self.takes_else & !bit };
+                self.open_blocks += 1;
+            }
+            0x05 => {
+                let bit = 1 << (self.open_blocks - 1);
+                if self.takes_else & bit == 0 {
+                    return Err(8);
+                }
+                self.takes_else &= !bit;
+            }
             0x0B => self.open_blocks -= 1,
             _ => {}
         }

@@ -22,6 +22,7 @@ import argparse
 import os
 import random
 import sys
+from collections import namedtuple
 
 sys.path.insert(0, os.path.join(os.path.dirname(os.path.abspath(__file__)), '..'))
 import paths
@@ -42,6 +43,11 @@ NAMES = [b'a', b'b', b'c', b'd', b'aa', b'ab', b'ba', b'aab', b'x', b'l', b'f', 
 NUMBERS = (0, 0, 0, 1, 1, 2, 3, 5, 63, 64, 127, 128, 255, 256, 8191, 8192, 16383, 16384, 2**20, 2**21 - 1, 2**21,
            2**27, 2**28 - 1, 2**28, 2**31 - 1, 2**31, 2**32 - 1)
 
+BLOCK, LOOP, IF, ELSE, END = b'\x02', b'\x03', b'\x04', b'\x05', b'\x0B'
+
+# A block that is open: its label or None, and whether it is an if without else.
+Open = namedtuple('Open', 'label awaits_else')
+
 WITHOUT_OPERAND = [opcode for opcode in OPCODES
                    if opcode in (0x00, 0x01, 0x0F, 0x1A, 0x1B, 0xD1) or 0x45 <= opcode <= 0xC4]
 
@@ -60,11 +66,13 @@ EDGES32, EDGES64 = edge_numbers(32), edge_numbers(64)
 
 class Maker:
     """One stream. `faults` gives, for a refusal, how often a place that can
-    have it gets it; 13 is for items, 'local' for a function's names. `unnamed`
-    gives for both how often there is no name, and `pool` has the names."""
+    have it gets it; 8 is an else where none may be, 13 is for items, 'local' for
+    a function's names. `unnamed` gives for both how often there is no name, and
+    `pool` has the names."""
 
     unnamed = {13: 0.35, 'local': 0.35}
     pool = NAMES
+    reach = 1                           # how much of `instruction` there is; blocks come first
 
     def __init__(self, chance, faults=None):
         self.chance = chance
@@ -365,39 +373,49 @@ class Maker:
 
     def body(self, local_names, size):
         """Some instructions, all blocks closed, and FF."""
-        labels = []
+        blocks = []
         for _ in range(size):
-            self.out.append(self.instruction(local_names, labels))
-        while labels:
-            self.out.append(self.end(0x0B, labels))
+            self.out.append(self.instruction(local_names, blocks))
+        while blocks:
+            self.out.append(self.end(blocks))
         self.out.append(b'\xFF')
 
-    def end(self, opcode, labels):
-        """An else or end, with the block's label or none; with fault 17 with
+    def repeated(self, label, blocks):
+        """The label on an else or end: the block's or none; with fault 17
         another's, or one where there is none."""
-        label = labels[-1]
-        if opcode == 0x0B:
-            labels.pop()
         said = label if self.random() < 0.4 else None
         if self.fault(17):
-            said = self.pick(NAMES[:6] + [other for other in labels if other])
-        return bytes([opcode]) + self.identifier(said)
+            said = self.pick(NAMES[:6] + [other.label for other in blocks if other.label])
+        return self.identifier(said)
 
-    def instruction(self, local_names, labels):
-        """One instruction; `labels` are those of the open blocks."""
-        way = self.random()
+    def end(self, blocks):
+        """The end of the innermost block."""
+        label = blocks.pop().label
+        return END + self.repeated(label, blocks)
+
+    def else_(self, blocks):
+        """The else of the innermost block."""
+        blocks[-1] = blocks[-1]._replace(awaits_else=False)
+        return ELSE + self.repeated(blocks[-1].label, blocks)
+
+    def instruction(self, local_names, blocks):
+        """One instruction; `blocks` are the open ones."""
+        way = self.random() * self.reach
         names = self.names
         if way < 0.14:
             label = self.pick(NAMES[:5]) if self.random() < 0.6 else None
             use = self.use(block=True)
-            labels.append(label)
-            return bytes([self.pick((2, 3, 4))]) + self.identifier(label) + use
-        if way < 0.26 and labels:
-            return self.end(self.pick((5, 0x0B, 0x0B)), labels)
+            opcode = self.pick((BLOCK, LOOP, IF, IF))
+            blocks.append(Open(label, opcode == IF))
+            return opcode + self.identifier(label) + use
+        if way < 0.26 and blocks:
+            if self.fault(8) or blocks[-1].awaits_else and self.random() < 0.5:
+                return self.else_(blocks)
+            return self.end(blocks)
         if way < 0.38:
             return bytes([self.pick((0x20, 0x21, 0x22))]) + self.index(local_names)
         if way < 0.46:
-            shown = [label for label in labels if label]
+            shown = [block.label for block in blocks if block.label]
             if self.random() < 0.6:
                 return bytes([self.pick((0x0C, 0x0D))]) + self.index(shown)
             count = self.pick((0, 1, 2, 4))
@@ -427,9 +445,19 @@ WRITERS = {'import': Maker.imported, 'func': Maker.func, 'table': Maker.table, '
            'data': Maker.data_segment}
 
 
+class Brancher(Maker):
+    """Functions of blocks above all."""
+
+    reach = 0.4
+
+    def planned_fields(self):
+        """Some types and functions."""
+        return ['type'] * self.pick((0, 1, 2)) + ['func'] * self.pick((1, 1, 2, 4))
+
+
 def rich(chance):
     """A stream without a fault."""
-    return Maker(chance).stream()
+    return (Brancher if chance.random() < 0.1 else Maker)(chance).stream()
 
 
 def faulty(chance):
@@ -442,7 +470,7 @@ def faulty(chance):
 # Edges. Each gives a stream from a source of chance.
 
 FUNCTION = bytes.fromhex('03 00 00 00 00 00 00 00')
-END = bytes.fromhex('0B 00')
+ENDED = END + b'\0'              # without a label
 
 
 def near(chance, ceiling):
@@ -529,7 +557,7 @@ def many_types(chance):
         elif way == 1:
             body.append(b'\x11\0' + use(signature))
         else:
-            body.append(b'\2\0' + use(signature, b'\x7F\x7F') + END)
+            body.append(b'\2\0' + use(signature, b'\x7F\x7F') + ENDED)
     own = use(signature_number(chance.randrange(300)))
     out.append(b'\3\0\0\0' + own + b'\0' + b''.join(body) + b'\xFF')
     # first or last, something for 11, 13 or 14 to say
@@ -549,7 +577,7 @@ def wide_signature(chance):
         b'\3\0\0\0' + use(parameters, results) + variables + b'\x20\2' + sized(b'n63') + b'\xFF',
         type_record(b't', parameters) + b'\3\0\0\0\2\1t\0\0' + variables + b'\x22\2' + sized(b'n62') + b'\xFF',
         in_function(b'\x11\0' + use(parameters, results)),
-        in_function(b'\4\0' + use(parameters[:5], results) + END),
+        in_function(b'\4\0' + use(parameters[:5], results) + ENDED),
         b'\2\0\0\0\0' + use(parameters, results)))
 
 
@@ -560,7 +588,24 @@ def deep_blocks(chance):
     code = b''.join(b'\2' + sized(label) + use() for label in labels)
     code += b'\x0C\2' + sized(labels[0] or b'a') + b'\x0D\2' + sized(labels[-1] or b'b') + b'\x0C\2\1a'
     ends = b''.join(b'\x0B' + sized(label if chance.random() < 0.5 else b'') for label in reversed(labels))
-    return in_function(code + ends + chance.choice((b'', b'', END)))
+    return in_function(code + ends + chance.choice((b'', b'', ENDED)))
+
+
+def deep_elses(chance):
+    """Blocks, loops and ifs, up to 128 open, and an else on the way out where
+    one may stand; seldom one where none may, or one too many."""
+    count = chance.choice((1, 2, 3, 63, 64, 65, 127, 128))
+    openings = chance.choices((BLOCK, LOOP, IF), chance.choice(((1, 1, 1), (1, 1, 20), (20, 20, 1))), k=count)
+    said = ELSE + b'\0'
+    code = [opening + b'\0' + use() for opening in openings]
+    for opening in reversed(openings):
+        elses = int(opening == IF and chance.random() < 0.7)
+        if chance.random() < 1 / (2 * count):
+            elses += 1
+        code.append(said * elses + ENDED)
+        if opening == IF and not elses and chance.random() < 0.1:
+            code[-1] = BLOCK + b'\0' + use() + ENDED + said + ENDED       # after another's end
+    return in_function(b''.join(code))
 
 
 def long_lists(chance):
@@ -640,13 +685,13 @@ def two_in_one(chance):
         b'\x0A\1d\1' + table + b'\4' + constant + b'\0',
         b'\3\1f\0\0' + wrong_use + chance.choice((twice, b'\0')) + chance.choice((b'', b'\x20' + missing)) + b'\xFF',
         in_function(b'\2\1l' + wrong_use + b'\x0B' + chance.choice((b'\0', b'\1l', b'\1k'))),
-        in_function(b'\2\1l' + use() + b'\x0E\2\2\1l' + function + table + END)))
+        in_function(b'\2\1l' + use() + b'\x0E\2\2\1l' + function + table + ENDED)))
 
 
 def starts(chance):
     """One start or two, with faults that come before or after."""
     start = chance.choice((b'\x08\1\0', b'\x08\2\1a'))
-    fields = [start, chance.choice((start, b'\x08', b'')), in_function(chance.choice((b'', END, b'\x05'))), b'\1\0\0\0']
+    fields = [start, chance.choice((start, b'\x08', b'')), in_function(chance.choice((b'', ENDED, ELSE))), b'\1\0\0\0']
     chance.shuffle(fields)
     return b''.join(fields)
 
@@ -667,11 +712,11 @@ def block_types(chance):
     for number in (0, 62, 63, 64, 65, 127, 128, 129, 8191, 8192, 2**32 - 1):
         way = chance.randrange(3)
         if way == 0 or number >= count:
-            code += bytes([chance.choice((2, 3, 4)), 0]) + use(index=b'\1' + groups(number)) + END
+            code += bytes([chance.choice((2, 3, 4)), 0]) + use(index=b'\1' + groups(number)) + ENDED
         elif way == 1:
-            code += b'\3\0' + use(index=b'\2' + sized(named(number))) + END
+            code += b'\3\0' + use(index=b'\2' + sized(named(number))) + ENDED
         else:
-            code += b'\4\0' + use(signature_number(number), b'\x7F\x7E') + END
+            code += b'\4\0' + use(signature_number(number), b'\x7F\x7E') + ENDED
     return b''.join(out) + in_function(code)
 
 
@@ -695,12 +740,12 @@ def all_opcodes(chance):
         else:
             code = b'\1' + groups(chance.choice(NUMBERS))
         maker.out.append(bytes([opcode]) + code)
-    return b''.join(maker.out) + END * 2 + b'\xFF'
+    return b''.join(maker.out) + ENDED * 2 + b'\xFF'
 
 
 EDGES = (many_items, many_types, wide_signature, deep_blocks, long_lists, many_records, long_stream, long_module, sizes,
          all_constants, block_types, all_opcodes) * 2 + (long_texts, wide_numbers, two_in_one, starts, many_types,
-                                                         wide_signature) * 4
+                                                         wide_signature, deep_elses) * 4
 
 
 def edges(chance):
@@ -802,9 +847,12 @@ def names(chance):
 
 def damaged(chance):
     """Bytes changed, mostly refused while reading; numbers in too many groups;
-    or whole records moved."""
-    if chance.random() < 0.08:
+    an else where none may be; or whole records moved."""
+    way = chance.random()
+    if way < 0.08:
         return Maker(chance, {19: chance.choice((0.003, 0.02, 0.2))}).stream()
+    if way < 0.16:
+        return Brancher(chance, {8: chance.choice((0.03, 0.1, 0.5))}).stream()
     stream = bytearray(chance.choice((rich, rich, faulty, edges if chance.random() < 0.05 else rich))(chance))
     if chance.random() < 0.4:
         return moved(chance, bytes(stream))

@@ -317,17 +317,24 @@ class Rich:
             self.put(make.segment(byte, self.name(), place), inside)
 
     def body(self, size):
-        depth = 0
+        blocks = []                     # the open ones, each with whether an else may come
         for _ in range(size):
             opcode = self.chance.choice(
                 self.chance.choice([[2, 3, 4], [5, 0x0B], [0x0B], [0x0C, 0x0D, 0x0E], [0x10, 0x11],
                                     [0x20, 0x21, 0x22, 0x23, 0x24], range(0x28, 0x41),
                                     [0x41, 0x42, 0x43, 0x44], [0xD0, 0xD1, 0xD2], model.OPCODES]))
-            if opcode in (5, 0x0B) and depth == 0:
-                opcode = 2
-            depth += {2: 1, 3: 1, 4: 1, 0x0B: -1}.get(opcode, 0)
+            if opcode == model.ELSE and not (blocks and blocks[-1]):
+                opcode = model.IF
+            if opcode == model.END and not blocks:
+                opcode = model.BLOCK
+            if opcode in (model.BLOCK, model.LOOP, model.IF):
+                blocks.append(opcode == model.IF)
+            elif opcode == model.ELSE:
+                blocks[-1] = False
+            elif opcode == model.END:
+                blocks.pop()
             self.instruction(opcode)
-        for _ in range(depth):
+        for _ in blocks:
             self.instruction(0x0B)
         self.put(self.make.byte(0xFF))
 
@@ -446,7 +453,7 @@ def kinds():
     yield 'func, bare use', [], m.function(b'', [], bare), b'\xFF'
     yield 'func, numbered use', [], m.function(b'', [], numbered, [(b'', 0x7F)]), b'\xFF'
     end = hexed('0B 00 FF')
-    opened = m.block(2, b'', m.use())
+    opened = m.block(model.IF, b'', m.use())
     for opcode in (2, 3, 4):
         yield 'block %02X' % opcode, [head], m.block(opcode, b'lab', use), end
     yield 'block, numbered use', [head], m.block(2, b'', numbered), end
@@ -553,6 +560,8 @@ def sweeps():
             ('first byte of an instruction, FF after', func, 'FF'),
             ('first byte of an instruction, an index after', func, '01 00 FF'),
             ('first byte of an instruction in a block', func + '02 00 00 00 00', '00 0B 00 FF'),
+            ('first byte of an instruction in an if', func + '04 00 00 00 00', '00 0B 00 FF'),
+            ('first byte of an instruction after an else', func + '04 00 00 00 00 05 00', '00 0B 00 FF'),
             ('parameter of a type', '01 00 01', '00'),
             ('result of a type', '01 00 00 01', ''),
             ('parameter of a use', '03 00 00 00 00 01 00', '00 00 FF'),
@@ -599,7 +608,8 @@ def faults():
         if refusal:
             yield case
     func = hexed('03 00 00 00 00 00 00 00')
-    block, end = hexed('02 00 00 00 00'), hexed('0B 00')
+    block, loop, if_ = hexed('02 00 00 00 00'), hexed('03 00 00 00 00'), hexed('04 00 00 00 00')
+    else_, end = hexed('05 00'), hexed('0B 00')
     start = hexed('08 01 00')
     for what, text, answer in [
             # 2 between records
@@ -643,14 +653,36 @@ def faults():
             ('else after the block is closed', func + block + end + hexed('05 00 FF'), refused(8, 3)),
             ('end after the block is closed', func + block + end + end + b'\xFF', refused(8, 3)),
             ('FF in a block', func + block + b'\xFF', refused(8, 2)),
-            ('FF after else', func + block + hexed('05 00 FF'), refused(8, 3)),
+            ('FF after else', func + if_ + else_ + b'\xFF', refused(8, 3)),
             ('FF in the outer of two blocks', func + block * 2 + end + b'\xFF', refused(8, 4)),
             ('FF in 128 blocks', func + block * 128 + b'\xFF', refused(8, 129)),
             ('end in the second function', func + b'\xFF' + func + end, refused(8, 3)),
             ('end in the second function, blocks in the first',
              func + block + end + b'\xFF' + func + end, refused(8, 5)),
-            ('two elses are read', func + block + hexed('05 00 05 00') + end + b'\xFF', accepted(6)),
-            ('else of a loop is read', func + hexed('03 00 00 00 00 05 00') + end + b'\xFF', accepted(5)),
+            # 8: an else belongs to an if
+            ('else of an if', func + if_ + else_ + end + b'\xFF', accepted(5)),
+            ('else of a block', func + block + else_ + end + b'\xFF', refused(8, 2)),
+            ('else of a loop', func + loop + else_ + end + b'\xFF', refused(8, 2)),
+            ('second else', func + if_ + else_ * 2 + end + b'\xFF', refused(8, 3)),
+            ('else of a block, then the end of the stream', func + block + b'\x05', refused(8, 2)),
+            ('else of a block with a wrong identifier', func + block + hexed('05 01 20'), refused(8, 2)),
+            ('else after the inner end', func + if_ + block + end + else_ + end + b'\xFF', accepted(7)),
+            ('else after the end of an inner if with its else',
+             func + if_ + if_ + else_ + end + else_ + end + b'\xFF', accepted(8)),
+            ('second else after the end of an inner if',
+             func + if_ + else_ + if_ + else_ + end + else_ + end + b'\xFF', refused(8, 6)),
+            ('second else after the end of an inner if without else',
+             func + if_ + else_ + if_ + end + else_ + end + b'\xFF', refused(8, 5)),
+            ('else of a block after the end of an inner if', func + block + if_ + end + else_, refused(8, 4)),
+            ('else of an inner block in an if', func + if_ + block + else_ + end * 2 + b'\xFF', refused(8, 3)),
+            ('else of an inner loop in an if', func + if_ + loop + else_ + end * 2 + b'\xFF', refused(8, 3)),
+            ('else of a block in an else', func + if_ + else_ + block + else_ + end * 2 + b'\xFF', refused(8, 4)),
+            ('two ifs, one after the other', func + (if_ + else_ + end) * 2 + b'\xFF', accepted(8)),
+            ('a block after an if', func + if_ + end + block + else_, refused(8, 4)),
+            ('an if after an if with its else, at the same depth', func + if_ + else_ + end + if_ + else_ + end + b'\xFF',
+             accepted(8)),
+            ('an if in the second function', (func + if_ + else_ + end + b'\xFF') * 2, accepted(10)),
+            ('an else in the second function', func + if_ + end + b'\xFF' + func + else_, refused(8, 5)),
             # 9
             ('second start', start + start, refused(9, 1)),
             ('second start, then the end', start + b'\x08', refused(9, 1)),
@@ -744,7 +776,20 @@ def ceilings():
                in_body(block * 128 + end + block + end * 128), accepted(260))
     yield Case('128 open blocks, closed, again', in_body((block * 128 + end * 128) * 2), accepted(514))
     yield Case('128 open blocks in each of two functions', in_body(block * 128 + end * 128) * 2, accepted(516))
-    yield Case('else closes no block: 129 open', func + block * 128 + hexed('05 00') + block, refused(7, 130))
+    one_if, one_else = hexed('04 00 00 00 00'), hexed('05 00')
+    yield Case('else closes no block: 129 open', func + block * 127 + one_if + one_else + block, refused(7, 130))
+    for depth in (1, 2, 63, 64, 65, 126, 127, 128):
+        outer = (block, hexed('03 00 00 00 00'))[depth % 2] * (depth - 1)
+        yield Case('else of an if at depth %d' % depth, in_body(outer + one_if + one_else + end * depth),
+                   accepted(2 * depth + 3))
+        yield Case('second else of an if at depth %d' % depth, func + outer + one_if + one_else * 2,
+                   refused(8, depth + 2))
+        yield Case('else of a block at depth %d, all others ifs' % depth, func + one_if * (depth - 1) + block + one_else,
+                   refused(8, depth + 1))
+        yield Case('%d ifs, each with its else' % depth,
+                   in_body(one_if * depth + (one_else + end) * depth), accepted(3 * depth + 2))
+        yield Case('%d ifs, an else of the outermost, a block elsewhere' % depth,
+                   in_body(one_if + block * (depth - 1) + end * (depth - 1) + one_else + end), accepted(2 * depth + 3))
 
     # 1,024 in a count
     indices = lambda count: b'\1\0' * count

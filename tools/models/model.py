@@ -1,6 +1,6 @@
 #!/usr/bin/env python3
 """A plain model of the whole of document 01, and of document 02's call with
-names (§1) and one spelling (§5): what a call says of a stream.
+names (§1), rule of else (§3) and one spelling (§5): what a call says of a stream.
 
 It says what the documents and the standard's chapter 5 and appendix (the name
 section) say, in their order, and shares nothing with the definition, the proved

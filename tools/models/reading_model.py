@@ -1,6 +1,7 @@
 #!/usr/bin/env python3
-"""A reading of document 01's record stream, refusals 1 to 9, and 19 of document
-02 (§5), written from the documents, to be compared with the proved code.
+"""A reading of document 01's record stream, refusals 1 to 9, with document 02's
+one spelling (19, §5) and its rule of else (8, §3), written from the documents,
+to be compared with the proved code.
 
 As a module:   read(stream) -> ('ok', count of records)
                             or ('refused', number, record)
@@ -34,6 +35,7 @@ STRING_BYTES = bytes(range(0x20, 0x7F))
 
 FIELDS = bytes(range(0x01, 0x0B))
 BODY_END = 0xFF
+BLOCK, LOOP, IF, ELSE, END = 0x02, 0x03, 0x04, 0x05, 0x0B
 OPCODES = bytes([*range(0x00, 0x06), *range(0x0B, 0x12), 0x1A, 0x1B,
                  *range(0x20, 0x25), *range(0x28, 0xC5), *range(0xD0, 0xD3)])
 SPACES = ('func', 'table', 'memory', 'global', 'type', 'elem', 'data')
@@ -45,13 +47,15 @@ class Refused(Exception):
 
 class Reader:
     """One running place (byte, record number, open blocks), and what the
-    ceilings and refusal 9 need to know of the records before."""
+    ceilings and refusal 9 need to know of the records before. Of each open
+    block it is known whether an else may still come: it is an if, and has had
+    none."""
 
     def __init__(self, stream):
         self.stream = stream
         self.at = 0
         self.record = 0
-        self.open_blocks = 0
+        self.open_blocks = []           # the innermost last
         self.items = dict.fromkeys(SPACES, 0)
         self.started = False
 
@@ -304,7 +308,7 @@ class Reader:
         while True:
             first = self.begin(OPCODES + bytes([BODY_END]))
             if first == BODY_END:
-                if self.open_blocks > 0:
+                if self.open_blocks:
                     raise Refused(8)
                 self.record += 1
                 return
@@ -312,17 +316,21 @@ class Reader:
             self.record += 1
 
     def instruction(self, opcode):
-        if 0x02 <= opcode <= 0x04:                  # block, loop, if
-            if self.open_blocks == OPEN_BLOCKS:
+        if opcode in (BLOCK, LOOP, IF):
+            if len(self.open_blocks) == OPEN_BLOCKS:
                 raise Refused(7)
-            self.open_blocks += 1
+            self.open_blocks.append(opcode == IF)
             self.identifier()
             self.type_use()
-        elif opcode == 0x05 or opcode == 0x0B:      # else, end
-            if self.open_blocks == 0:
+        elif opcode == ELSE:
+            if not self.open_blocks or not self.open_blocks[-1]:
                 raise Refused(8)
-            if opcode == 0x0B:
-                self.open_blocks -= 1
+            self.open_blocks[-1] = False
+            self.identifier()
+        elif opcode == END:
+            if not self.open_blocks:
+                raise Refused(8)
+            self.open_blocks.pop()
             self.identifier()
         elif opcode == 0x0E:                        # br_table
             self.indices(self.up_to(LABELS) + 1)

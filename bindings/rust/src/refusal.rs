@@ -33,7 +33,7 @@ impl Refusal {
             5 => "an identifier is too long, has a wrong byte, or is empty in an index",
             6 => "a string is too long or has a wrong byte",
             7 => "another count passes its ceiling",
-            8 => "an else or end without an open block, or a body that ends with one open",
+            8 => "an else without an if, an end without a block, or a body that ends with one open",
             9 => "a second start",
             10 => "the work area is too short",
             11 => "an import stands after an own function, table, memory or global",

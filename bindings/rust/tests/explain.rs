@@ -209,6 +209,34 @@ fn labels_and_blocks() {
 }
 
 #[test]
+fn an_else_where_none_may_be() {
+    // An else in a block that stands in an if.
+    let body = b"\x03\0\0\0\0\0\0\0\x04\0\0\0\0\x02\x01a\0\0\0\x05\0";
+    assert_has(
+        &lines(body, 8, 3),
+        &[
+            "     2 |     block $a",
+            "       |     - the innermost open block",
+            "     3 | 05 00",
+            "       | ^^ at byte 19: the innermost open block is no if",
+        ],
+    );
+    // A second else; between them an if with its own.
+    let body = b"\x03\0\0\0\0\0\0\0\x04\0\0\0\0\x05\0\x04\0\0\0\0\x05\0\x0B\0\x05\0\x0B\0\xFF";
+    assert_has(
+        &lines(body, 8, 6),
+        &[
+            "     1 |   if",
+            "       |   - the innermost open block",
+            "     2 |   else",
+            "       |   - its else",
+            "     6 | 05 00 0B 00 FF",
+            "       | ^^ at byte 24: the if has had its else",
+        ],
+    );
+}
+
+#[test]
 fn a_late_import_and_a_second_start() {
     let mut stream = Writer::new();
     stream.start(0);

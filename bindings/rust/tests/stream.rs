@@ -335,6 +335,36 @@ fn a_number_with_a_group_too_many() {
 }
 
 #[test]
+fn an_else_belongs_to_an_if() {
+    const BLOCK: &[u8] = b"\x02\0\0\0\0";
+    const LOOP: &[u8] = b"\x03\0\0\0\0";
+    const IF: &[u8] = b"\x04\0\0\0\0";
+    const ELSE: &[u8] = b"\x05\0";
+    const END: &[u8] = b"\x0B\0";
+    let body = |parts: &[&[u8]]| {
+        read(&[b"\x03\0\0\0\0\0\0\0", &parts.concat()[..], b"\xFF"].concat())
+            .map_err(|fault| (fault.refusal.number, fault.refusal.record))
+            .map(|records| records.len())
+    };
+    assert_eq!(body(&[IF, ELSE, END]), Ok(5));
+    assert_eq!(body(&[BLOCK, ELSE, END]), Err((8, 2)));
+    assert_eq!(body(&[LOOP, ELSE, END]), Err((8, 2)));
+    assert_eq!(body(&[IF, ELSE, ELSE, END]), Err((8, 3)));
+    assert_eq!(body(&[IF, BLOCK, ELSE, END, END]), Err((8, 3)));
+    assert_eq!(body(&[IF, BLOCK, END, ELSE, END]), Ok(7));
+    assert_eq!(body(&[IF, ELSE, IF, ELSE, END, ELSE, END]), Err((8, 6)));
+    // A block where there was an if, and an if where there was one with its else.
+    assert_eq!(body(&[IF, END, BLOCK, ELSE, END]), Err((8, 4)));
+    assert_eq!(body(&[IF, ELSE, END, IF, ELSE, END]), Ok(8));
+    // As deep as blocks may be.
+    let outer = LOOP.repeat(127);
+    let ends = END.repeat(128);
+    assert_eq!(body(&[&outer, IF, ELSE, &ends]), Ok(259));
+    assert_eq!(body(&[&outer, IF, ELSE, ELSE, &ends]), Err((8, 130)));
+    assert_eq!(body(&[&outer, BLOCK, ELSE, &ends]), Err((8, 129)));
+}
+
+#[test]
 fn the_reader_ends_with_its_fault() {
     let mut reader = Reader::new(b"\x08\x01\0\0");
     assert!(reader.next().unwrap().is_ok());

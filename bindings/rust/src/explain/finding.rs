@@ -68,6 +68,9 @@ impl Space {
     }
 }
 
+/// What an else begins with.
+const ELSE: u8 = 0x05;
+
 const ITEM_SPACES: [Space; 7] = [
     Space::Type,
     Space::Func,
@@ -85,7 +88,7 @@ pub(super) fn find(account: &Account<'_>, refusal: Refusal) -> Finding {
     if let Some(fault) = account.fault {
         // Another refusal than the reader's was not given of these bytes by these rules.
         return match fault.refusal == refusal {
-            true => reading(rows, fault),
+            true => reading(account, fault),
             false => Finding::default(),
         };
     }
@@ -108,8 +111,10 @@ pub(super) fn find(account: &Account<'_>, refusal: Refusal) -> Finding {
 }
 
 /// 2 to 9 and 19: the reader says what is wrong.
-fn reading(rows: &[Row<'_>], fault: Fault) -> Finding {
+fn reading(account: &Account<'_>, fault: Fault) -> Finding {
+    let rows = &account.rows;
     let beside = match fault.refusal.number {
+        8 if account.rest.first() == Some(&ELSE) => forbidden_else(rows),
         8 => unclosed(rows),
         9 => rows
             .iter()
@@ -139,6 +144,24 @@ fn open_blocks(rows: &[Row<'_>], before: usize) -> Vec<usize> {
         }
     }
     open
+}
+
+/// 8 at an else: the innermost open block, and the else that it has had.
+fn forbidden_else(rows: &[Row<'_>]) -> Vec<(usize, String)> {
+    let open = open_blocks(rows, rows.len());
+    let Some(&block) = open.last() else {
+        return Vec::new();
+    };
+    let had = (block..rows.len()).rev().find(|at| {
+        let is_else = matches!(
+            rows[*at].record.content,
+            Content::Instruction(Instruction::Else(_))
+        );
+        is_else && open_blocks(rows, *at) == open
+    });
+    let mut beside = vec![(block, "the innermost open block".to_string())];
+    beside.extend(had.map(|row| (row, "its else".to_string())));
+    beside
 }
 
 /// 8: the blocks that are open, and the first end in this body whose label is

@@ -55,6 +55,41 @@ const TYPE: usize = 4;
 const ELEM: usize = 5;
 const DATA: usize = 6;
 
+/// The blocks that are open. A block is known by its depth, 0 for the outermost:
+/// its bit says whether it is an if, and whether it has had its else.
+#[derive(Clone, Debug, Default)]
+struct OpenBlocks {
+    count: u32,
+    ifs: u128,
+    with_else: u128,
+}
+
+impl OpenBlocks {
+    fn push(&mut self, opening: Opening) -> Step<()> {
+        if self.count == OPEN_BLOCKS {
+            return Err(&Wrong(7, "128 blocks are open already"));
+        }
+        let bit = 1 << self.count;
+        self.ifs = self.ifs & !bit | if opening == Opening::If { bit } else { 0 };
+        self.with_else &= !bit;
+        self.count += 1;
+        Ok(())
+    }
+
+    /// An else of the innermost block; there is one.
+    fn meet_else(&mut self) -> Step<()> {
+        let bit = 1 << (self.count - 1);
+        if self.ifs & bit == 0 {
+            return Err(&Wrong(8, "the innermost open block is no if"));
+        }
+        if self.with_else & bit != 0 {
+            return Err(&Wrong(8, "the if has had its else"));
+        }
+        self.with_else |= bit;
+        Ok(())
+    }
+}
+
 /// The records of a stream, in order. After a fault it ends.
 #[derive(Clone, Debug)]
 pub struct Reader<'a> {
@@ -62,7 +97,7 @@ pub struct Reader<'a> {
     at: usize,
     record: u32,
     in_body: bool,
-    open_blocks: u32,
+    open: OpenBlocks,
     items: [u32; 7],
     started: bool,
     stopped: bool,
@@ -81,7 +116,7 @@ impl<'a> Reader<'a> {
             at: 0,
             record: 0,
             in_body: false,
-            open_blocks: 0,
+            open: OpenBlocks::default(),
             items: [0; 7],
             started: false,
             stopped: false,
@@ -438,7 +473,7 @@ impl<'a> Reader<'a> {
             known,
             &Wrong(4, "no record of a body begins with this byte"),
         )? {
-            0xFF if self.open_blocks > 0 => Err(&Wrong(8, "the body ends, and a block is open")),
+            0xFF if self.open.count > 0 => Err(&Wrong(8, "the body ends, and a block is open")),
             0xFF => {
                 self.in_body = false;
                 Ok(None)
@@ -624,10 +659,13 @@ impl<'a> Reader<'a> {
             0x02 => self.open(Opening::Block)?,
             0x03 => self.open(Opening::Loop)?,
             0x04 => self.open(Opening::If)?,
-            0x05 | 0x0B if self.open_blocks == 0 => return Err(&Wrong(8, "no block is open")),
-            0x05 => Instruction::Else(self.name()?),
+            0x05 | 0x0B if self.open.count == 0 => return Err(&Wrong(8, "no block is open")),
+            0x05 => {
+                self.open.meet_else()?;
+                Instruction::Else(self.name()?)
+            }
             0x0B => {
-                self.open_blocks -= 1;
+                self.open.count -= 1;
                 Instruction::End(self.name()?)
             }
             0x0C => Instruction::Br(self.index()?),
@@ -661,10 +699,7 @@ impl<'a> Reader<'a> {
     }
 
     fn open(&mut self, opening: Opening) -> Step<Instruction<'a>> {
-        if self.open_blocks == OPEN_BLOCKS {
-            return Err(&Wrong(7, "128 blocks are open already"));
-        }
-        self.open_blocks += 1;
+        self.open.push(opening)?;
         let label = self.name()?;
         Ok(Instruction::Open(opening, label, self.type_use()?))
     }
