@@ -86,8 +86,9 @@ def faults():
     for name in sorted(code.keys() - {'WORDS', 'BYTES', 'DECLARED', 'TABLE', 'MARK'} | told.keys()):
         if code.get(name) != told.get(name):
             yield '%s is %s in %s and %s in %s' % (name, code.get(name), CODE, told.get(name), TABLE)
-    if code.get('NAMES', 0) + 7 * code.get('TABLE', 0) != code.get('UNUSED'):
-        yield '%s: seven times TABLE from NAMES on does not end at UNUSED' % CODE
+    for first, each, after in ('NAMES', code.get('TABLE', 0), 'DEFINERS'), ('DEFINERS', 256, 'LOCALS'):
+        if code.get(first, 0) + 7 * each != code.get(after):
+            yield '%s: seven times %d from %s on does not end at %s' % (CODE, each, first, after)
     numbers = re.compile(r"(?<![\w'.])(%s)(?![\w'])" % '|'.join(str(n) for n in sorted(set(code.values())) if n > 8))
     for folder, _, files in sorted(os.walk(os.path.join(ROOT, 'crates'))):
         for file in sorted(files):

@@ -45,17 +45,17 @@ NAMED = 5897
 abbrev pub NAMES : ℕ
 NAMES = 5904
 
--- after the tables of names: not used yet
-abbrev pub UNUSED : ℕ
-UNUSED = 11280
+-- for each name the record that defined its item
+abbrev pub DEFINERS : ℕ
+DEFINERS = 11280
 
 -- the function's parameters and locals
 abbrev pub LOCALS : ℕ
-LOCALS = 11536
+LOCALS = 13072
 
 -- the labels of its open blocks, the outermost first
 abbrev pub LABELS : ℕ
-LABELS = 11920
+LABELS = 13456
 
 -- the words of one table of names
 abbrev pub TABLE : ℕ

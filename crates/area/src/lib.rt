@@ -23,12 +23,12 @@ pub const TOTAL: usize = 5896;
 pub const NAMED: usize = 5897;
 // The tables of names.
 pub const NAMES: usize = 5904;
-// After the tables of names: not used yet.
-pub const UNUSED: usize = 11280;
+// For each name the record that defined its item.
+pub const DEFINERS: usize = 11280;
 // The function's parameters and locals.
-pub const LOCALS: usize = 11536;
+pub const LOCALS: usize = 13072;
 // The labels of its open blocks, the outermost first.
-pub const LABELS: usize = 11920;
+pub const LABELS: usize = 13456;
 
 // The words of one table of names.
 pub const TABLE: usize = 768;

@@ -1,5 +1,5 @@
-// Reads a stream from standard input, and writes its module, or the line "refused N at R". With the argument --names the module has a name
-// section.
+// Reads a stream from standard input, and writes its module, or the line "refused N at R", and of a name that comes twice "refused 13 at R,
+// first at F". With the argument --names the module has a name section.
 use assembler::Said;
 use libc::STDERR_FILENO;
 use libc::STDIN_FILENO;
@@ -21,7 +21,7 @@ fn report(r: Said, out: &[u8]) {
         }
         return;
     }
-    console::refused(r.number, r.rec);
+    console::refused(r.number, r.rec, r.first);
 }
 
 fn assembled(s: &[u8], work: &mut [u32], out: &mut [u8], names: bool) -> Said {

@@ -39,7 +39,7 @@ fn hex_into(hex: &mut [u8], bytes: &[u8]) {
 
 fn report(r: Said, out: &[u8], hex: &mut [u8]) {
     if r.number != 0 {
-        console::refused(r.number, r.rec);
+        console::refused(r.number, r.rec, r.first);
         return;
     }
     let len = r.len;

@@ -58,7 +58,7 @@ module _ (s w : List ℕ) (p : Passed) (w₁ b : List ℕ) (h : Prepares s w p w
   run-module names old z w₂ new e b y = rw b (writer-done false old z w₂ new e y)
 
   -- a pass has refused
-  pub run-not : (names : Bool) (old : List ℕ) (r : Refusal) → v ≡ V′.Refused r → Runs (makes names) s w old (record { number = r .number; rec = r .rec; len = 0 }) w₁ old
+  pub run-not : (names : Bool) (old : List ℕ) (r : Refusal) → v ≡ V′.Refused r → Runs (makes names) s w old (record { number = r .number; rec = r .rec; first = r .first; len = 0 }) w₁ old
   unfolding heard outputAfter
   run-not names old r e =
       let f : p .verdict ≡ V′.Refused r = sym g ∙ e in
@@ -69,7 +69,7 @@ pub call-is : (make : Maker) (s w old : List ℕ) (r : Said) (w′ w″ new : Li
 unfolding callBy outcome workAfter heard
 call-is make s w old r w′ w″ new h e =
     let z : w″ ≡ replicate (length w) 0 = e ∙ ap (λ n. replicate n 0) (h .long) in
-    λ i. record { number = h .says i .number; rec = h .says i .rec; written = h .says i .written; output = h .says i .output; work = z i }
+    λ i. record { number = h .says i .number; rec = h .says i .rec; first = h .says i .first; written = h .says i .written; output = h .says i .output; work = z i }
 
 pub plain-call : (s w old : List ℕ) (o : Outcome) → o ≡ callBy (makes false) s w old → o ≡ call s w old
 unfolding call

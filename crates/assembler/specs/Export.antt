@@ -17,9 +17,9 @@ pub record Handed : Type 0 where
 abbrev pub handed : ℕ → List ℕ → Bytes → List ℕ → Handed
 handed r a new w = record { number = r; answer = a; output = new; work = w }
 
--- number, record, written length, and the record once more
+-- number, record, written length, and where the name was first used
 abbrev pub answerOf : Outcome → List ℕ
-answerOf o = o .number ∷ o .rec ∷ o .written ∷ o .rec ∷ []
+answerOf o = o .number ∷ o .rec ∷ o .written ∷ o .first ∷ []
 
 -- an outcome, where the output goes on beyond what was lent
 unfoldable pub handedOn : Outcome → Bytes → Handed

@@ -16,7 +16,7 @@ pub record Runs (make : Maker) (s w old : List ℕ) (r : Said) (w′ new : List 
 
 -- what was said, and what output and work area are then
 abbrev pub outcomeOf : Said → Bytes → List ℕ → Assemble.Outcome
-outcomeOf r new w = record { number = r .number; rec = r .rec; written = r .len; output = new; work = w }
+outcomeOf r new w = record { number = r .number; rec = r .rec; first = r .first; written = r .len; output = new; work = w }
 
 -- what a call does with a stream, a work area and an output, by the definition
 abbrev pub Call : Type 0

@@ -13,7 +13,7 @@ fn room(len: usize) -> usize
     if len <= 4294967295 { len } else { 4294967295 }
 }
 
-// Returns the number. The answer is the number, the record, the written length, and the record once more.
+// Returns the number. The answer is the number, the record, the written length, and where the name was first used.
 fn answered(
     stream: &[u8],
     work: &mut [u32],
@@ -27,7 +27,7 @@ fn answered(
     let said = call(stream, work, &mut out[..n], names);
     let number = said.number as u32;
     let len = said.len as u32;
-    *answer = [number, said.rec, len, said.rec];
+    *answer = [number, said.rec, len, said.first];
     number
 }
 

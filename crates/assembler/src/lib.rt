@@ -24,6 +24,7 @@ fn run_keeping(s: &[u8], work: &mut [u32], out: &mut [u8], kept: &mut [u8], name
         Verdict::Refused(q) => Said {
             number: q.number,
             rec: q.rec,
+            first: q.first,
             len: 0,
         },
     }
@@ -72,7 +73,7 @@ fn call(s: &[u8], work: &mut [u32], out: &mut [u8], names: bool) -> Said
     r
 }
 
-// Any stream to its module. The answer is a number, a record and a length; the output holds the module and beyond it its old bytes, or on a
+// Any stream to its module. The answer is a number, a record, where the name was first used, and a length; the output holds the module and beyond it its old bytes, or on a
 // refusal its old bytes; the work area is all zeros.
 pub fn assemble(s: &[u8], work: &mut [u32], out: &mut [u8]) -> Said
     ensures { λ r. ⌜ Assembles (now (s .entry)) (now (work .entry)) (now (out .entry)) r (now (out .exit)) (now (work .exit)) ⌝ }

@@ -8,7 +8,7 @@ use lib.Dec.{eqb}
 use lib.ListN.{length}
 use borrow.Author.Tests.{eqb-true}
 use native.Mathlib.Omega.{arith}
-use Rattle.definition.specs.Basic.{Answer, ok, refused, _>>=_, concatMap, if_then_else_, between}
+use Rattle.definition.specs.Basic.{Answer, ok, fails, _>>=_, concatMap, if_then_else_, between}
 use Rattle.definition.specs.Syntax as Syntax
 use Rattle.definition.specs.Syntax.{Identifier, Op, Rec, instr, bodyEnd}
 use Rattle.definition.specs.Reader.{Step, got, fault, byte, give, refuse, require, _>>_}
@@ -22,7 +22,7 @@ use Rattle.syntax.specs.declared.Place.{Place}
 use Rattle.syntax.specs.declared.Refusal.{Refusal}
 use Rattle.emit.specs.Put.{Put}
 use Rattle.emit.proofs.Laws.{put-none, put-then, put-is, put-length}
-use Rattle.area.specs.Layout.{LABELS, UNUSED, WORDS}
+use Rattle.area.specs.Layout.{LABELS, LOCALS, WORDS}
 use Rattle.syntax.specs.Tokens.{byteAt}
 use Rattle.token.specs.Known.{Gets}
 use Rattle.syntax.specs.declared.ByteAt.{ByteAt}
@@ -203,7 +203,7 @@ module _ (Γ : Scope Identifier) (locals blocks : Namespace Identifier) (rec : �
     where
       go : (m : Answer (List Op)) → ((m >>= λ ys. ok (o ∷ ys)) >>= λ ys. ok (done ++ ys)) ≡ (m >>= λ ys. ok ((done ++ (o ∷ [])) ++ ys))
       go (ok ys) = ap ok (sym (append-assoc done (o ∷ []) ys))
-      go (refused n r) = refl
+      go (fails q) = refl
 
   body-not : (q : Refusal) → instrOp Γ locals blocks rec x ≡ refusedBy q → (body Γ locals blocks rec (x ∷ xs) >>= after done) ≡ refusedBy q
   unfolding body _>>=_
@@ -216,10 +216,10 @@ body-none Γ locals blocks rec done = ap ok (append-nil done)
 all-after : (m : Answer (List Op)) → m ≡ (m >>= after [])
 unfolding _>>=_ after
 all-after (ok ys) = refl
-all-after (refused n r) = refl
+all-after (fails q) = refl
 
 -- what resolving needs stays where types and type uses stay
-pub resolvable-kept : (s w w′ : List ℕ) (rec k here : ℕ) → Kept UNUSED w w′ → Resolvable s w rec k here → Resolvable s w′ rec k here
+pub resolvable-kept : (s w w′ : List ℕ) (rec k here : ℕ) → Kept LOCALS w w′ → Resolvable s w rec k here → Resolvable s w′ rec k here
 resolvable-kept s w w′ rec k here h r = record { recalled = recalled-scope s w w′ (bodyUses rec (bodyFrom (4096 - rec) k s here)) h (r .recalled); whole = r .whole }
 
 -- so much is done, and the rest decides
@@ -282,7 +282,7 @@ module _ {s w₀ : List ℕ} {l : Locals} {rec here : ℕ} {old : List ℕ} {at 
 
   -- the instruction's answer in the first area
   first : l .count ≤ 128 → (x : Syntax.Instr Identifier) (a : Answer Op) → instrOp (scopeIn s w) (localsIn s w l) (labelsIn s w (p .depth - 1)) (p .rec) x ≡ a → instrOp (scopeIn s w₀) (localsIn s w₀ l) (labelsIn s w (p .depth - 1)) (p .rec) x ≡ a
-  first h x a e = rw (scope-kept s w₀ w (kept-less UNUSED LABELS (omega arith) (v .kept)), locals-kept s w₀ w l (v .kept) h) at e
+  first h x a e = rw (scope-kept s w₀ w (kept-less LOCALS LABELS (omega arith) (v .kept)), locals-kept s w₀ w l (v .kept) h) at e
 
   module _ (res : Turn) (w′ new : List ℕ) (t : Turned s w (localsIn s w l) (p .depth - 1) (p .rec) (bodyRec (deep (p .depth - 1)) s (p .at)) out o res w′ new) (h : p .rec < 4096) where
     stepped : (a : ℕ) (q : Place) → res ≡ T.On a q → Stepped s w (localsIn s w l) (p .depth - 1) (p .rec) (bodyRec (deep (p .depth - 1)) s (p .at)) out o a q w′ new
@@ -310,7 +310,7 @@ module _ {s w₀ : List ℕ} {l : Locals} {rec here : ℕ} {old : List ℕ} {at 
             done = v .done ++ (x .op ∷ []);
             so-far = put-is (put-then (v .so-far) (x .put)) (sym (concat-snoc Binary.instruction (v .done) (x .op)));
             same = rw (x .blocks) (v .same ∙ m);
-            resolvable = resolvable-kept s w w′ (q .rec) (q .depth - 1) (q .at) (kept-less UNUSED LABELS (omega arith) (x .kept))
+            resolvable = resolvable-kept s w w′ (q .rec) (q .depth - 1) (q .at) (kept-less LOCALS LABELS (omega arith) (x .kept))
                 (resolvable-next s (p .depth - 1) (p .rec) (p .at) (x .read) (q .at) h (x .reads) (q .rec) (q .depth - 1) r i w (v .resolvable));
             deep = omega arith;
             few = x .few;

@@ -34,12 +34,16 @@ pub fn number(n: u32) {
     io::print_decimal(STDOUT_FILENO, n as u64);
 }
 
-// The line of a refusal.
-pub fn refused(n: u8, rec: u32) {
+// The line of a refusal; of a duplicate it also tells where the name was first used.
+pub fn refused(n: u8, rec: u32, first: u32) {
     text(b"refused ");
     number(n as u32);
     text(b" at ");
     number(rec);
+    if n == 13 {
+        text(b", first at ");
+        number(first);
+    }
     text(b"\n");
 }
 

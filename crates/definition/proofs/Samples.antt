@@ -10,7 +10,7 @@ use lib.IntN.{ℤ, pos, negsuc}
 use lib.ListN.{length}
 use Rattle.definition.specs.Assemble.{leastWork}
 use Rattle.definition.specs.Basic
-use Rattle.definition.specs.Basic.{Answer, ok, refused, sameBytes, concatMap}
+use Rattle.definition.specs.Basic.{Answer, ok, fails, refused, sameBytes, concatMap}
 use Rattle.definition.specs.Syntax.{Bytes, Identifier, Index, number, named, FuncType}
 use Rattle.definition.specs.Syntax
 use Rattle.definition.specs.Spaces
@@ -35,6 +35,8 @@ pub data Sample : Type 0 where
   assemblesNames : Bytes → ℕ → Bytes → Bytes → Sample
   -- a stream, a refusal's number and record
   refuses : Bytes → ℕ → ℕ → Sample
+  -- the same, and where the name was first used
+  refusesAfter : Bytes → ℕ → ℕ → ℕ → Sample
   -- a number, or an integer, and its groups
   groups : ℕ → Bytes → Sample
   signedGroups : ℤ → Bytes → Sample
@@ -46,12 +48,12 @@ pub data Sample : Type 0 where
 -- `Depth` is the sort of a label's depth: here its number
 abbrev depthIs : Answer Syntax.Depth → Answer ℕ → Bool
 depthIs (ok d) (ok n) = eqb (d .depth) n
-depthIs (ok d) (refused n r) = false
-depthIs (refused n r) (ok m) = false
-depthIs (refused n r) (refused m t) = eqb n m && eqb r t
+depthIs (ok d) (fails q) = false
+depthIs (fails p) (ok m) = false
+depthIs (fails p) (fails q) = eqb (p .number) (q .number) && eqb (p .rec) (q .rec)
 
-abbrev says : Assemble.Said → ℕ → ℕ → Bytes → Bool
-says a n r bs = eqb (a .number) n && eqb (a .rec) r && sameBytes (a .bytes) bs
+abbrev says : Assemble.Said → ℕ → ℕ → ℕ → Bytes → Bool
+says a n r q bs = eqb (a .number) n && eqb (a .rec) r && eqb (a .first) q && sameBytes (a .bytes) bs
 
 -- with a work area just long enough and the program's 65,536 bytes of output
 abbrev assembled : Bytes → Assemble.Said
@@ -61,16 +63,17 @@ abbrev assembledNames : Bytes → Assemble.Said
 assembledNames stream = Assemble.assembleNames stream leastWork 65536
 
 abbrev emptyScope : Names.Scope Identifier
-emptyScope = record { eq = sameBytes; names = λ k. []; allTypes = [] }
+emptyScope = record { eq = sameBytes; names = λ k. []; definers = λ k. []; allTypes = [] }
 
 abbrev numbersAre : List FuncType → List ℕ → Answer (List FuncType) → Bool
 numbersAre us ns (ok ts) = sameBytes (map (λ u. Types.typeNumber u ts) us) ns
-numbersAre us ns (refused n r) = false
+numbersAre us ns (fails q) = false
 
 abbrev holds : Sample → Bool
-holds (assembles stream count bytes) = says (assembled stream) 0 count bytes
-holds (assemblesNames stream count bytes names) = says (assembledNames stream) 0 count (bytes ++ names)
-holds (refuses stream n r) = says (assembled stream) n r []
+holds (assembles stream count bytes) = says (assembled stream) 0 count count bytes
+holds (assemblesNames stream count bytes names) = says (assembledNames stream) 0 count count (bytes ++ names)
+holds (refuses stream n r) = says (assembled stream) n r r []
+holds (refusesAfter stream n r q) = says (assembled stream) n r q []
 holds (groups n bs) = sameBytes (Binary.u n) bs
 holds (signedGroups z bs) = sameBytes (Binary.s z) bs
 holds (labelled blocks x a) = depthIs (Names.depthOf emptyScope blocks 0 x) a
@@ -111,6 +114,10 @@ brNumber n = 0x0C ∷ 0x01 ∷ n ∷ []
 
 abbrev bodyEnd : Bytes
 bodyEnd = 0xFF ∷ []
+
+-- a table of its own with a minimum of 0
+abbrev table : Identifier → Bytes
+table l = 0x04 ∷ length l ∷ l ++ (0x00 ∷ 0x00 ∷ 0x70 ∷ 0x00 ∷ 0x00 ∷ [])
 
 -- the preamble, and with it the sections of one function of type [] → [], up to its code
 abbrev S1 : Bytes
@@ -276,6 +283,10 @@ samples =
     ∷ refuses (function ++ if′ ++ if′ ++ else′ ++ end ++ else′ ++ else′) 8 6
     ∷ refuses (function ++ else′) 8 1
     ∷ refuses (function ++ block [] ++ (0x05 ∷ [])) 8 2
+    -- (02 §6) a memory a, a table a, a type a, a table b, a table a: the first holder is at record 1. The last of three holders is
+    -- refused before the third. Two parameters x of the second function: its own record twice
+    ∷ refusesAfter ((0x05 ∷ 0x01 ∷ 0x61 ∷ 0x00 ∷ 0x00 ∷ 0x00 ∷ 0x00 ∷ []) ++ table a ++ (0x01 ∷ 0x01 ∷ 0x61 ∷ 0x00 ∷ 0x00 ∷ []) ++ table b ++ table a) 13 4 1
+    ∷ refusesAfter (S7 0x78 ++ (0x03 ∷ 0x00 ∷ 0x00 ∷ 0x00 ∷ 0x00 ∷ 0x02 ∷ 0x01 ∷ 0x78 ∷ 0x7F ∷ 0x01 ∷ 0x78 ∷ 0x7F ∷ 0x00 ∷ 0x00 ∷ 0xFF ∷ [])) 13 3 3
     -- no name, no section
     ∷ assemblesNames [] 0 S1 []
     -- S7's parameter x is 0, and its function has no identifier; S8's l is 2
@@ -304,7 +315,7 @@ unfolding Basic._>>=_ Basic.each Basic.concatMap Basic.same Basic.sameBytes Basi
     Deinline.sourceFields Deinline.fieldsOf Deinline.bodyOf Deinline.deinlineFrom Deinline.deinline Deinline.importsFrom
     Deinline.importOrder Types.signature Types.sameType Types.typeAt Types.typeNumber Types.isInline Types.isShort Types.useOf
     Types.instrUses Types.bodyUses Types.externUses Types.ownUses Types.fieldUses Types.uses Types.declaredBy Types.declared Types.intern
-    Types.allTypes Names.find Names.taken Names.distinct Names.space Names.itemOf Names.register Names.numberIn Names.isAbsent
+    Types.allTypes Names.find Names.taken Names.distinct Names.space Names.definers Names.holder Names.itemOf Names.register Names.numberIn Names.isAbsent
     Names.paramNames Names.localsOf Names.blocksAfter Names.itemNo Names.checked Names.typeNoOf Names.typeNo Names.blockType Names.localNo
     Names.depthOf Names.immediate Names.plainOp Names.constOp Names.closes Names.instrOp Names.body Names.distinctLocals Names.ownItem
     Names.externNo Names.tableNo Names.modeOf Names.resolve Names.resolveAll Binary.unsigned Binary.u Binary.low7 Binary.over128

@@ -4,12 +4,12 @@ use mathlib.Core.Bool.{Bool}
 use mathlib.Core.List.{List, [], _++_, map}
 use lib.Dec.{leb, ltb}
 use lib.ListN.{length, drop, replicate}
-use Rattle.definition.specs.Basic.{if_then_else_, Answer, ok, refused, _>>=_, sameBytes}
+use Rattle.definition.specs.Basic.{if_then_else_, Refusal, refusal, Answer, ok, fails, refused, _>>=_, sameBytes}
 use Rattle.definition.specs.Syntax.{Bytes, Identifier, Rec, Item, typeI}
 use Rattle.definition.specs.Read.{read}
 use Rattle.definition.specs.Deinline.{deinline, importOrder, Numbered}
 use Rattle.definition.specs.Types.{allTypes, declared}
-use Rattle.definition.specs.Names.{Scope, space, register, resolveAll}
+use Rattle.definition.specs.Names.{Scope, space, definers, register, resolveAll}
 use Rattle.definition.specs.Binary.{module′}
 use Rattle.definition.specs.NameSection.{nameSection}
 
@@ -21,7 +21,7 @@ scope eq fs =
     importOrder fs >>= λ _.
     allTypes fs >>= λ ts.
     register eq [] fs >>= λ xs.
-    ok (record { eq = eq; names = λ k. space k xs; allTypes = ts })
+    ok (record { eq = eq; names = λ k. space k xs; definers = λ k. definers k xs; allTypes = ts })
 
 -- the fields in that scope: 14 to 17, and 13 for locals. Added types come after the declared ones
 unfoldable pub itemsIn : {I : Type 0} → Scope I → Numbered I → Answer (List Item)
@@ -53,18 +53,19 @@ namedModuleIn room rs =
 
 -- ## What a call says
 
--- its number, its record and the bytes that it writes at the output's start
+-- its number, its record, where the name was first used, and the bytes that it writes at the output's start
 pub record Said : Type 0 where
   pub number : ℕ
   pub rec : ℕ
+  pub first : ℕ
   pub bytes : Bytes
 
-abbrev pub refusal : ℕ → ℕ → Said
-refusal n r = record { number = n; rec = r; bytes = [] }
+abbrev pub refusing : Refusal → Said
+refusing q = record { number = q .number; rec = q .rec; first = q .first; bytes = [] }
 
 unfoldable pub say : ℕ → Answer Bytes → Said
-say count (ok bs) = record { number = 0; rec = count; bytes = bs }
-say count (refused n r) = refusal n r
+say count (ok bs) = record { number = 0; rec = count; first = count; bytes = bs }
+say count (fails q) = refusing q
 
 -- what makes the bytes of some records in some room: each call has its own
 abbrev pub Maker : Type 0
@@ -72,7 +73,7 @@ Maker = ℕ → List (Rec Identifier) → Answer Bytes
 
 unfoldable pub sayRead : Maker → ℕ → Answer (List (Rec Identifier)) → Said
 sayRead make room (ok rs) = say (length rs) (make room rs)
-sayRead make room (refused n r) = refusal n r
+sayRead make room (fails q) = refusing q
 
 -- how many bytes a stream has at most, and how many words a work area has at least
 abbrev pub longestStream : ℕ
@@ -84,8 +85,8 @@ leastWork = 16384
 -- `work` words and `room` bytes are lent
 unfoldable pub assembleBy : Maker → Bytes → ℕ → ℕ → Said
 assembleBy make stream work room =
-    if ltb longestStream (length stream) then refusal 1 0 else
-    if ltb work leastWork then refusal 10 0 else
+    if ltb longestStream (length stream) then refusing (refusal 1 0) else
+    if ltb work leastWork then refusing (refusal 10 0) else
     sayRead make room (read stream)
 
 unfoldable pub assemble : Bytes → ℕ → ℕ → Said
@@ -109,13 +110,14 @@ workAfter old = replicate (length old) 0
 pub record Outcome : Type 0 where
   pub number : ℕ
   pub rec : ℕ
+  pub first : ℕ
   pub written : ℕ
   pub output : Bytes
   pub work : List ℕ
 
 unfoldable pub outcome : Bytes → List ℕ → Said → Outcome
 outcome output work a =
-    record { number = a .number; rec = a .rec; written = length (a .bytes); output = outputAfter output a; work = workAfter work }
+    record { number = a .number; rec = a .rec; first = a .first; written = length (a .bytes); output = outputAfter output a; work = workAfter work }
 
 unfoldable pub callBy : Maker → Bytes → List ℕ → Bytes → Outcome
 callBy make stream work output = outcome output work (assembleBy make stream (length work) (length output))

@@ -12,16 +12,29 @@ if_then_else_ false a b = b
 
 -- ## Answers
 
--- a result, or a refusal: its number and its record
+-- why a stream is refused: the number, the record at fault, and on a duplicate the record where the name was first used (document 02, §6)
+pub record Refusal : Type 0 where
+  pub number : ℕ
+  pub rec : ℕ
+  pub first : ℕ
+
+-- anything but a duplicate: the record stands for both
+abbrev pub refusal : ℕ → ℕ → Refusal
+refusal n r = record { number = n; rec = r; first = r }
+
+-- a result, or a refusal
 pub data Answer (A : Type 0) : Type 0 where
   ok : A → Answer A
-  refused : ℕ → ℕ → Answer A
+  fails : Refusal → Answer A
+
+abbrev pub refused : {A : Type 0} → ℕ → ℕ → Answer A
+refused n r = fails (refusal n r)
 
 -- first one, then the other; a refusal stops
 infixl 20 _>>=_
 unfoldable pub _>>=_ : {A B : Type 0} → Answer A → (A → Answer B) → Answer B
 ok a >>= k = k a
-refused n r >>= k = refused n r
+fails q >>= k = fails q
 
 -- each element in its turn
 unfoldable pub each : {A B : Type 0} → (A → Answer B) → List A → Answer (List B)

@@ -5,7 +5,7 @@ use mathlib.Core.Bool.{Bool, true, false, _&&_, not}
 use mathlib.Core.List.{List, [], _∷_, _++_, map, tail}
 use mathlib.Core.Option.{Option, none, some}
 use lib.ListN.{length, replicate}
-use Rattle.definition.specs.Basic.{if_then_else_, Answer, ok, refused, _>>=_, each, firstAt, isSome, at}
+use Rattle.definition.specs.Basic.{if_then_else_, Answer, ok, fails, refused, _>>=_, each, firstAt, isSome, at}
 use Rattle.definition.specs.Syntax.{ValType, Space, funcs, tables, mems, types, elems, datas, sameSpace, FuncType, ExternType, func, table, mem, global}
 use Rattle.definition.specs.Syntax.{Mode, passive, active, Index, absent, number, named, Local, TypeUse, Own, ownFunc, ownTable, ownMem, ownGlobal}
 use Rattle.definition.specs.Syntax.{Operand, nothing, label, labels, local, item, access, int32, int64, raw, Plain, Instr, opens, elses, ends, indirect, plain}
@@ -43,15 +43,20 @@ module _ {I : Type 0} (eq : I → I → Bool) where
   distinct earlier [] = true
   distinct earlier (i ∷ ns) = not (taken i earlier) && distinct (earlier ++ (i ∷ [])) ns
 
--- ## Registration: the items of a module in their order, each with its space
+-- ## Registration: the items of a module in their order, each with the record that defined it and its space
 
 abbrev pub Items : Type 0 → Type 0
-Items I = List (Space × Option I)
+Items I = List (ℕ × Space × Option I)
 
 -- the namespace of a space
 unfoldable pub space : {I : Type 0} → Space → Items I → Namespace I
 space k [] = []
-space k ((j, i) ∷ xs) = (if sameSpace k j then i ∷ [] else []) ++ space k xs
+space k ((r, j, i) ∷ xs) = (if sameSpace k j then i ∷ [] else []) ++ space k xs
+
+-- the records that defined its items, in the same order
+unfoldable pub definers : {I : Type 0} → Space → Items I → List ℕ
+definers k [] = []
+definers k ((r, j, i) ∷ xs) = (if sameSpace k j then r ∷ [] else []) ++ definers k xs
 
 -- the item that a field brings
 unfoldable pub itemOf : {I : Type 0} → Field I → Option (Space × Option I)
@@ -63,9 +68,23 @@ itemOf (startF x) = none
 itemOf (elemF i m xs) = some (elems, i)
 itemOf (dataF i m d) = some (datas, i)
 
+-- the record that defined the first of some items that carries an identifier
+abbrev pub definedAt : List ℕ → Option ℕ → Option ℕ
+definedAt rs none = none
+definedAt rs (some n) = at rs n
+
+unfoldable pub holder : {I : Type 0} → (I → I → Bool) → Option I → Namespace I → List ℕ → Option ℕ
+holder eq none ns rs = none
+holder eq (some i) ns rs = definedAt rs (find eq i ns)
+
+-- an identifier that has a holder comes twice: 13, with the holder's record (document 02, §6)
+abbrev pub unheld : {A : Type 0} → ℕ → Option ℕ → A → Answer A
+unheld r none a = ok a
+unheld r (some q) a = fails (record { number = 13; rec = r; first = q })
+
 abbrev pub registerOne : {I : Type 0} → (I → I → Bool) → ℕ → Items I → Option (Space × Option I) → Answer (Items I)
 registerOne eq r xs none = ok xs
-registerOne eq r xs (some x) = if taken eq (x .1) (space (x .0) xs) then refused 13 r else ok (xs ++ (x ∷ []))
+registerOne eq r xs (some (k, i)) = unheld r (holder eq i (space k xs) (definers k xs)) (xs ++ ((r, k, i) ∷ []))
 
 unfoldable pub register : {I : Type 0} → (I → I → Bool) → Items I → Numbered I → Answer (Items I)
 register eq xs [] = ok xs
@@ -73,10 +92,12 @@ register eq xs ((r, f) ∷ fs) = registerOne eq r xs (itemOf f) >>= λ ys. regis
 
 -- ## Indices
 
--- what names mean in a module: the test of identifiers, the namespace of each index space, and the types, added ones included
+-- what names mean in a module: the test of identifiers, the namespace of each index space with the records that defined its items, and the
+-- types, added ones included
 pub record Scope (I : Type 0) : Type 0 where
   pub eq : I → I → Bool
   pub names : Space → Namespace I
+  pub definers : Space → List ℕ
   pub allTypes : List FuncType
 
 -- the number of an identifier, or refusal 14
@@ -196,7 +217,7 @@ module _ {I : Type 0} (Γ : Scope I) where
 
   -- ## Fields
 
-  -- an identifier that comes twice among a function's parameters and locals
+  -- an identifier that comes twice among a function's parameters and locals, which are all of its own record
   unfoldable pub distinctLocals : ℕ → Namespace I → Answer (Unit {0})
   distinctLocals r locals = if distinct (Γ .eq) [] locals then ok tt else refused 13 r
 

@@ -5,8 +5,8 @@ use mathlib.Core.List.{List, [], _∷_, _++_}
 use mathlib.Core.Option.{Option, none, some}
 use lib.Dec.{leb, ltb}
 use lib.ListN.{length, getD}
-use Rattle.definition.specs.Basic.{if_then_else_, Answer, ok, refused}
-use Rattle.definition.specs.Syntax.{Bytes, Identifier, Space, Instr, Own, ownFunc, ownTable, ownMem, ownGlobal}
+use Rattle.definition.specs.Basic.{if_then_else_, Answer, ok, fails, refused, between, isSome}
+use Rattle.definition.specs.Syntax.{Bytes, Identifier, Space, Instr, opens, elses, ends, indirect, plain, Own, ownFunc, ownTable, ownMem, ownGlobal}
 use Rattle.definition.specs.Syntax.{Source, own, imported, tableOf, memOf, FieldRec, typeR, importR, itemR, exportR, startR, elemR, dataR, Rec, field, instr, bodyEnd}
 use Rattle.definition.specs.Reader.{Step, got, fault, Reader, _>>=_, give}
 use Rattle.definition.specs.Instructions.{Inside, begun, insideAfter, bodyRec, bodyBegins}
@@ -106,7 +106,7 @@ atEnd r (some i) = refused 2 r
 
 abbrev pub before : {A : Type 0} → A → Answer (List A) → Answer (List A)
 before x (ok xs) = ok (x ∷ xs)
-before x (refused n r) = refused n r
+before x (fails q) = fails q
 
 -- a reading fault stands at the record that is being read
 abbrev pub withRecord : {A B : Type 0} → ℕ → (A → ℕ → Answer B) → Step A → Answer B

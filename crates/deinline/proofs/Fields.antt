@@ -5,7 +5,7 @@ use mathlib.Core.Bool.{Bool}
 use mathlib.Core.List.{List, [], _∷_, _++_, map, map-append, append-assoc, append-nil}
 use mathlib.Core.Option.{Option, none}
 use lib.ListN.{length}
-use Rattle.definition.specs.Basic.{Answer, ok, refused, _>>=_, each, concatMap}
+use Rattle.definition.specs.Basic.{Answer, ok, fails, _>>=_, each, concatMap}
 use Rattle.definition.specs.Syntax as Syntax
 use Rattle.definition.specs.Syntax.{Bytes, Identifier, Space, ExternType, Index, number, active, Plain, Instr, TypeUse, TypeNo, Item, Field, typeF, importF, ownF, exportF, startF, elemF, dataF}
 use Rattle.definition.specs.Syntax.{ownFunc, ownTable, ownMem, ownGlobal}
@@ -53,17 +53,17 @@ use Rattle.syntax.specs.declared.Entry.the-variants as E
 both-none : {A : Type 0} (a : Answer (List A)) → both a (ok []) ≡ a
 unfolding both
 both-none (ok xs) = ap ok (append-nil xs)
-both-none (refused n r) = refl
+both-none (fails q) = refl
 
 none-both : {A : Type 0} (a : Answer (List A)) → both (ok []) a ≡ a
 unfolding both
 none-both (ok xs) = refl
-none-both (refused n r) = refl
+none-both (fails q) = refl
 
 -- the entries of what an item was resolved to
 abbrev resolvedIn : Answer Item → Answer Entries
 resolvedIn (ok i) = ok (entries i)
-resolvedIn (refused n r) = refused n r
+resolvedIn (fails q) = fails q
 
 module _ (Γ : Scope Identifier) where
   entries-none : entriesOf Γ [] ≡ ok []
@@ -78,8 +78,8 @@ module _ (Γ : Scope Identifier) where
       go : (a : Answer Item) (b : Answer (List Item))
           → ((a >>= λ y. b >>= λ ys. ok (y ∷ ys)) >>= λ is. ok (concatMap entries is)) ≡ both (resolvedIn a) (b >>= λ is. ok (concatMap entries is))
       go (ok i) (ok is) = refl
-      go (ok i) (refused n q) = refl
-      go (refused n q) b = refl
+      go (ok i) (fails q) = refl
+      go (fails q) b = refl
 
   entries-one : (r : ℕ) (f : Field Identifier) → entriesOf Γ ((r, f) ∷ []) ≡ resolvedIn (resolve Γ r f)
   entries-one r f = entries-cons r f [] ∙ ap (both (resolvedIn (resolve Γ r f))) entries-none ∙ both-none (resolvedIn (resolve Γ r f))
@@ -87,9 +87,9 @@ module _ (Γ : Scope Identifier) where
   both-assoc : {A : Type 0} (a b c : Answer (List A)) → both a (both b c) ≡ both (both a b) c
   unfolding both
   both-assoc (ok a) (ok b) (ok c) = ap ok (sym (append-assoc a b c))
-  both-assoc (ok a) (ok b) (refused n r) = refl
-  both-assoc (ok a) (refused n r) c = refl
-  both-assoc (refused n r) b c = refl
+  both-assoc (ok a) (ok b) (fails q) = refl
+  both-assoc (ok a) (fails q) c = refl
+  both-assoc (fails q) b c = refl
 
   -- what two lists of fields resolve to, they resolve to together
   pub entries-append : (xs ys : Numbered Identifier) → entriesOf Γ (xs ++ ys) ≡ both (entriesOf Γ xs) (entriesOf Γ ys)
@@ -105,17 +105,17 @@ module _ (Γ : Scope Identifier) where
 -- an item, if there is one, has a single entry, in section k
 abbrev Single : ℕ → Answer Item → Type 0
 Single k (ok i) = entries i ≡ (k, entryOf i) ∷ []
-Single k (refused n r) = Unit {0}
+Single k (fails q) = Unit {0}
 
 single-then : {A : Type 0} (k : ℕ) (a : Answer A) (f : A → Answer Item) → ((y : A) → Single k (f y)) → Single k (a >>= f)
 unfolding _>>=_
 single-then k (ok y) f h = h y
-single-then k (refused n r) f h = tt
+single-then k (fails q) f h = tt
 
 single : (k : ℕ) (a : Answer Item) → Single k a → resolvedIn a ≡ tagged k (oneOf entryOf a)
 unfolding tagged oneOf
 single k (ok i) h = ap ok h
-single k (refused n r) h = refl
+single k (fails q) h = refl
 
 module _ (Γ : Scope Identifier) (r : ℕ) where
   import-single : (n : Syntax.ImportName) (i : Option Identifier) (d : ExternType (TypeUse Identifier)) → Single 2 (resolve Γ r (importF n i d))
@@ -149,23 +149,23 @@ module _ (Γ : Scope Identifier) (r : ℕ) where
 -- a function, if there is one, has the type n and the code
 abbrev Function : TypeNo → Answer Item → Type 0
 Function n (ok i) = entries i ≡ (3, typeBytes n) ∷ (10, codeOf i) ∷ []
-Function n (refused k r) = Unit {0}
+Function n (fails q) = Unit {0}
 
 function-then : {A : Type 0} (n : TypeNo) (a : Answer A) (f : A → Answer Item) → ((y : A) → Function n (f y)) → Function n (a >>= f)
 unfolding _>>=_
 function-then n (ok y) f h = h y
-function-then n (refused k r) f h = tt
+function-then n (fails q) f h = tt
 
 -- a function's type is resolved before all else of it
 function-two : (a : Answer TypeNo) (f : TypeNo → Answer Item) → ((n : TypeNo) → Function n (f n))
     → resolvedIn (a >>= f) ≡ both (tagged 3 (oneOf typeBytes a)) (tagged 10 (oneOf codeOf (a >>= f)))
 unfolding _>>=_ tagged oneOf both
-function-two (refused k r) f h = refl
+function-two (fails q) f h = refl
 function-two (ok n) f h = go (f n) (h n)
   where
     go : (b : Answer Item) → Function n b → resolvedIn b ≡ both (ok ((3, typeBytes n) ∷ [])) (tagged 10 (oneOf codeOf b))
     go (ok i) e = ap ok e
-    go (refused k r) e = refl
+    go (fails q) e = refl
 
 module _ (Γ : Scope Identifier) (r : ℕ) where
   function-both : (i : Option Identifier) (t : TypeUse Identifier) (ls : List (Syntax.Local Identifier)) (b : List (Instr Identifier))

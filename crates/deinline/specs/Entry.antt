@@ -5,7 +5,7 @@ use mathlib.Core.Bool.{true}
 use mathlib.Core.List.{List, [], _∷_, _++_, map}
 use mathlib.Core.Option.{none}
 use lib.ListN.{length}
-use Rattle.definition.specs.Basic.{Answer, ok, refused, _>>=_, concatMap}
+use Rattle.definition.specs.Basic.{Answer, ok, fails, _>>=_, concatMap}
 use Rattle.definition.specs.Syntax as Syntax
 use Rattle.definition.specs.Syntax.{Bytes, Identifier, Space, tables, mems, number, active, Item}
 use Rattle.definition.specs.Token as Token
@@ -65,7 +65,7 @@ sectionNo (E.InlineData w n d) = 11
 -- the bytes of what was resolved, as the only entry
 unfoldable pub oneOf : {A : Type 0} → (A → Bytes) → Answer A → Answer (List Bytes)
 oneOf bytes (ok a) = ok (bytes a ∷ [])
-oneOf bytes (refused n r) = refused n r
+oneOf bytes (fails q) = fails q
 
 -- a function's type
 unfoldable pub typeBytes : Syntax.TypeNo → Bytes
@@ -212,13 +212,13 @@ entriesOf Γ fs = resolveAll Γ fs >>= λ is. ok (concatMap entries is)
 
 unfoldable pub tagged : ℕ → Answer (List Bytes) → Answer Entries
 tagged k (ok bs) = ok (map (λ b. (k, b)) bs)
-tagged k (refused n r) = refused n r
+tagged k (fails q) = fails q
 
 -- first the one, then the other
 unfoldable pub both : {A : Type 0} → Answer (List A) → Answer (List A) → Answer (List A)
 both (ok xs) (ok ys) = ok (xs ++ ys)
-both (ok xs) (refused n r) = refused n r
-both (refused n r) b = refused n r
+both (ok xs) (fails q) = fails q
+both (fails q) b = fails q
 
 unfoldable pub entryIn : Scope Identifier → Bytes → ℕ → Entry → Answer Entries
 entryIn Γ s r e = tagged (sectionNo e) (answerOf Γ s r e)

@@ -11,7 +11,7 @@ use Rattle.definition.specs.Syntax.{Identifier}
 use Rattle.definition.specs.Token.{param}
 use Rattle.definition.specs.Types.{isInline}
 use Rattle.definition.specs.Names.{Namespace, carries, find, taken, distinct, paramCount, paramNames, localsOf, distinctLocals}
-use Rattle.syntax.specs.Refusals.{refusedBy}
+use Rattle.syntax.specs.Refusals.{refusal, refusedBy}
 use Rattle.syntax.specs.declared.Refusal.{Refusal}
 use Rattle.area.specs.Layout.{BYTES, LOCALS, WORDS}
 use Rattle.syntax.specs.TypeUses.{elements, listOf, useOf}
@@ -79,9 +79,9 @@ module _ (s w : List ℕ) (rec : ℕ) (all : Namespace Identifier) where
   unfolding distinctLocals scopeIn
   are-distinct e = rw e
 
-  are-not : (q : Refusal) → distinct sameBytes [] all ≡ false → q .number ≡ 13 → q .rec ≡ rec → distinctLocals (scopeIn s w) rec all ≡ refusedBy q
+  are-not : (q : Refusal) → distinct sameBytes [] all ≡ false → q ≡ refusal 13 rec → distinctLocals (scopeIn s w) rec all ≡ refusedBy q
   unfolding distinctLocals scopeIn
-  are-not q e d f = rw (e, d, f)
+  are-not q e d = rw (e, d)
 
 -- ## With an inline type
 
@@ -91,7 +91,7 @@ module _ (s w : List ℕ) (here k : ℕ) (rec : ℕ) (r : EntriesAt) (w′ : Lis
   inline-stops q d =
       let o : Clashes s w 0 (idsAt s here k) rec q w′ = rw d at first in
       let e : distinct sameBytes [] (idsAt s here k ++ idsAt s there m) ≡ false = distinct-append sameBytes [] (idsAt s here k) (idsAt s there m) ∙ rw (o .twice) refl in
-      record { says = are-not s w rec (idsAt s here k ++ idsAt s there m) q e (o .number) (o .place); long = o .long }
+      record { says = are-not s w rec (idsAt s here k ++ idsAt s there m) q e (o .is); long = o .long }
 
   module _ (c : ℕ) (d : r ≡ E.Now c) where
     mores : Mores s w 0 (idsAt s here k) c w′
@@ -115,7 +115,7 @@ module _ (s w : List ℕ) (here k : ℕ) (rec : ℕ) (r : EntriesAt) (w′ : Lis
           let o : Clashes s w′ c (idsAt s there m) rec q w″ = rw f at second in
           let e : distinct sameBytes [] (idsAt s here k ++ idsAt s there m) ≡ false =
           distinct-append sameBytes [] (idsAt s here k) (idsAt s there m) ∙ rw (mores .free) (rw stand at (o .twice)) in
-          record { says = are-not s w rec (idsAt s here k ++ idsAt s there m) q e (o .number) (o .place); long = o .long ∙ mores .kept .long }
+          record { says = are-not s w rec (idsAt s here k ++ idsAt s there m) q e (o .is); long = o .long ∙ mores .kept .long }
 
       pub inline-set : (count : ℕ) → length (elements param s here k) ≤ 64 → length (elements param s there m) ≤ 64 → x ≡ E.Now count
           → SetsLocals s w rec (idsAt s here k ++ idsAt s there m) (L.Set (record { nameless = 0; count = count })) w″
@@ -141,7 +141,7 @@ module _ (s w : List ℕ) (t : TypeNo) (here k : ℕ) (rec : ℕ) (r : EntriesAt
   nameless-stops q d =
       let o : Clashes s w 0 (idsAt s here k) rec q w′ = rw d at put in
       let e : distinct sameBytes [] (nameless s w t ++ idsAt s here k) ≡ false = distinct-nameless sameBytes (paramCount (at (typesIn s w) (t .0))) (idsAt s here k) ∙ o .twice in
-      record { says = are-not s w rec (nameless s w t ++ idsAt s here k) q e (o .number) (o .place); long = o .long }
+      record { says = are-not s w rec (nameless s w t ++ idsAt s here k) q e (o .is); long = o .long }
 
   pub nameless-set : (p count : ℕ) → p ≡ paramCount (at (typesIn s w) (t .0)) → length s ≤ BYTES → length (elements param s here k) ≤ 64 → r ≡ E.Now count
       → SetsLocals s w rec (nameless s w t ++ idsAt s here k) (L.Set (record { nameless = p; count = count })) w′

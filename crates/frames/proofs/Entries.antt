@@ -42,9 +42,9 @@ module _ (s w : List ℕ) (count n : ℕ) (p : Part) (rec : ℕ) (e : n ≡ coun
   one-entry = omega arith
 
   module _ (t : Bool) (h : t ≡ taken sameBytes (idOf s p) (names n s w LOCALS)) where
-    pub one-taken : t ≡ true → PutsOne s w count p rec (E.Refused (refusal 13 rec)) w
+    pub one-taken : (q : Refusal) → t ≡ true → q ≡ refusal 13 rec → PutsOne s w count p rec (E.Refused q) w
     unfolding PutsOne
-    one-taken y = record { twice = rw (← e, ← h) y; number = refl; place = refl; long = refl }
+    one-taken q y d = record { twice = rw (← e, ← h) y; is = d; long = refl }
 
     pub one-put : (w′ : List ℕ) → t ≡ false → w′ ≡ entryWords s w (LOCALS + 3 * n) p → PutsOne s w count p rec (E.Now (count + 1)) w′
     unfolding PutsOne
@@ -153,6 +153,6 @@ module _ {s w₀ : List ℕ} {from place n : ℕ} {w : List ℕ} {here left coun
         unfolding PutsOne PutsAll distinct
         putting-stops j g =
             let o : Clash (taken sameBytes (idOf s (x .id)) (names count s w LOCALS)) rec j w w′ = rw g at put in
-            record { twice = sym (v .same) ∙ rw (ids, o .twice) refl; number = o .number; place = o .place; long = o .long ∙ v .kept .long }
+            record { twice = sym (v .same) ∙ rw (ids, o .twice) refl; is = o .is; long = o .long ∙ v .kept .long }
 
 pub ruleset puttings = (putting-done, putting-fault, putting-again, putting-stops)

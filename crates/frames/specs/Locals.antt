@@ -9,7 +9,7 @@ use Rattle.definition.specs.Basic.{ok, refused, sameBytes, at}
 use Rattle.definition.specs.Syntax.{Bytes, Identifier}
 use Rattle.definition.specs.Token.{param}
 use Rattle.definition.specs.Names.{Namespace, taken, distinct, paramCount, distinctLocals}
-use Rattle.syntax.specs.Refusals.{refusedBy}
+use Rattle.syntax.specs.Refusals.{refusal, refusedBy}
 use Rattle.syntax.specs.declared.Refusal.{Refusal}
 use Rattle.area.specs.Layout.{LOCALS}
 use Rattle.syntax.specs.Tokens.{idOf}
@@ -51,11 +51,10 @@ nameless s w n = replicate (paramCount (at (typesIn s w) (n .0))) none
 
 -- ## Entries
 
--- an identifier comes twice: refused by 13 at its record
+-- an identifier comes twice: refused by 13 at the function's record, which is also where it was first used
 pub record Clash (t : Bool) (rec : ℕ) (q : Refusal) (w w′ : List ℕ) : Type 0 where
   pub twice : t ≡ true
-  pub number : q .number ≡ 13
-  pub place : q .rec ≡ rec
+  pub is : q ≡ refusal 13 rec
   pub long : length w′ ≡ length w
 
 -- one entry more
@@ -79,8 +78,7 @@ pub record Mores (s w : List ℕ) (from : ℕ) (ids : Namespace Identifier) (m :
 -- an identifier of a list is there already, or comes twice in it
 pub record Clashes (s w : List ℕ) (from : ℕ) (ids : Namespace Identifier) (rec : ℕ) (q : Refusal) (w′ : List ℕ) : Type 0 where
   pub twice : distinct sameBytes (names from s w LOCALS) ids ≡ false
-  pub number : q .number ≡ 13
-  pub place : q .rec ≡ rec
+  pub is : q ≡ refusal 13 rec
   pub long : length w′ ≡ length w
 
 -- of so many locals from a place on

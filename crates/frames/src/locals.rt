@@ -32,7 +32,7 @@ fn put_local(s: &[u8], work: &mut [u32], count: u32, id: Part, rec: u32) -> Entr
 {
     let n = count as usize;
     if name_table::is_taken(s, work, area::LOCALS, n, id) {
-        return EntriesAt::Refused(Refusal { number: 13, rec });
+        return EntriesAt::Refused(syntax::refusal_at(13, rec));
     }
     name_table::put_name(s, work, area::LOCALS + 3 * n, id);
     EntriesAt::Now(count + 1)

@@ -11,7 +11,7 @@ use Rattle.definition.specs.Token as Token
 use Rattle.definition.specs.Names.{typeNo, localsOf, body, ownItem, resolve}
 use Rattle.definition.specs.Binary.{u, instruction, vec, run, runs, expr, func-code}
 use Rattle.syntax.specs.declared.Refusal.{Refusal}
-use Rattle.area.specs.Layout.{LABELS, LOCALS, UNUSED, WORDS}
+use Rattle.area.specs.Layout.{LABELS, LOCALS, WORDS}
 use Rattle.syntax.specs.TypeUses.{listOf, useOf}
 use Rattle.syntax.specs.declared.List as Code
 use Rattle.syntax.specs.declared.TypeUse.{TypeUse}
@@ -68,7 +68,7 @@ code-measured bytes a w old (E.Refused z) w′ new h = record { says = h .emits;
 body-kept : (s w w′ : List ℕ) (r here : ℕ) (l : Locals) → Kept LABELS w w′ → FewLocals l → bodyAnswer s w′ r here l ≡ bodyAnswer s w r here l
 unfolding bodyAnswer
 body-kept s w w′ r here l k f =
-    let a : scopeIn s w′ ≡ scopeIn s w = scope-kept s w w′ (kept-less UNUSED LABELS (omega arith) k) in
+    let a : scopeIn s w′ ≡ scopeIn s w = scope-kept s w w′ (kept-less LOCALS LABELS (omega arith) k) in
     let b : localsIn s w′ l ≡ localsIn s w l = locals-kept s w w′ l k (f .named) in
     rw (a, b)
 
@@ -102,7 +102,7 @@ module _ (s w : List ℕ) (ls : Code.List) (r here : ℕ) (l : Locals) (old : Li
   sized-long h = rw (m .kept .long) h
 
   pub sized-resolvable : (rec k place : ℕ) → Resolvable s w rec k place → Resolvable s w₁ rec k place
-  sized-resolvable rec k place h = resolvable-kept s w w₁ rec k place (kept-less UNUSED LABELS (omega arith) (m .kept)) h
+  sized-resolvable rec k place h = resolvable-kept s w w₁ rec k place (kept-less LOCALS LABELS (omega arith) (m .kept)) h
 
   module _ (b : ℕ) (d : q ≡ E.To b) where
     x : Wrote (codeBytes s ls) (bodyAnswer s w r here l) old (at + 1) b mid
@@ -168,12 +168,12 @@ module _ (s w : List ℕ) (r : ℕ) (n : TypeNo) (t : TypeUse) (ls : Code.List) 
     typed-long g = rw (set .kept .long) g
 
     pub typed-resolvable : (rec k place : ℕ) → Resolvable s w rec k place → Resolvable s w₁ rec k place
-    typed-resolvable rec k place g = resolvable-kept s w w₁ rec k place (kept-less UNUSED LOCALS (omega arith) (set .kept)) g
+    typed-resolvable rec k place g = resolvable-kept s w w₁ rec k place (set .kept) g
 
     body-set : body (scopeIn s w) (localsOf (typesIn s w) n (useOf s t) (listOf Token.param s ls)) [] (r + 1) (bodyFrom (4096 - (r + 1)) 0 s here) ≡ bodyAnswer s w₁ r here l
     unfolding bodyAnswer
     body-set =
-        let a : scopeIn s w₁ ≡ scopeIn s w = scope-kept s w w₁ (kept-less UNUSED LOCALS (omega arith) (set .kept)) in
+        let a : scopeIn s w₁ ≡ scopeIn s w = scope-kept s w w₁ (set .kept) in
         let b = set .locals in
         rw (a, b)
 

@@ -5,7 +5,7 @@ use mathlib.Core.List.{List, [], _∷_, _++_, append-nil}
 use lib.ListN.{getD}
 use native.Mathlib.Omega.{arith}
 use Rattle.syntax.specs.Refusals.{refusedBy}
-use Rattle.definition.specs.Basic.{Answer, ok, refused, _>>=_}
+use Rattle.definition.specs.Basic.{Answer, ok, fails, _>>=_}
 use Rattle.definition.specs.Syntax.{Bytes, FuncType}
 use Rattle.definition.specs.Types.{sameType, typeAt, takeOrAdd, intern, Uses}
 use Rattle.laws.proofs.Interning.{first-kept, Keeps, intern-keeps}
@@ -22,13 +22,13 @@ use Rattle.interning.specs.declared.uses.Used.the-variants as U
 assoc : {A B C : Type 0} (m : Answer A) (f : A → Answer B) (g : B → Answer C) → (m >>= f >>= g) ≡ (m >>= λ a. f a >>= g)
 unfolding _>>=_
 assoc (ok a) f g = refl
-assoc (refused n r) f g = refl
+assoc (fails q) f g = refl
 
 -- one answer with two ways to go on that agree
 same-after : {A B : Type 0} (m : Answer A) (f g : A → Answer B) → ((a : A) → f a ≡ g a) → (m >>= f) ≡ (m >>= g)
 unfolding _>>=_
 same-after (ok a) f g h = h a
-same-after (refused n r) f g h = refl
+same-after (fails q) f g h = refl
 
 intern-append : (ts : List FuncType) (us vs : Uses) → intern ts (us ++ vs) ≡ (intern ts us >>= λ all. intern all vs)
 unfolding intern _>>=_

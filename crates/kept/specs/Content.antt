@@ -2,7 +2,7 @@
 use Prim.Native.Nat.{ℕ}
 use mathlib.Core.Path.{_≡_}
 use mathlib.Core.List.{List, [], map}
-use Rattle.definition.specs.Basic.{Answer, ok, refused}
+use Rattle.definition.specs.Basic.{Answer, ok, fails}
 use Rattle.definition.specs.Syntax.{Bytes, FuncType}
 use Rattle.definition.specs.Binary.{funcType, inSection, joined}
 use Rattle.deinline.specs.Entry.{Entries}
@@ -14,7 +14,7 @@ pub record Fine (a : Answer Entries) : Type 0 where
 
 abbrev pub kept : Answer Entries → Entries
 kept (ok es) = es
-kept (refused n r) = []
+kept (fails q) = []
 
 -- the bytes of section k among them
 unfoldable pub bytesIn : ℕ → Answer Entries → Bytes

@@ -8,7 +8,7 @@ use lib.ListN.{length, drop, getD, length-append}
 use native.Mathlib.Decide.{decLe}
 use native.Mathlib.Omega.{arith}
 use borrow.Author.Tests.{eq-eqb, ne-eqb}
-use Rattle.definition.specs.Basic.{Answer, ok, refused, concatMap, _>>=_}
+use Rattle.definition.specs.Basic.{Answer, ok, fails, concatMap, _>>=_}
 use Rattle.definition.specs.Syntax.{Bytes, FuncType, Item, typeI}
 use Rattle.definition.specs.Names.{resolveAll}
 use Rattle.definition.specs.Binary.{u, sized, funcType, entries, inSection, joined, content, sectionOf, section, preamble, module′}
@@ -276,7 +276,7 @@ field-items declared s w = go (resolveAll (scopeIn s w) (fieldsIn s))
   where
     go : (a : Answer (List Item)) → kept (a >>= λ is. ok (concatMap entries is)) ≡ concatMap entries (keptItems a)
     go (ok is) = refl
-    go (refused n r) = unfold concatMap in refl
+    go (fails q) = unfold concatMap in refl
 
 -- all entries are those of the module's items
 pub items-are : (declared : ℕ) (s w : List ℕ) → allEntries declared s w ≡ concatMap entries (moduleItems declared s w)

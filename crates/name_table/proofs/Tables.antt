@@ -8,14 +8,14 @@ use lib.ListN.{length, getD, set, length-set}
 use native.Mathlib.Omega.{arith}
 use Rattle.definition.specs.Syntax.{Identifier, Space, funcs, tables, mems, globals, types, elems, datas, code}
 use Rattle.definition.specs.Names.{Namespace}
-use Rattle.area.specs.Layout.{NAMED, NAMES, TABLE, UNUSED}
+use Rattle.area.specs.Layout.{NAMED, NAMES, TABLE, DEFINERS}
 use Rattle.syntax.specs.Tokens.{partOf}
 use Rattle.syntax.specs.declared.Part.{Part}
 use Rattle.name_table.specs.Area.{tagOf, entry, entryWords, names}
 use Rattle.name_table.specs.Tables.{base, nameCount}
 use lib.Seq.{getD-set-other}
 use Rattle.area.specs.Kept.{Kept}
-use Rattle.area.proofs.Kept.{kept-set, kept-then}
+use Rattle.area.proofs.Kept.{kept-set, kept-then, kept-word}
 
 -- ## Where a table begins
 
@@ -28,7 +28,7 @@ code-small types = omega arith
 code-small elems = omega arith
 code-small datas = omega arith
 
-pub base-low : (k : Space) → base k + TABLE ≤ UNUSED
+pub base-low : (k : Space) → base k + TABLE ≤ DEFINERS
 unfolding base
 base-low funcs = omega arith
 base-low tables = omega arith
@@ -72,7 +72,7 @@ module _ (k : Space) (c : ℕ) (e : c ≡ code k) where
 -- ## Words that are not written
 
 module _ (s w : List ℕ) (at : ℕ) (p : Part) where
-  words-other : (i : ℕ) → (i ≡ at → ⊥) → (i ≡ at + 1 → ⊥) → (i ≡ at + 2 → ⊥) → getD (entryWords s w at p) i 0 ≡ getD w i 0
+  pub words-other : (i : ℕ) → (i ≡ at → ⊥) → (i ≡ at + 1 → ⊥) → (i ≡ at + 2 → ⊥) → getD (entryWords s w at p) i 0 ≡ getD w i 0
   unfolding entryWords
   words-other i a b c =
       let x = set w at (min (p .at) (length s)) in
@@ -112,6 +112,18 @@ module _ (s w : List ℕ) (at : ℕ) (p : Part) where
         words-other (b + 2) (λ e. omega arith) (λ e. omega arith) (λ e. omega arith),
         names-high n (b + 3) (omega arith),
       )
+
+-- ## Words that are kept
+
+module _ (s w w′ : List ℕ) (m : ℕ) (k : Kept m w w′) where
+  pub entry-kept : (i : ℕ) → i + 2 < m → entry s w′ i ≡ entry s w i
+  unfolding entry
+  entry-kept i h = rw (kept-word k i (omega arith), kept-word k (i + 1) (omega arith), kept-word k (i + 2) h)
+
+  pub names-kept : (n b : ℕ) → b + 3 * n ≤ m → names n s w′ b ≡ names n s w b
+  unfolding names
+  names-kept zero b h = refl
+  names-kept (suc n) b h = rw (entry-kept b (omega arith), names-kept n (b + 3) (omega arith))
 
 -- the last name, after the others
 pub names-snoc : (n : ℕ) (s w : List ℕ) (b : ℕ) → names (suc n) s w b ≡ names n s w b ++ (entry s w (b + 3 * n) ∷ [])

@@ -14,12 +14,14 @@ use mir.Val.{Fits}
 use native.Mathlib.Omega.{arith}
 use native.Mathlib.Decide.{decLe}
 use native.Mathlib.Numerals.{add-one}
-use Rattle.definition.specs.Basic.{if_then_else_, same, sameBytes, firstAt, later, isSome, ok, refused}
+use Rattle.definition.specs.Basic.{if_then_else_, same, sameBytes, firstAt, later, isSome, ok}
 use Rattle.laws.proofs.Equal.{same-eq}
 use Rattle.definition.specs.Syntax.{Identifier}
 use Rattle.definition.specs.Names.{carries, find, numberIn, taken, Namespace}
+use Rattle.syntax.specs.Refusals.{refusal, refusedBy}
 use Rattle.syntax.specs.Tokens.{part, partOf, idOf, indexOf}
 use Rattle.syntax.specs.declared.Part.{Part}
+use Rattle.syntax.specs.declared.Refusal.{Refusal}
 use Rattle.syntax.specs.declared.Index.{Index}
 use Rattle.syntax.specs.declared.Index.the-variants as X
 use Rattle.name_table.specs.Area.{tagOf, entryPart, entry, entryWords, names, labels, found}
@@ -303,9 +305,9 @@ module _ (ns : Namespace Identifier) (r : ℕ) (s : List ℕ) (x : Index) where
     number-found k e = rw (d, sym b, told, e)
 
     -- a name that is not
-    pub number-none : q ≡ F.Nothing → numberIn sameBytes ns r (indexOf s x) ≡ refused 14 r
+    pub number-none : (z : Refusal) → q ≡ F.Nothing → z ≡ refusal 14 r → numberIn sameBytes ns r (indexOf s x) ≡ refusedBy z
     unfolding numberIn
-    number-none e = rw (d, sym b, told, e)
+    number-none z e f = rw (d, sym b, told, e, f)
 
 pub ruleset numbers = (number-absent, number-number, number-found, number-none)
 
@@ -344,9 +346,13 @@ module _ (name : List ℕ) (q : Found) (k : ℕ) (d : q ≡ F.At k) where
   found-low ns told = rw (told, d) at (first-low (carries sameBytes name) ns)
 
   module _ (s w : List ℕ) (base n : ℕ) where
-    -- the number of a name is a u32
+    -- the number of a name is below their count
+    pub names-below : find sameBytes name (names n s w base) ≡ found q → k < n
+    names-below told = rw names-length at (found-low (names n s w base) told)
+
+    -- and so a u32
     pub names-fit : find sameBytes name (names n s w base) ≡ found q → n ≤ 256 → Fits w32 k
-    names-fit told h = let l : k < n = rw names-length at (found-low (names n s w base) told) in record { fits = omega arith }
+    names-fit told h = let l = names-below told in record { fits = omega arith }
 
     -- the depth of a label is a u32
     pub labels-fit : find sameBytes name (labels n s w base) ≡ found q → n ≤ 128 → Fits w32 k

@@ -1,2 +1,3 @@
 pub mod Area
+pub mod Definers
 pub mod Tables

@@ -2,7 +2,6 @@
 use crate::table::Found;
 use crate::table::Resolved;
 use syntax::Index;
-use syntax::Refusal;
 ghost use mathlib.Core.Path.{_≡_};
 ghost use Prim.Native.Nat.{_+_, _*_, _≤_};
 ghost use lib.ListN.{length};
@@ -44,7 +43,7 @@ pub fn depth_of(s: &[u8], work: &[u32], base: usize, blocks: usize, x: Index, re
             let name = token::bytes_of(s, p);
             match label_depth(s, work, base, blocks, name) {
                 Found::At(k) => Resolved::To(k as u32),
-                Found::Nothing => Resolved::Refused(Refusal { number: 14, rec }),
+                Found::Nothing => Resolved::Refused(syntax::refusal_at(14, rec)),
             }
         }
     }

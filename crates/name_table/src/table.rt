@@ -66,7 +66,7 @@ pub fn number_in(s: &[u8], work: &[u32], base: usize, count: usize, x: Index, re
             let name = token::bytes_of(s, p);
             match find_name(s, work, base, count, name) {
                 Found::At(k) => Resolved::To(k as u32),
-                Found::Nothing => Resolved::Refused(Refusal { number: 14, rec }),
+                Found::Nothing => Resolved::Refused(syntax::refusal_at(14, rec)),
             }
         }
     }

@@ -2,8 +2,9 @@
 use Prim.Native.Nat.{ℕ}
 use mathlib.Core.Bool.{Bool, false}
 use lib.Dec.{eqb, ltb}
-use Rattle.definition.specs.Basic.{Answer, ok, refused}
+use Rattle.definition.specs.Basic.{Answer, ok, fails, refused}
 use Rattle.definition.specs.Syntax.{Bytes, Identifier, Instr, opens, elses, ends, indirect, plain, Rec, field, instr, bodyEnd}
+use mathlib.Core.Option.{Option}
 use Rattle.definition.specs.Reader.{Step, got, fault, Reader, _>>_, require}
 use Rattle.definition.specs.Instructions.{opening, elsing, ending, instruction, mayElse}
 use Rattle.syntax.specs.Marks.{insideOf}
@@ -56,7 +57,7 @@ keptOf bodyEnd = an-end
 
 abbrev pub keptAnswer : Answer (Rec Identifier) → Answer Kept
 keptAnswer (ok x) = ok (keptOf x)
-keptAnswer (refused n r) = refused n r
+keptAnswer (fails q) = fails q
 
 abbrev pub keptAt : Answer (Rec Identifier) × Place → Answer Kept × Place
 keptAt y = (keptAnswer (y .0), y .1)

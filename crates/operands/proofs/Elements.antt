@@ -6,7 +6,7 @@ use lib.ListN.{length}
 use native.Mathlib.Omega.{arith}
 use Rattle.syntax.specs.Refusals.{refusedBy}
 use Rattle.syntax.specs.declared.Refusal.{Refusal}
-use Rattle.definition.specs.Basic.{Answer, ok, refused, _>>=_, each, concatMap}
+use Rattle.definition.specs.Basic.{Answer, ok, fails, _>>=_, each, concatMap}
 use Rattle.definition.specs.Syntax.{Bytes}
 use Rattle.definition.specs.Reader.{got, fault, Reader}
 use Rattle.syntax.specs.TypeUses.{elements}
@@ -52,7 +52,7 @@ after done ys = ok (done ++ ys)
 -- where the answer is a list, it has this length
 unfoldable pub LongOf : {B : Type 0} → ℕ → Answer (List B) → Type 0
 LongOf n (ok ys) = length ys ≡ n
-LongOf n (refused m r) = Unit {0}
+LongOf n (fails q) = Unit {0}
 
 module _ {A B : Type 0} (f : A → Answer B) where
   -- the next one is done
@@ -62,7 +62,7 @@ module _ {A B : Type 0} (f : A → Answer B) where
     where
       go : (m : Answer (List B)) → ((m >>= λ ys. ok (a ∷ ys)) >>= λ ys. ok (done ++ ys)) ≡ (m >>= λ ys. ok ((done ++ (a ∷ [])) ++ ys))
       go (ok ys) = ap ok (sym (append-assoc done (a ∷ []) ys))
-      go (refused n r) = refl
+      go (fails q) = refl
 
   -- the next one is refused
   pub each-not : (x : A) (xs : List A) (done : List B) (r : Refusal) → f x ≡ refusedBy r → (each f (x ∷ xs) >>= after done) ≡ refusedBy r
@@ -80,7 +80,7 @@ module _ {A B : Type 0} (f : A → Answer B) where
     where
       go : (m : Answer (List B)) → m ≡ (m >>= λ ys. ok ys)
       go (ok ys) = refl
-      go (refused n r) = refl
+      go (fails q) = refl
 
   each-long : (xs : List A) → LongOf (length xs) (each f xs)
   unfolding each _>>=_ LongOf
@@ -89,8 +89,8 @@ module _ {A B : Type 0} (f : A → Answer B) where
     where
       go : (m : Answer B) (a : Answer (List B)) → LongOf (length xs) a → LongOf (length (x ∷ xs)) (m >>= λ y. a >>= λ ys. ok (y ∷ ys))
       go (ok y) (ok ys) h = ap suc h
-      go (ok y) (refused n r) h = tt
-      go (refused n r) a h = tt
+      go (ok y) (fails q) h = tt
+      go (fails q) a h = tt
 
   -- as many answers as there are elements
   pub each-length : (xs : List A) (ys : List B) → each f xs ≡ ok ys → length ys ≡ length xs

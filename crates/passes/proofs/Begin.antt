@@ -8,7 +8,7 @@ use lib.ListN.{length, take, drop, set}
 use lib.Seq.{sets, length-sets, sets-eq, drop-set-lt, take-add, take-append-add, drop-at, take-all, length-take-le}
 use borrow.Author.Tests.{ltb-false}
 use native.Mathlib.Omega.{arith}
-use Rattle.definition.specs.Basic.{if_then_else_, Answer, ok, refused}
+use Rattle.definition.specs.Basic.{if_then_else_, Answer, ok, fails, refused}
 use Rattle.definition.specs.Syntax.{Bytes, Identifier, Rec}
 use Rattle.definition.specs.Read.{read}
 use Rattle.laws.specs.Steps.{total}
@@ -101,7 +101,7 @@ module _ (s : Bytes) (w w′ : List ℕ) (r : Count) (v : Reads s w r w′) (n :
     where
       last : (a : Answer (List (Rec Identifier))) → read s ≡ a → total 0 a ≡ ok n → WORDS ≤ length w → length s ≤ BYTES → w′ ≡ areaAfter (passed s) w → Left s w w′
       last (ok rs) e d l h k = record { recs = rs; is = e; long = l; short = h; leaves = k }
-      last (refused m q) e d l h k = let z : _≡_ {A = ℕ} 0 1 = cc in absurd (omega arith)
+      last (fails q) e d l h k = let z : _≡_ {A = ℕ} 0 1 = cc in absurd (omega arith)
 
       go : (t : Bool) → ltb BYTES (length s) ≡ t → (u : Bool) → ltb (length w) WORDS ≡ u
           → (if t then refused 1 0 else if u then refused 10 0 else total 0 (read s)) ≡ ok n

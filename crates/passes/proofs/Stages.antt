@@ -4,7 +4,7 @@ use mathlib.Core.Path.{_≡_, refl, sym, _∙_, ap}
 use mathlib.Core.List.{List, _++_, map}
 use lib.ListN.{length, drop}
 use native.Mathlib.Omega.{arith}
-use Rattle.definition.specs.Basic.{Answer, ok, refused, _>>=_, concatMap}
+use Rattle.definition.specs.Basic.{Answer, ok, fails, _>>=_, concatMap}
 use Rattle.definition.specs.Syntax.{Identifier, Item, typeI}
 use Rattle.definition.specs.Types.{uses, declared}
 use Rattle.definition.specs.Names.{Scope, resolveAll}
@@ -12,7 +12,7 @@ use Rattle.definition.specs.Binary.{entries}
 use Rattle.definition.specs.Assemble.{itemsIn}
 use Rattle.syntax.specs.Refusals.{refusedBy}
 use Rattle.syntax.specs.declared.Refusal.{Refusal}
-use Rattle.area.specs.Layout.{BYTES, LOCALS, TYPES, UNUSED, WORDS}
+use Rattle.area.specs.Layout.{BYTES, LOCALS, TYPES, WORDS}
 use Rattle.area.specs.Kept.{Kept}
 use Rattle.area.proofs.Kept.{kept-less}
 use Rattle.type_table.specs.Table.{typesIn, Recalled}
@@ -52,19 +52,19 @@ no-twelve = record { sizes = refl; counts = refl }
 items-of : (a : Answer (List Item)) (es : Entries) → (a >>= λ is. ok (concatMap entries is)) ≡ ok es → a ≡ ok (keptItems a)
 unfolding _>>=_
 items-of (ok is) es e = refl
-items-of (refused n r) es e = let z : _≡_ {A = ℕ} 0 1 = cc in absurd (omega arith)
+items-of (fails q) es e = let z : _≡_ {A = ℕ} 0 1 = cc in absurd (omega arith)
 
 -- and are found
 found-of : (a : Answer (List Item)) (Γ : Scope Identifier) (more : List Item) → a ≡ ok (keptItems a)
     → _>>=_ {B = Found} (a >>= λ is. ok (is ++ more)) (λ is. ok (Γ, is)) ≡ ok (Γ, keptItems a ++ more)
 unfolding _>>=_
 found-of (ok is) Γ more e = refl
-found-of (refused n r) Γ more e = let z : _≡_ {A = ℕ} 0 1 = cc in absurd (omega arith)
+found-of (fails q) Γ more e = let z : _≡_ {A = ℕ} 0 1 = cc in absurd (omega arith)
 
 not-items : (a : Answer (List Item)) (q : Refusal) → (a >>= λ is. ok (concatMap entries is)) ≡ refusedBy q → a ≡ refusedBy q
 unfolding _>>=_
 not-items (ok is) q e = let z : _≡_ {A = ℕ} 0 1 = cc in absurd (omega arith)
-not-items (refused m p) q e = cc
+not-items (fails z) q e = cc
 
 module _ (s w : List ℕ) (d count : ℕ) (r : Checked) (w₁ b₀ b₁ : List ℕ) (h : ChecksIn (entriesOf (scopeIn s w) (fieldsIn s)) noTally w b₀ r w₁ b₁) (v : Verdict) (g : v ≡ r .verdict) where
   module _ (e : v ≡ V′.Fine) where
@@ -72,7 +72,7 @@ module _ (s w : List ℕ) (d count : ℕ) (r : Checked) (w₁ b₀ b₁ : List �
     k = fine-kept h (sym g ∙ e)
 
     scope : scopeIn s w₁ ≡ scopeIn s w
-    scope = scope-kept s w w₁ (kept-less UNUSED LOCALS (omega arith) k)
+    scope = scope-kept s w w₁ k
 
     pub resolve-long : WORDS ≤ length w → WORDS ≤ length w₁
     resolve-long a = rw (k .long) a
@@ -86,7 +86,7 @@ module _ (s w : List ℕ) (d count : ℕ) (r : Checked) (w₁ b₀ b₁ : List �
             stream = a;
             room = rw (k .long) b;
             ahead = ahead-kept s w w₁ begin (kept-less TYPES LOCALS (omega arith) k) c;
-            recalled = recalled-scope s w w₁ (uses (fieldsIn s)) (kept-less UNUSED LOCALS (omega arith) k) u;
+            recalled = recalled-scope s w w₁ (uses (fieldsIn s)) k u;
           };
           fine = record { entries = x .entries; is = rw scope (x .is) };
         }

@@ -6,17 +6,19 @@ use mathlib.Core.List.{List, []}
 use lib.Dec.{ltb}
 use lib.ListN.{length}
 use native.Mathlib.Omega.{arith}
+use Rattle.syntax.specs.Refusals.{refusalOf}
 use Rattle.syntax.specs.declared.Refusal.{Refusal}
 use Rattle.area.specs.Layout.{BYTES, TYPES, WORDS}
-use Rattle.definition.specs.Basic.{if_then_else_, Answer, ok, refused, _>>=_, sameBytes}
+use Rattle.definition.specs.Basic as Basic
+use Rattle.definition.specs.Basic.{if_then_else_, refusal, Answer, ok, fails, refused, _>>=_, sameBytes}
 use Rattle.definition.specs.Syntax.{Bytes, Identifier, Rec, Item, FuncType}
 use Rattle.definition.specs.Read.{read}
 use Rattle.definition.specs.Deinline.{Numbered, importOrder, deinline}
 use Rattle.definition.specs.Types.{uses, allTypes, declared}
-use Rattle.definition.specs.Names.{Items, Scope, space, register}
+use Rattle.definition.specs.Names.{Items, Scope, space, definers, register}
 use Rattle.definition.specs.Binary.{module′}
 use Rattle.definition.specs.Assemble.{scope, itemsIn, items, resolved, fitting, Maker, moduleIn, namedModuleIn}
-use Rattle.definition.specs.Assemble.{refusal, say, sayRead, assembleBy}
+use Rattle.definition.specs.Assemble.{refusing, say, sayRead, assembleBy}
 use Rattle.laws.proofs.Passes.{scope-then}
 use Rattle.laws.specs.Steps.{total}
 use Rattle.stream.specs.Pass.{reading, counted, Reads}
@@ -44,11 +46,11 @@ use Rattle.passes.proofs.Stages.{refuses, passes-on}
 -- ## The order of imports, the types of uses, and the names
 
 -- what refuses the types or the names refuses what follows them
-falls-then : (a : Answer (List FuncType)) (b : Answer (Items Identifier)) (k : List FuncType → Items Identifier → Answer Found) (n r : ℕ) → (a >>= λ _. b) ≡ refused n r → (a >>= λ ts. b >>= k ts) ≡ refused n r
+falls-then : (a : Answer (List FuncType)) (b : Answer (Items Identifier)) (k : List FuncType → Items Identifier → Answer Found) (z : Basic.Refusal) → (a >>= λ _. b) ≡ fails z → (a >>= λ ts. b >>= k ts) ≡ fails z
 unfolding _>>=_
-falls-then (ok ts) (ok xs) k n r e = let z : _≡_ {A = ℕ} 0 1 = cc in absurd (omega arith)
-falls-then (ok ts) (refused m q) k n r e = let x : m ≡ n = cc in let y : q ≡ r = cc in rw (x, y) refl
-falls-then (refused m q) b k n r e = let x : m ≡ n = cc in let y : q ≡ r = cc in rw (x, y) refl
+falls-then (ok ts) (ok xs) k z e = let y : _≡_ {A = ℕ} 0 1 = cc in absurd (omega arith)
+falls-then (ok ts) (fails q) k z e = let x : q ≡ z = cc in rw x refl
+falls-then (fails q) b k z e = let x : q ≡ z = cc in rw x refl
 
 module _ (s w : List ℕ) (q : Surveyed) (w₁ : List ℕ) (h : Surveys s w q w₁) where
   module _ (e : q ≡ S.Done) where
@@ -65,9 +67,9 @@ module _ (s w : List ℕ) (q : Surveyed) (w₁ : List ℕ) (h : Surveys s w q w�
     pub survey-recalled : Recalled w₁ (typesIn s w₁) (uses (fieldsIn s))
     survey-recalled = stands .recalled
 
-    scope-is : _≡_ {A = Scope Identifier} (record { eq = sameBytes; names = λ k. space k (stands .items); allTypes = typesIn s w₁ }) (scopeIn s w₁)
+    scope-is : _≡_ {A = Scope Identifier} (record { eq = sameBytes; names = λ k. space k (stands .items); definers = λ k. definers k (stands .items); allTypes = typesIn s w₁ }) (scopeIn s w₁)
     unfolding scopeIn
-    scope-is = λ i. record { eq = sameBytes; names = λ k. stands .tables .each k i; allTypes = typesIn s w₁ }
+    scope-is = λ i. record { eq = sameBytes; names = λ k. stands .tables .each k i; definers = λ k. stands .tables .made k i; allTypes = typesIn s w₁ }
 
     pub survey-done : (count : ℕ) (p : Passed) (w₂ b : List ℕ) → Passes (fromNames (fieldsIn s) (scopeIn s w₁)) count s w₁ p w₂ b → Passes (fromFields (fieldsIn s)) count s w p w₂ b
     unfolding fromFields fromTypes _>>=_
@@ -77,7 +79,7 @@ module _ (s w : List ℕ) (q : Surveyed) (w₁ : List ℕ) (h : Surveys s w q w�
   unfolding fromFields fromTypes Surveys
   survey-not count p b r e v =
       (let g = rw e at h in
-      refuses _ count s w p w₁ b r (falls-then (typesAfterOrder (fieldsIn s)) (register sameBytes [] (fieldsIn s)) _ (r .number) (r .rec) (g .says)) v (g .long))
+      refuses _ count s w p w₁ b r (falls-then (typesAfterOrder (fieldsIn s)) (register sameBytes [] (fieldsIn s)) _ (refusalOf r) (g .says)) v (g .long))
 
 -- ## The declared types
 
@@ -98,7 +100,7 @@ module _ (s w : List ℕ) (d : ℕ) (w₁ : List ℕ) (h : DeclaredAll s w d w�
 order-then : (a : Answer (Unit {0})) (b : Answer (List FuncType)) (k : List FuncType → Answer Found) → ((a >>= λ _. b) >>= k) ≡ (a >>= λ _. b >>= k)
 unfolding _>>=_
 order-then (ok u) b k = refl
-order-then (refused n r) b k = refl
+order-then (fails q) b k = refl
 
 -- the stages are the definition's passes
 fields-found : (fs : Numbered Identifier) → fromFields fs ≡ (scope sameBytes fs >>= fromNames fs)
@@ -108,17 +110,17 @@ fields-found fs = order-then (importOrder fs) (allTypes fs) (fromTypes fs) ∙ s
 -- what follows them, on what they find and on the items alone
 found-then : (fs : Numbered Identifier) (a : Answer (Scope Identifier)) (k : Found → Answer Bytes) → (a >>= λ Γ. itemsIn Γ fs >>= λ is. k (Γ, is)) ≡ (a >>= fromNames fs >>= k)
 unfolding fromNames _>>=_
-found-then fs (refused n r) k = refl
+found-then fs (fails q) k = refl
 found-then fs (ok Γ) k = go (itemsIn Γ fs)
   where
     go : (b : Answer (List Item)) → (b >>= λ is. k (Γ, is)) ≡ (_>>=_ {B = Found} b (λ is. ok (Γ, is)) >>= k)
     go (ok is) = refl
-    go (refused n r) = refl
+    go (fails q) = refl
 
 items-then : (fs : Numbered Identifier) (a : Answer (Scope Identifier)) (k : List Item → Answer Bytes) → ((a >>= λ Γ. itemsIn Γ fs) >>= k) ≡ (a >>= λ Γ. itemsIn Γ fs >>= k)
 unfolding _>>=_
 items-then fs (ok Γ) k = refl
-items-then fs (refused n r) k = refl
+items-then fs (fails q) k = refl
 
 -- a call is its writer after the passes
 made : (names : Bool) (room : ℕ) (rs : List (Rec Identifier)) → makes names room rs ≡ (fromFields (deinline rs) >>= λ x. fitting room (length rs) (writes names (deinline rs) x))
@@ -131,16 +133,16 @@ made true room rs =
     rw (fields-found (deinline rs)) (found-then (deinline rs) (scope sameBytes (deinline rs)) (λ x. fitting room (length rs) (writes true (deinline rs) x)))
 
 -- what reading refuses the call refuses
-read-not : (make : Maker) (s : Bytes) (work room n q : ℕ) → reading s work ≡ refused n q → assembleBy make s work room ≡ refusal n q
+read-not : (make : Maker) (s : Bytes) (work room : ℕ) (z : Basic.Refusal) → reading s work ≡ fails z → assembleBy make s work room ≡ refusing z
 unfolding reading assembleBy sayRead
-read-not make s work room n q e = go (ltb BYTES (length s)) (ltb work WORDS) (read s) e
+read-not make s work room z e = go (ltb BYTES (length s)) (ltb work WORDS) (read s) e
   where
-    go : (a b : Bool) (c : Answer (List (Rec Identifier))) → (if a then refused 1 0 else if b then refused 10 0 else total 0 c) ≡ refused n q
-        → (if a then refusal 1 0 else if b then refusal 10 0 else sayRead make room c) ≡ refusal n q
-    go true b c e = let x : 1 ≡ n = cc in let y : 0 ≡ q = cc in rw (x, y) refl
-    go false true c e = let x : 10 ≡ n = cc in let y : 0 ≡ q = cc in rw (x, y) refl
-    go false false (ok rs) e = let z : _≡_ {A = ℕ} 0 1 = cc in absurd (omega arith)
-    go false false (refused m p) e = let x : m ≡ n = cc in let y : p ≡ q = cc in rw (x, y) refl
+    go : (a b : Bool) (c : Answer (List (Rec Identifier))) → (if a then refused 1 0 else if b then refused 10 0 else total 0 c) ≡ fails z
+        → (if a then refusing (refusal 1 0) else if b then refusing (refusal 10 0) else sayRead make room c) ≡ refusing z
+    go true b c e = let x : refusal 1 0 ≡ z = cc in ap refusing x
+    go false true c e = let x : refusal 10 0 ≡ z = cc in ap refusing x
+    go false false (ok rs) e = let y : _≡_ {A = ℕ} 0 1 = cc in absurd (omega arith)
+    go false false (fails q) e = let x : q ≡ z = cc in ap refusing x
 
 -- what it accepts is assembled
 read-ok : (make : Maker) (s : Bytes) (work room n : ℕ) (rs : List (Rec Identifier)) → read s ≡ ok rs → reading s work ≡ ok n → assembleBy make s work room ≡ say n (make room rs)
@@ -148,7 +150,7 @@ unfolding reading assembleBy sayRead
 read-ok make s work room n rs d e = go (ltb BYTES (length s)) (ltb work WORDS) e
   where
     go : (a b : Bool) → (if a then refused 1 0 else if b then refused 10 0 else total 0 (read s)) ≡ ok n
-        → (if a then refusal 1 0 else if b then refusal 10 0 else sayRead make room (read s)) ≡ say n (make room rs)
+        → (if a then refusing (refusal 1 0) else if b then refusing (refusal 10 0) else sayRead make room (read s)) ≡ say n (make room rs)
     go true b e = let z : _≡_ {A = ℕ} 0 1 = cc in absurd (omega arith)
     go false true e = let z : _≡_ {A = ℕ} 0 1 = cc in absurd (omega arith)
     go false false e =
@@ -169,7 +171,7 @@ count-of s work n rs d e = go (ltb BYTES (length s)) (ltb work WORDS) e
 
 module _ (s w : List ℕ) (q : Count) (w₁ : List ℕ) (h : Reads s w q w₁) (l : length w₁ ≡ length w) (p : Passed) where
   pub prepare-not : (r : Refusal) → q ≡ C.Refused r → p .verdict ≡ V′.Refused r → (b : List ℕ) → Prepares s w p w₁ b
-  prepare-not r e v b = record { says = λ names room. rw v (read-not (makes names) s (length w) room (r .number) (r .rec) (h .says ∙ ap counted e)); ready = rw v tt; long = l }
+  prepare-not r e v b = record { says = λ names room. rw v (read-not (makes names) s (length w) room (refusalOf r) (h .says ∙ ap counted e)); ready = rw v tt; long = l }
 
   pub prepare-done : (n : ℕ) (w₂ b : List ℕ) → q ≡ C.Records n → Passes (fromFields (fieldsIn s)) n s w₁ p w₂ b → Prepares s w p w₂ b
   unfolding _>>=_ say

@@ -4,15 +4,15 @@ use mathlib.Core.Path.{_≡_}
 use mathlib.Core.Bool.{Bool, true, false}
 use mathlib.Core.List.{List, [], _++_}
 use lib.ListN.{length}
-use Rattle.definition.specs.Basic.{Answer, ok, refused, _>>=_, sameBytes}
+use Rattle.definition.specs.Basic.{Answer, ok, _>>=_, sameBytes}
 use Rattle.definition.specs.Syntax.{Bytes, Identifier, FuncType, Item}
 use Rattle.definition.specs.Deinline.{Numbered}
-use Rattle.definition.specs.Names.{Scope, space, register}
+use Rattle.definition.specs.Names.{Scope, space, definers, register}
 use Rattle.definition.specs.Binary.{module′}
 use Rattle.definition.specs.NameSection.{nameSection}
 use Rattle.definition.specs.Assemble as Assemble
-use Rattle.definition.specs.Assemble.{itemsIn, fitting, Maker, moduleIn, namedModuleIn, refusal, say, assembleBy}
-use Rattle.syntax.specs.Refusals.{refusedBy}
+use Rattle.definition.specs.Assemble.{itemsIn, fitting, Maker, moduleIn, namedModuleIn, refusing, say, assembleBy}
+use Rattle.syntax.specs.Refusals.{refusalOf, refusedBy}
 use Rattle.walk.specs.Walk.{fieldsIn}
 use Rattle.survey.specs.Survey.{typesAfterOrder}
 use Rattle.scope.specs.Scope.{scopeIn}
@@ -32,7 +32,7 @@ unfoldable pub fromNames : Numbered Identifier → Scope Identifier → Answer F
 fromNames fs Γ = itemsIn Γ fs >>= λ is. ok (Γ, is)
 
 unfoldable pub fromTypes : Numbered Identifier → List FuncType → Answer Found
-fromTypes fs ts = register sameBytes [] fs >>= λ xs. fromNames fs (record { eq = sameBytes; names = λ k. space k xs; allTypes = ts })
+fromTypes fs ts = register sameBytes [] fs >>= λ xs. fromNames fs (record { eq = sameBytes; names = λ k. space k xs; definers = λ k. definers k xs; allTypes = ts })
 
 unfoldable pub fromFields : Numbered Identifier → Answer Found
 fromFields fs = typesAfterOrder fs >>= λ ts. fromTypes fs ts
@@ -72,7 +72,7 @@ writes true fs x = module′ (x .1) ++ nameSection (x .0) fs
 -- what is said after the passes
 abbrev pub saidBy : Verdict → ℕ → ℕ → Bytes → Assemble.Said
 saidBy V′.Fine count room bs = say count (fitting room count bs)
-saidBy (V′.Refused q) count room bs = refusal (q .number) (q .rec)
+saidBy (V′.Refused q) count room bs = refusing (refusalOf q)
 
 abbrev pub ReadyBy : Verdict → List ℕ → Passed → List ℕ → List ℕ → Type 0
 ReadyBy V′.Fine s p w kept = Prepared s p w kept

@@ -7,10 +7,10 @@ use lib.Dec.{ltb}
 use lib.ListN.{length, take, drop, take-append-drop}
 use native.Mathlib.Omega.{arith}
 use Rattle.definition.specs.Assemble.{longestStream, leastWork}
-use Rattle.definition.specs.Basic.{if_then_else_, Answer, ok, refused, sameBytes}
+use Rattle.definition.specs.Basic.{if_then_else_, refusal, Answer, ok, fails, sameBytes}
 use Rattle.definition.specs.Syntax.{Bytes, Identifier, Rec}
 use Rattle.definition.specs.Read.{read}
-use Rattle.definition.specs.Assemble.{refusal, Maker, moduleIn, namedModuleIn, say, sayRead, assembleBy, outputAfter, workAfter, outcome, callBy, call, callNames}
+use Rattle.definition.specs.Assemble.{refusing, Maker, moduleIn, namedModuleIn, say, sayRead, assembleBy, outputAfter, workAfter, outcome, callBy, call, callNames}
 use Rattle.assembler.specs.Run.{outcomeOf, Assembles, AssemblesNames}
 use Rattle.assembler.specs.Export.{lent, ExportsBy, Exports, ExportsNames}
 use Rattle.writers.specs.declared.Said.{Said}
@@ -23,18 +23,18 @@ use Rattle.promises.proofs.Exported.{export-says}
 say-refused : (count : ℕ) (a : Answer Bytes) → 0 < say count a .number → say count a .bytes ≡ []
 unfolding say
 say-refused count (ok bs) h = absurd (omega arith)
-say-refused count (refused n r) h = refl
+say-refused count (fails q) h = refl
 
 refused-writes : (make : Maker) (s : Bytes) (work room : ℕ) → 0 < assembleBy make s work room .number → assembleBy make s work room .bytes ≡ []
 unfolding assembleBy sayRead
 refused-writes make s work room h = go (ltb longestStream (length s)) (ltb work leastWork) (read s) h
   where
-    go : (x y : Bool) (c : Answer (List (Rec Identifier))) → 0 < (if x then refusal 1 0 else if y then refusal 10 0 else sayRead make room c) .number
-        → (if x then refusal 1 0 else if y then refusal 10 0 else sayRead make room c) .bytes ≡ []
+    go : (x y : Bool) (c : Answer (List (Rec Identifier))) → 0 < (if x then refusing (refusal 1 0) else if y then refusing (refusal 10 0) else sayRead make room c) .number
+        → (if x then refusing (refusal 1 0) else if y then refusing (refusal 10 0) else sayRead make room c) .bytes ≡ []
     go true y c h = refl
     go false true c h = refl
     go false false (ok rs) h = say-refused (length rs) (make room rs) h
-    go false false (refused n r) h = refl
+    go false false (fails q) h = refl
 
 demand-1-by : (make : Maker) (s : Bytes) (work : List ℕ) (old : Bytes) → Demand1 work old (callBy make s work old)
 unfolding callBy outcome outputAfter workAfter

@@ -41,7 +41,7 @@ module _ (s t : Bytes) (d : Renamed s t) (work work′ : List ℕ) (h : leastWor
 
   pub demand-3-assemble : SameAnswer work work′ old old′ r r′ out out′ w w′
   demand-3-assemble = record {
-    said = λ i. record { number = same .number i; rec = same .rec i; len = same .written i };
+    said = λ i. record { number = same .number i; rec = same .rec i; first = same .first i; len = same .written i };
     bytes = same .bytes;
     outputs = λ o. ap (λ x. x .output) k ∙ call-outputs s t d work work′ h h′ old old′ o ∙ sym (ap (λ x. x .output) k′);
     works = same-works work work′ old old′ _ _ (demand-1-assemble s work old r out w k) (demand-1-assemble t work′ old′ r′ out′ w′ k′);
@@ -72,7 +72,7 @@ module _ (s t : Bytes) (d : Renamed s t) (work work′ : List ℕ) (h : leastWor
     number = same-export .number;
     answer =
         export-answer call s work old r a out w k
-        ∙ rw (same-export .number, same-export .rec, same-export .written) refl
+        ∙ rw (same-export .number, same-export .rec, same-export .written, same-export .first) refl
         ∙ sym (export-answer call t work′ old′ r′ a′ out′ w′ k′);
     bytes = same-export .bytes;
     outputs = export-outputs;

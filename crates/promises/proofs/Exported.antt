@@ -15,14 +15,14 @@ use Rattle.promises.specs.Promise.{outcomeIn, NamesAfter}
 
 -- an outcome, where the output goes on
 abbrev pub goingOn : Outcome → Bytes → Outcome
-goingOn o beyond = record { number = o .number; rec = o .rec; written = o .written; output = o .output ++ beyond; work = o .work }
+goingOn o beyond = record { number = o .number; rec = o .rec; first = o .first; written = o .written; output = o .output ++ beyond; work = o .work }
 
 module _ (f : Call) (s : Bytes) (work : List ℕ) (old : Bytes) (r : ℕ) (a : List ℕ) (out : Bytes) (w : List ℕ) (k : ExportsBy f s work old r a out w) where
   pub export-says : outcomeIn r a out w ≡ goingOn (f s work (take (lent old) old)) (drop (lent old) old)
   unfolding exportedBy handedOn
   export-says = ap (λ h. outcomeIn (h .number) (h .answer) (h .output) (h .work)) k
 
-  -- the answer's words: number, record, length, and the record once more
+  -- the answer's words: number, record, length, and where a name was first used
   pub export-answer : a ≡ answerOf (outcomeIn r a out w)
   unfolding exportedBy handedOn
   export-answer = ap (λ h. h .answer) k ∙ ap answerOf (sym export-says)
@@ -42,6 +42,7 @@ module _ (a b : Outcome) (h : a .written ≤ length (a .output)) (h′ : b .writ
   same-beyond z = record {
     number = z .number;
     rec = z .rec;
+    first = z .first;
     written = z .written;
     bytes = take-append-le _ _ x h ∙ z .bytes ∙ sym (take-append-le _ _ y h′);
   }
@@ -50,6 +51,7 @@ module _ (a b : Outcome) (h : a .written ≤ length (a .output)) (h′ : b .writ
   before-beyond p q z = record {
     number = z .number;
     rec = z .rec;
+    first = z .first;
     nothing = z .nothing;
     something = λ n. let v = z .something n in
         record { before = v .before; bytes = take-append-le _ _ x h ∙ v .bytes; bytes′ = take-append-le _ _ y h′ ∙ v .bytes′ };
@@ -60,5 +62,6 @@ module _ (a b : Outcome) (h : a .written ≤ length (a .output)) (h′ : b .writ
     number = z .number;
     number′ = z .number′;
     rec = z .rec;
+    first = z .first;
     bytes = take-append-le _ _ x h ∙ z .bytes ∙ ap (λ bs. bs ++ p) (sym (take-append-le _ _ y h′));
   }

@@ -9,7 +9,7 @@ use lib.Seq.{take-append-seam}
 use borrow.Author.Tests.{le-ltb, le-leb, leb-true}
 use native.Mathlib.Omega.{arith}
 use Rattle.definition.specs.Assemble.{longestStream, leastWork}
-use Rattle.definition.specs.Basic.{if_then_else_, Answer, ok, refused, _>>=_, sameBytes}
+use Rattle.definition.specs.Basic.{if_then_else_, refusal, Answer, ok, fails, refused, _>>=_, sameBytes}
 use Rattle.definition.specs.Syntax.{Bytes, Identifier, Rec, Item}
 use Rattle.definition.specs.Read.{read}
 use Rattle.definition.specs.Deinline.{Numbered, deinline}
@@ -17,7 +17,7 @@ use Rattle.definition.specs.Names.{Scope}
 use Rattle.definition.specs.Binary.{module′}
 use Rattle.definition.specs.NameSection.{nameSection}
 use Rattle.definition.specs.Assemble as Assemble
-use Rattle.definition.specs.Assemble.{scope, itemsIn, items, resolved, fitting, moduleIn, namedModuleIn, refusal, say, sayRead, assembleBy, outputAfter, outcome, callBy, call, callNames}
+use Rattle.definition.specs.Assemble.{scope, itemsIn, items, resolved, fitting, moduleIn, namedModuleIn, refusing, say, sayRead, assembleBy, outputAfter, outcome, callBy, call, callNames}
 use Rattle.renaming.specs.Renamed.{namesBy, namesOf}
 use Rattle.assembler.specs.Run.{outcomeOf, Assembles, AssemblesNames}
 use Rattle.assembler.specs.Export.{lent, Exports, ExportsNames}
@@ -32,6 +32,7 @@ record Follows (room : ℕ) (section : Bytes) (a b : Assemble.Said) : Type 0 whe
   number : a .number ≡ 0
   number′ : b .number ≡ 0
   rec : a .rec ≡ b .rec
+  first : a .first ≡ b .first
   bytes : a .bytes ≡ b .bytes ++ section
   within : length (a .bytes) ≤ room
 
@@ -49,19 +50,19 @@ module _ (count room room′ : ℕ) where
       go false q p h = absurd (omega arith)
       go true q p h =
           let g : length m ≤ room′ = omega (arith, length-append m section) in
-          rw (le-leb (length m) room′ g) (record { number = refl; number′ = refl; rec = refl; bytes = refl; within = leb-true _ _ q })
+          rw (le-leb (length m) room′ g) (record { number = refl; number′ = refl; rec = refl; first = refl; bytes = refl; within = leb-true _ _ q })
 
   with-items : (section : Bytes) (a : Answer (List Item))
       → Next section (say count (a >>= λ is. fitting room count (module′ is ++ section))) (say count (a >>= λ is. fitting room′ count (module′ is)))
   unfolding say _>>=_
-  with-items section (refused n r) p h = absurd (omega arith)
+  with-items section (fails q) p h = absurd (omega arith)
   with-items section (ok is) p h = with-module (module′ is) section p h
 
   with-scope : (fs : Numbered Identifier) (a : Answer (Scope Identifier))
       → Next (namesBy fs a) (say count (a >>= λ Γ. itemsIn Γ fs >>= λ is. fitting room count (module′ is ++ nameSection Γ fs)))
       (say count ((a >>= λ Γ. itemsIn Γ fs) >>= λ is. fitting room′ count (module′ is)))
   unfolding say _>>=_
-  with-scope fs (refused n r) p h = absurd (omega arith)
+  with-scope fs (fails q) p h = absurd (omega arith)
   with-scope fs (ok Γ) p h = with-items (nameSection Γ fs) (itemsIn Γ fs) p h
 
 module _ (s : Bytes) (work room : ℕ) where
@@ -74,13 +75,13 @@ module _ (s : Bytes) (work room : ℕ) where
   said-after work′ room′ h′ p h = rw (le-ltb work′ leastWork h′) (go (ltb longestStream (length s)) (ltb work leastWork) (read s) p h)
     where
       go : (x y : Bool) (c : Answer (List (Rec Identifier)))
-          → 0 < length ((if x then refusal 1 0 else if y then refusal 10 0 else sayRead namedModuleIn room c) .bytes)
-          → length ((if x then refusal 1 0 else if y then refusal 10 0 else sayRead namedModuleIn room c) .bytes) ≤ room′
-          → Follows room (sectionOf c) (if x then refusal 1 0 else if y then refusal 10 0 else sayRead namedModuleIn room c)
-          (if x then refusal 1 0 else sayRead (moduleIn sameBytes) room′ c)
+          → 0 < length ((if x then refusing (refusal 1 0) else if y then refusing (refusal 10 0) else sayRead namedModuleIn room c) .bytes)
+          → length ((if x then refusing (refusal 1 0) else if y then refusing (refusal 10 0) else sayRead namedModuleIn room c) .bytes) ≤ room′
+          → Follows room (sectionOf c) (if x then refusing (refusal 1 0) else if y then refusing (refusal 10 0) else sayRead namedModuleIn room c)
+          (if x then refusing (refusal 1 0) else sayRead (moduleIn sameBytes) room′ c)
       go true y c p h = absurd (omega arith)
       go false true c p h = absurd (omega arith)
-      go false false (refused n r) p h = absurd (omega arith)
+      go false false (fails q) p h = absurd (omega arith)
       go false false (ok rs) p h = with-scope (length rs) room room′ (deinline rs) (scope sameBytes (deinline rs)) p h
 
 module _ (s : Bytes) (work work′ : List ℕ) (h′ : leastWork ≤ length work′) (old old′ : Bytes) (p : 0 < callNames s work old .written) where
@@ -98,6 +99,7 @@ module _ (s : Bytes) (work work′ : List ℕ) (h′ : leastWork ≤ length work
         number = x .number;
         number′ = x .number′;
         rec = x .rec;
+        first = x .first;
         bytes = simp take-append-seam (x .bytes);
       }
 

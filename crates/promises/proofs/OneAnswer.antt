@@ -7,6 +7,7 @@ use native.Mathlib.Omega.{arith}
 use Rattle.definition.specs.Reader.{Step}
 use Rattle.definition.specs.Assemble.{call, callNames}
 use Rattle.emit.specs.Put.{Put}
+use Rattle.syntax.specs.Refusals.{refusalOf}
 use Rattle.syntax.specs.Numbers.{u32At, u64At}
 use Rattle.syntax.specs.declared.U32.{U32}
 use Rattle.syntax.specs.declared.U32.the-variants as U32′
@@ -26,7 +27,7 @@ use Rattle.promises.specs.Promise.{OneAnswer, OneExport}
 answer-one : (f : Call) (s work old : List ℕ) → OneAnswer (AssemblesBy f s work old)
 answer-one f s work old r r′ out out′ w w′ k k′ =
     let e = k ∙ sym k′ in
-    (λ i. record { number = e i .number; rec = e i .rec; len = e i .written }, λ i. e i .output, λ i. e i .work)
+    (λ i. record { number = e i .number; rec = e i .rec; first = e i .first; len = e i .written }, λ i. e i .output, λ i. e i .work)
 
 pub assemble-one : (s work old : List ℕ) → OneAnswer (Assembles s work old)
 assemble-one = answer-one call
@@ -53,7 +54,7 @@ counted-one : (a b : Count) → counted a ≡ counted b → a ≡ b
 counted-one (C.Records n) (C.Records m) e = let x : n ≡ m = cc in rw x refl
 counted-one (C.Records n) (C.Refused q) e = let z : _≡_ {A = ℕ} 0 1 = cc in absurd (omega arith)
 counted-one (C.Refused p) (C.Records m) e = let z : _≡_ {A = ℕ} 0 1 = cc in absurd (omega arith)
-counted-one (C.Refused p) (C.Refused q) e = let x : p .number ≡ q .number = cc in let y : p .rec ≡ q .rec = cc in λ i. C.Refused (record { number = x i; rec = y i })
+counted-one (C.Refused p) (C.Refused q) e = let x : refusalOf p ≡ refusalOf q = cc in λ i. C.Refused (record { number = x i .number; rec = x i .rec; first = x i .first })
 
 pub read-all-one : (s work : List ℕ) (r r′ : Count) (w w′ : List ℕ) → Reads s work r w → Reads s work r′ w′ → (r ≡ r′) × (w ≡ w′)
 read-all-one s work r r′ w w′ k k′ = (counted-one r r′ (sym (k .says) ∙ k′ .says), k .leaves ∙ sym (k′ .leaves))

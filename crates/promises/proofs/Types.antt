@@ -8,11 +8,11 @@ use lib.Dec.{ltb}
 use lib.ListN.{length, take, drop}
 use lib.Seq.{take-append-seam, take-append-le}
 use native.Mathlib.Omega.{arith}
-use Rattle.definition.specs.Basic.{if_then_else_, Answer, ok, refused, sameBytes}
+use Rattle.definition.specs.Basic.{if_then_else_, refusal, Answer, ok, fails, sameBytes}
 use Rattle.definition.specs.Syntax.{Bytes, Identifier, Rec}
 use Rattle.definition.specs.Read.{read}
 use Rattle.definition.specs.Assemble as Assemble
-use Rattle.definition.specs.Assemble.{longestStream, leastWork, Maker, moduleIn, namedModuleIn, refusal, say, sayRead, assembleBy, Outcome, outputAfter, outcome, callBy, call, callNames}
+use Rattle.definition.specs.Assemble.{longestStream, leastWork, Maker, moduleIn, namedModuleIn, refusing, say, sayRead, assembleBy, Outcome, outputAfter, outcome, callBy, call, callNames}
 use Rattle.laws.specs.TypeLists.{NoTypeTooMany, WritesSmallest}
 use Rattle.laws.proofs.NoTypeTooMany.{module-writes, names-write}
 use Rattle.assembler.specs.Run.{outcomeOf, AssemblesBy, Assembles, AssemblesNames}
@@ -35,19 +35,19 @@ module _ (make : Maker) (writes : WritesSmallest make) (s : Bytes) where
   made : (count room : ℕ) (rs : List (Rec Identifier)) → read s ≡ ok rs → (a : Answer Bytes) → make room rs ≡ a → 0 < length (say count a .bytes) → Fewest s (say count a)
   unfolding say
   made count room rs e (ok bs) d p = record { number = refl; records = rs; reads = e; types = writes s rs e room bs d }
-  made count room rs e (refused n r) d p = absurd (omega arith)
+  made count room rs e (fails q) d p = absurd (omega arith)
 
   said : (work room : ℕ) → 0 < length (assembleBy make s work room .bytes) → Fewest s (assembleBy make s work room)
   unfolding assembleBy sayRead
   said work room p = go (ltb longestStream (length s)) (ltb work leastWork) (read s) refl p
     where
       go : (x y : Bool) (c : Answer (List (Rec Identifier))) → read s ≡ c
-          → 0 < length ((if x then refusal 1 0 else if y then refusal 10 0 else sayRead make room c) .bytes)
-          → Fewest s (if x then refusal 1 0 else if y then refusal 10 0 else sayRead make room c)
+          → 0 < length ((if x then refusing (refusal 1 0) else if y then refusing (refusal 10 0) else sayRead make room c) .bytes)
+          → Fewest s (if x then refusing (refusal 1 0) else if y then refusing (refusal 10 0) else sayRead make room c)
       go true y c e p = absurd (omega arith)
       go false true c e p = absurd (omega arith)
       go false false (ok rs) e p = made (length rs) room rs e (make room rs) refl p
-      go false false (refused n r) e p = absurd (omega arith)
+      go false false (fails q) e p = absurd (omega arith)
 
   called : (work : List ℕ) (old : Bytes) → 0 < callBy make s work old .written → FewestTypes s (callBy make s work old)
   unfolding callBy outcome outputAfter

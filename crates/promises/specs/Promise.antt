@@ -3,7 +3,7 @@ use mathlib.Core.Path.{_≡_}
 use mathlib.Core.List.{List, [], _++_}
 use Prim.Native.Nat.{ℕ, _<_}
 use lib.ListN.{length, take, getD, replicate}
-use Rattle.definition.specs.Basic.{Answer, ok, refused}
+use Rattle.definition.specs.Basic.{Answer, ok, fails}
 use Rattle.definition.specs.Syntax.{Bytes, Identifier, Rec}
 use Rattle.definition.specs.Read.{read}
 use Rattle.definition.specs.Assemble.{Outcome}
@@ -11,9 +11,9 @@ use Rattle.laws.specs.TypeLists.{NoTypeTooMany}
 use Rattle.renaming.specs.Renamed.{namesOf}
 use Rattle.writers.specs.declared.Said.{Said}
 
--- what an exported call says and leaves: the returned number, and of the answer's words the record and the written length
+-- what an exported call says and leaves: the returned number, and of the answer's words the record, the written length and where a name was first used
 abbrev pub outcomeIn : ℕ → List ℕ → Bytes → List ℕ → Outcome
-outcomeIn r a out w = record { number = r; rec = getD a 1 0; written = getD a 2 0; output = out; work = w }
+outcomeIn r a out w = record { number = r; rec = getD a 1 0; first = getD a 3 0; written = getD a 2 0; output = out; work = w }
 
 -- ## One promise, one answer
 
@@ -33,7 +33,7 @@ pub record Demand1 (work : List ℕ) (old : Bytes) (o : Outcome) : Type 0 where
 
 -- ## Demand 3
 
--- number, record and length; the module's bytes; and where the same was lent, the whole output and the work area
+-- number, record, where a name was first used, and length; the module's bytes; and where the same was lent, the whole output and the work area
 pub record SameAnswer (work work′ : List ℕ) (old old′ : Bytes) (r r′ : Said) (out out′ : Bytes) (w w′ : List ℕ) : Type 0 where
   pub said : r ≡ r′
   pub bytes : take (r .len) out ≡ take (r′ .len) out′
@@ -53,13 +53,14 @@ pub record SameExport (work work′ : List ℕ) (old old′ : Bytes) (r r′ : �
 -- the name section of a stream's records
 abbrev pub sectionOf : Answer (List (Rec Identifier)) → Bytes
 sectionOf (ok rs) = namesOf rs
-sectionOf (refused n r) = []
+sectionOf (fails q) = []
 
 -- both calls have accepted: `a`, with names, has written what `b` wrote without them, and then the section
 pub record NamesAfter (section : Bytes) (a b : Outcome) : Type 0 where
   pub number : a .number ≡ 0
   pub number′ : b .number ≡ 0
   pub rec : a .rec ≡ b .rec
+  pub first : a .first ≡ b .first
   pub bytes : take (a .written) (a .output) ≡ take (b .written) (b .output) ++ section
 
 -- ## No type too many (document 02, §14)

@@ -10,7 +10,7 @@ fn report(c: Count) {
             console::number(n);
             console::text(b"\n");
         }
-        Count::Refused(r) => console::refused(r.number, r.rec),
+        Count::Refused(r) => console::refused(r.number, r.rec, r.first),
     }
 }
 

@@ -1,14 +1,9 @@
--- Where an item goes, and that there is room for the items that a field brings.
-use Prim.Native.Nat.{ℕ, _+_, _*_, _≤_, _<_}
+-- That there is room for the items that a field brings.
+use Prim.Native.Nat.{_<_}
 use mathlib.Core.Path.{_≡_}
 use mathlib.Core.Bool.{Bool}
 use mathlib.Core.List.{List, [], _∷_}
-use mir.Syntax.{w64}
-use mir.Val.{Fits}
-use lib.ListN.{length}
-use native.Mathlib.Omega.{arith}
 use Rattle.definition.specs.Syntax.{Space, tables, mems, types, elems, datas}
-use Rattle.area.specs.Layout.{WORDS}
 use Rattle.syntax.specs.Tokens.{spaceOf}
 use Rattle.syntax.specs.declared.Part.{Part}
 use Rattle.syntax.specs.declared.Space as Kind
@@ -22,24 +17,7 @@ use Rattle.syntax.specs.declared.List as Code
 use Rattle.syntax.specs.declared.Field.{Field}
 use Rattle.syntax.specs.declared.Field.the-variants as F
 use Rattle.counting.specs.Counting.{oneMore, externSpaceOf, ownSpaceOf}
-use Rattle.name_table.proofs.Tables.{base-low}
 use Rattle.registration.specs.Register.{Entry, nameless, sourceItems, brought, Fit}
-use Rattle.name_table.specs.Tables.{base}
-
--- ## One item
-
-module _ (s w : List ℕ) (seen : Seen) (k : Space) (p : Part) (r b n : ℕ) (d : b ≡ base k) (e : n ≡ countOf seen k) where
-  module _ (low : countOf seen k < 256) (long : WORDS ≤ length w) where
-    -- its table lies in the area
-    pub item-table : b + 3 * n ≤ length w
-    item-table = omega (arith, base-low k)
-
-    -- and so does its entry
-    pub item-entry : b + 3 * n + 2 < length w
-    item-entry = omega (arith, base-low k)
-
-  pub item-place : countOf seen k < 256 → Fits w64 (b + 3 * n)
-  item-place low = record { fits = omega (arith, base-low k) }
 
 -- ## Room for what a field brings
 

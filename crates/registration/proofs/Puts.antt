@@ -1,16 +1,16 @@
 -- What is put of an item, and of the items that a field brings.
-use Prim.Native.Nat.{ℕ, _+_, _*_}
+use Prim.Native.Nat.{ℕ, _<_}
 use mathlib.Core.Path.{_≡_}
-use mathlib.Core.Bool.{Bool, true, false}
+use mathlib.Core.Bool.{Bool}
 use mathlib.Core.List.{List, [], _∷_}
 use native.Mathlib.Omega.{arith}
-use Rattle.definition.specs.Basic.{if_then_else_, ok, refused, sameBytes}
+use Rattle.definition.specs.Basic.{Answer, ok, fails, _>>=_}
 use Rattle.definition.specs.Syntax.{Space, tables, mems, types, elems, datas}
-use Rattle.definition.specs.Names.{taken}
-use Rattle.syntax.specs.Refusals.{refusal, refusedBy}
+use Rattle.definition.specs.Names.{unheld}
+use Rattle.syntax.specs.Refusals.{refusalOf, refusedBy}
 use Rattle.syntax.specs.declared.Refusal.{Refusal}
 use Rattle.area.specs.Layout.{NAMES}
-use Rattle.syntax.specs.Tokens.{idOf, spaceOf}
+use Rattle.syntax.specs.Tokens.{spaceOf}
 use Rattle.syntax.specs.declared.Part.{Part}
 use Rattle.syntax.specs.declared.Space as Kind
 use Rattle.syntax.specs.Items.{countOf}
@@ -23,48 +23,46 @@ use Rattle.syntax.specs.declared.List as Code
 use Rattle.syntax.specs.declared.Field.{Field}
 use Rattle.syntax.specs.declared.Field.the-variants as F
 use Rattle.counting.specs.Counting.{oneMore, externSpaceOf, ownSpaceOf}
-use Rattle.name_table.specs.Area.{entryWords, names}
+use Rattle.name_table.specs.Definers.{holderIn, heldBy, itemWords}
+use Rattle.name_table.specs.declared.definers.Held.{Held}
+use Rattle.name_table.specs.declared.definers.Held.the-variants as H
 use Rattle.area.proofs.Kept.{kept-same, kept-then}
-use Rattle.registration.specs.Register.{tableAt, Entry, registerIn, nameless, sourceItems, brought, Puts}
-use Rattle.name_table.specs.Tables.{base}
+use Rattle.registration.specs.Register.{Entry, registerIn, nameless, sourceItems, brought, Puts}
 use Rattle.registration.specs.declared.register.Registered.{Registered}
 use Rattle.registration.specs.declared.register.Registered.the-variants as R
-use Rattle.name_table.proofs.Tables.{base-high}
-use Rattle.name_table.proofs.Tables.{words-kept}
+use Rattle.name_table.proofs.Holders.{item-kept}
 
 -- ## One item
 
-module _ (s w : List ℕ) (seen : Seen) (k : Space) (p : Part) (r b n : ℕ) (d : b ≡ base k) (e : n ≡ countOf seen k) (t : Bool) (h : t ≡ taken sameBytes (idOf s p) (names n s w b)) where
-  -- its name is there already
-  pub item-taken : t ≡ true → Puts s w seen r ((k, p) ∷ []) (R.Refused (refusal 13 r)) w
-  unfolding registerIn tableAt
-  item-taken y = record { says = rw (← e, ← d, ← h, y); kept = kept-same NAMES w }
+module _ (s w : List ℕ) (seen : Seen) (k : Space) (p : Part) (r n : ℕ) (e : n ≡ countOf seen k) (t : Held) (h : holderIn n k s w p ≡ heldBy t) where
+  -- its name has a holder
+  pub item-held : (q : ℕ) → t ≡ H.At q → Puts s w seen r ((k, p) ∷ []) (R.Refused (record { number = 13; rec = r; first = q })) w
+  unfolding registerIn _>>=_
+  item-held q y = record { says = rw (← e, h, y); kept = kept-same NAMES w }
 
-  pub item-put : (w′ : List ℕ) → t ≡ false → w′ ≡ entryWords s w (b + 3 * n) p → Puts s w seen r ((k, p) ∷ []) R.Done w′
-  unfolding registerIn tableAt
-  item-put w′ y z = record { says = rw (← e, ← d, ← h, y, z); kept = rw z (words-kept s w (b + 3 * n) p NAMES (omega (arith, base-high k))) }
+  pub item-put : (w′ : List ℕ) → t ≡ H.Nobody → countOf seen k < 256 → w′ ≡ itemWords s w k n p r → Puts s w seen r ((k, p) ∷ []) R.Done w′
+  unfolding registerIn _>>=_
+  item-put w′ y low z = record { says = rw (← e, h, y, z); kept = rw z (item-kept s w k n p r (rw e low)) }
 
 -- ## One item after the other
 
 module _ (s w : List ℕ) (seen : Seen) (r : ℕ) (j : Space) (a : Part) where
   register-then : (ps : List Entry) (w′ : List ℕ) → registerIn s w seen r ((j, a) ∷ []) ≡ ok w′
       → registerIn s w seen r ((j, a) ∷ ps) ≡ registerIn s w′ (oneMore seen j) r ps
-  unfolding registerIn
-  register-then ps w′ e = go (taken sameBytes (idOf s a) (tableAt seen j s w)) e
+  unfolding registerIn _>>=_
+  register-then ps w′ e = go (unheld r (holderIn (countOf seen j) j s w a) (itemWords s w j (countOf seen j) a r)) e
     where
-      go : (t : Bool) → (if t then refused 13 r else ok (entryWords s w (base j + 3 * countOf seen j) a)) ≡ ok w′
-          → (if t then refused 13 r else registerIn s (entryWords s w (base j + 3 * countOf seen j) a) (oneMore seen j) r ps) ≡ registerIn s w′ (oneMore seen j) r ps
-      go true e = let z : _≡_ {A = ℕ} 0 1 = cc in absurd (omega arith)
-      go false e = let d : entryWords s w (base j + 3 * countOf seen j) a ≡ w′ = cc in rw d
+      go : (m : Answer (List ℕ)) → (m >>= λ v. ok v) ≡ ok w′ → (m >>= λ v. registerIn s v (oneMore seen j) r ps) ≡ registerIn s w′ (oneMore seen j) r ps
+      go (ok v) e = let d : v ≡ w′ = cc in rw d
+      go (fails q) e = let z : _≡_ {A = ℕ} 0 1 = cc in absurd (omega arith)
 
   register-stops : (ps : List Entry) (q : Refusal) → registerIn s w seen r ((j, a) ∷ []) ≡ refusedBy q → registerIn s w seen r ((j, a) ∷ ps) ≡ refusedBy q
-  unfolding registerIn
-  register-stops ps q e = go (taken sameBytes (idOf s a) (tableAt seen j s w)) e
+  unfolding registerIn _>>=_
+  register-stops ps q e = go (unheld r (holderIn (countOf seen j) j s w a) (itemWords s w j (countOf seen j) a r)) e
     where
-      go : (t : Bool) → (if t then refused 13 r else ok (entryWords s w (base j + 3 * countOf seen j) a)) ≡ refusedBy q
-          → (if t then refused 13 r else registerIn s (entryWords s w (base j + 3 * countOf seen j) a) (oneMore seen j) r ps) ≡ refusedBy q
-      go true e = cc
-      go false e = let z : _≡_ {A = ℕ} 0 1 = cc in absurd (omega arith)
+      go : (m : Answer (List ℕ)) → (m >>= λ v. ok v) ≡ refusedBy q → (m >>= λ v. registerIn s v (oneMore seen j) r ps) ≡ refusedBy q
+      go (ok v) e = let z : _≡_ {A = ℕ} 0 1 = cc in absurd (omega arith)
+      go (fails z) e = let d : z ≡ refusalOf q = cc in rw d
 
 module _ (s w : List ℕ) (seen : Seen) (r : ℕ) (j : Space) (a b : Part) (q : Registered) (w′ : List ℕ) (told : Puts s w seen r ((j, b) ∷ []) q w′) (e : b ≡ a) where
   -- the first was registered: the others decide

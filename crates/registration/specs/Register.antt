@@ -1,13 +1,12 @@
 -- Registration over the work area: what a field brings goes into the tables, item by item.
-use Prim.Native.Nat.{ℕ, _+_, _*_, _<_}
+use Prim.Native.Nat.{ℕ, _<_}
 use mathlib.Core.Path.{_≡_}
 use mathlib.Core.List.{List, [], _∷_}
-use Rattle.definition.specs.Basic.{if_then_else_, Answer, ok, refused, sameBytes}
+use Rattle.definition.specs.Basic.{Answer, ok, _>>=_}
 use Rattle.definition.specs.Syntax.{Bytes, Identifier, Space, tables, mems, types, elems, datas}
-use Rattle.definition.specs.Names.{Namespace, Items, taken, space}
+use Rattle.definition.specs.Names.{Namespace, Items, space, definers, unheld}
 use Rattle.syntax.specs.Refusals.{refusedBy}
 use Rattle.area.specs.Layout.{NAMES}
-use Rattle.syntax.specs.Tokens.{idOf}
 use Rattle.syntax.specs.declared.Part.{Part}
 use Rattle.syntax.specs.Items.{countOf}
 use Rattle.syntax.specs.declared.Seen.{Seen}
@@ -16,8 +15,9 @@ use Rattle.syntax.specs.declared.Source.the-variants as S
 use Rattle.syntax.specs.declared.Field.{Field}
 use Rattle.syntax.specs.declared.Field.the-variants as F
 use Rattle.counting.specs.Counting.{oneMore, externBrings, ownBrings}
-use Rattle.name_table.specs.Area.{entryWords, names}
+use Rattle.name_table.specs.Area.{names}
 use Rattle.name_table.specs.Tables.{base, tableOf}
+use Rattle.name_table.specs.Definers.{definersBase, definersIn, definersOf, holderIn, itemWords}
 use Rattle.area.specs.Kept.{Kept}
 use Rattle.registration.specs.declared.register.Registered.{Registered}
 use Rattle.registration.specs.declared.register.Registered.the-variants as R
@@ -28,6 +28,10 @@ use Rattle.registration.specs.declared.register.Registered.the-variants 
 unfoldable pub tableAt : Seen → Space → Bytes → List ℕ → Namespace Identifier
 tableAt seen k s w = names (countOf seen k) s w (base k)
 
+-- and the records that defined them
+unfoldable pub definersAt : Seen → Space → List ℕ → List ℕ
+definersAt seen k w = definersIn (countOf seen k) w (definersBase k)
+
 -- ## Items, one after the other
 
 -- an item: its space and its identifier
@@ -37,8 +41,7 @@ Entry = Space × Part
 unfoldable pub registerIn : Bytes → List ℕ → Seen → ℕ → List Entry → Answer (List ℕ)
 registerIn s w seen r [] = ok w
 registerIn s w seen r ((k, p) ∷ ps) =
-    if taken sameBytes (idOf s p) (tableAt seen k s w) then refused 13 r else
-    registerIn s (entryWords s w (base k + 3 * countOf seen k) p) (oneMore seen k) r ps
+    unheld r (holderIn (countOf seen k) k s w p) (itemWords s w k (countOf seen k) p r) >>= λ w′. registerIn s w′ (oneMore seen k) r ps
 
 -- no identifier
 abbrev pub nameless : Part
@@ -76,6 +79,7 @@ pub record Puts (s w : List ℕ) (seen : Seen) (r : ℕ) (ps : List Entry) (q : 
 
 -- ## All items
 
--- the items that were registered stand in the tables
+-- the items that were registered stand in the tables, their names and the records that defined them
 pub record Tables (s w : List ℕ) (xs : Items Identifier) : Type 0 where
   pub each : (k : Space) → space k xs ≡ tableOf k s w
+  pub made : (k : Space) → definers k xs ≡ definersOf k w

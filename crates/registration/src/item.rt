@@ -1,5 +1,6 @@
 // One item in its table, and the items that a field brings.
 use crate::register::Registered;
+use name_table::Held;
 use syntax::Field;
 use syntax::Part;
 use syntax::Refusal;
@@ -19,13 +20,18 @@ fn register_item(s: &[u8], work: &mut [u32], seen: Seen, k: Space, id: Part, rec
     requires { ⌜ Lent (now s) (now work) × (countOf seen (spaceOf k) < 256) ⌝ }
     ensures { λ r. ⌜ Puts (now (s .entry)) (now (work .entry)) seen rec ((spaceOf k, id) ∷ []) r (now (work .exit)) ⌝ }
 {
-    let base = name_table::table_base(k);
     let count = sources::seen::count_of(seen, k) as usize;
-    if name_table::is_taken(s, work, base, count, id) {
-        return Registered::Refused(Refusal { number: 13, rec });
+    match name_table::holder(s, work, k, count, id) {
+        Held::Nobody => {
+            name_table::put_item(s, work, k, count, id, rec);
+            Registered::Done
+        }
+        Held::At(first) => Registered::Refused(Refusal {
+            number: 13,
+            rec,
+            first,
+        }),
     }
-    name_table::put_name(s, work, base + 3 * count, id);
-    Registered::Done
 }
 
 // An inline segment has no identifier.

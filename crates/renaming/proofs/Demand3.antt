@@ -105,6 +105,7 @@ demand-3-call s t work work′ output output′ h h′ e d =
     record {
       number = ap (λ x. x .number) a;
       rec = ap (λ x. x .rec) a;
+      first = ap (λ x. x .first) a;
       written = ap (λ x. length (x .bytes)) a;
       bytes = take-append-seam _ _ ∙ ap (λ x. x .bytes) a ∙ sym (take-append-seam _ _);
     }

@@ -9,7 +9,7 @@ use lib.Seq.{take-append-seam}
 use borrow.Author.Tests.{le-ltb}
 use native.Mathlib.Omega.{arith}
 use Rattle.definition.specs.Assemble.{longestStream, leastWork}
-use Rattle.definition.specs.Basic.{if_then_else_, Answer, ok, refused, _>>=_, sameBytes}
+use Rattle.definition.specs.Basic.{if_then_else_, Answer, ok, fails, refused, _>>=_, sameBytes}
 use Rattle.definition.specs.Syntax.{Bytes, Identifier, Rec, Item}
 use Rattle.definition.specs.Read.{read}
 use Rattle.definition.specs.Deinline.{deinline}
@@ -29,7 +29,7 @@ named-is room rs = go (scope sameBytes (deinline rs))
         → (a >>= λ Γ. itemsIn Γ (deinline rs) >>= λ is. fitting room (length rs) (module′ is ++ nameSection Γ (deinline rs)))
         ≡ (a >>= (λ Γ. itemsIn Γ (deinline rs)) >>= λ is. fitting room (length rs) (module′ is ++ namesBy (deinline rs) a))
     go (ok Γ) = refl
-    go (refused n r) = refl
+    go (fails q) = refl
 
 -- what a call does with `count` records and the items or refusal `a`
 abbrev does : ℕ → Answer (List Item) → Bytes → List ℕ → Bytes → Outcome
@@ -49,7 +49,7 @@ module _ (count : ℕ) (section section′ : Bytes) (work work′ : List ℕ) (o
   same-before : (a : Answer (List Item)) → (does count a section work output .number ≡ 18 → ⊥) → (does count a section′ work′ output′ .number ≡ 18 → ⊥)
       → SaysTheSameBefore section section′ (does count a section work output) (does count a section′ work′ output′)
   unfolding outcome say outputAfter fitting _>>=_
-  same-before (refused n r) h h′ = record { number = refl; rec = refl; nothing = (λ e. e, λ e. e); something = λ e. absurd (e refl) }
+  same-before (fails q) h h′ = record { number = refl; rec = refl; first = refl; nothing = (λ e. e, λ e. e); something = λ e. absurd (e refl) }
   same-before (ok is) h h′ = go (leb (length (module′ is ++ section)) (length output)) (leb (length (module′ is ++ section′)) (length output′)) h h′
     where
       at : (output : Bytes) (work : List ℕ) (section : Bytes) → Bool → Outcome
@@ -62,6 +62,7 @@ module _ (count : ℕ) (section section′ : Bytes) (work work′ : List ℕ) (o
       go true true h h′ = record {
         number = refl;
         rec = refl;
+        first = refl;
         nothing = (λ e. absurd (not-empty is section e), λ e. absurd (not-empty is section′ e));
         something = λ _. record { before = module′ is; bytes = take-append-seam _ _; bytes′ = take-append-seam _ _ };
       }

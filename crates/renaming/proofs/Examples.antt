@@ -5,6 +5,7 @@ use native.Mathlib.Omega.{arith}
 use mathlib.Core.List.{[], _∷_}
 use Rattle.definition.specs.Assemble.{leastWork}
 use Rattle.definition.specs.Basic
+use Rattle.definition.specs.Basic.{refusal}
 use Rattle.definition.specs.Syntax.{Bytes}
 use Rattle.definition.specs.Reader
 use Rattle.definition.specs.Token
@@ -17,7 +18,7 @@ use Rattle.definition.specs.Types
 use Rattle.definition.specs.Names
 use Rattle.definition.specs.Binary
 use Rattle.definition.specs.Assemble
-use Rattle.definition.specs.Assemble.{assemble, refusal}
+use Rattle.definition.specs.Assemble.{assemble, refusing}
 use Rattle.renaming.specs.Shape
 use Rattle.renaming.specs.Kinds
 use Rattle.renaming.specs.Kinds.{localOf}
@@ -41,7 +42,7 @@ unfolding
     Deinline.sourceFields Deinline.fieldsOf Deinline.bodyOf Deinline.deinlineFrom Deinline.deinline Deinline.importsFrom Deinline.importOrder
     Types.signature Types.sameType Types.typeAt Types.typeNumber Types.isInline Types.isShort Types.useOf Types.instrUses Types.bodyUses
     Types.externUses Types.ownUses Types.fieldUses Types.uses Types.declaredBy Types.declared Types.intern Types.allTypes
-    Names.find Names.taken Names.distinct Names.space Names.itemOf Names.register Names.numberIn Names.isAbsent Names.paramNames Names.localsOf
+    Names.find Names.taken Names.distinct Names.space Names.definers Names.holder Names.itemOf Names.register Names.numberIn Names.isAbsent Names.paramNames Names.localsOf
     Names.blocksAfter Names.itemNo Names.checked Names.typeNoOf Names.typeNo Names.blockType Names.localNo Names.depthOf Names.immediate
     Names.plainOp Names.closes Names.instrOp Names.body Names.distinctLocals Names.ownItem Names.externNo Names.resolve Names.resolveAll
     Binary.unsigned Binary.u Binary.vec Binary.sized Binary.byte Binary.funcType Binary.externType Binary.blockType Binary.imm Binary.instruction
@@ -117,7 +118,7 @@ pub accepts-first : assemble (S7 0x78) leastWork 65536 .number ≡ 0
 unfolding computing
 accepts-first = refl
 
-pub refuses-second : assemble (S7 0x79) leastWork 65536 ≡ refusal 14 1
+pub refuses-second : assemble (S7 0x79) leastWork 65536 ≡ refusing (refusal 14 1)
 unfolding computing
 refuses-second = refl
 

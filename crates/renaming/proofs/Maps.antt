@@ -13,7 +13,7 @@ use Rattle.definition.specs.Syntax.{Field, typeF, importF, ownF, exportF, start
 use Rattle.definition.specs.Spaces.{externSpace, ownSpace, sourceSpace, segments, brings, count}
 use Rattle.definition.specs.Deinline.{zeroOffset, sourceFields, fieldsOf, bodyOf, Numbered, deinlineFrom, importsFrom}
 use Rattle.definition.specs.Types.{signature, isInline, isShort, unlessIndexed, useOf, instrUses, bodyUses, externUses, ownUses, fieldUses, uses, declaredBy, declared, allTypes}
-use Rattle.definition.specs.Names.{Namespace, Items, space, itemOf, isAbsent, paramCount, paramNames, localsOf, blocksAfter}
+use Rattle.definition.specs.Names.{Namespace, Items, space, definers, itemOf, isAbsent, paramCount, paramNames, localsOf, blocksAfter}
 use Rattle.renaming.specs.Shape.{mapId, mapIndex, mapLocal, mapTypeUse, mapPlain, mapInstr, mapExtern, mapOwn, mapSource, mapMode, mapFieldRec, mapRec}
 
 -- ## The map on fields, namespaces and items
@@ -41,8 +41,12 @@ module _ {I J : Type 0} (f : I → J) where
   mapItem? none = none
   mapItem? (some x) = some (mapItem x)
 
+  -- an item and the record that defined it
+  abbrev pub mapDefined : ℕ × Space × Option I → ℕ × Space × Option J
+  mapDefined x = (x .0, x .1, mapId f (x .2))
+
   abbrev pub mapItems : Items I → Items J
-  mapItems = map mapItem
+  mapItems = map mapDefined
 
   -- ## Types and type uses
 
@@ -196,7 +200,12 @@ module _ {I J : Type 0} (f : I → J) where
   pub space-map : (k : Space) (xs : Items I) → space k (mapItems xs) ≡ mapAll (space k xs)
   unfolding space
   space-map k [] = refl
-  space-map k ((j, i) ∷ xs) = rw (one-map (sameSpace k j) i, space-map k xs, map-append)
+  space-map k ((r, j, i) ∷ xs) = rw (one-map (sameSpace k j) i, space-map k xs, map-append)
+
+  pub definers-map : (k : Space) (xs : Items I) → definers k (mapItems xs) ≡ definers k xs
+  unfolding definers
+  definers-map k [] = refl
+  definers-map k ((r, j, i) ∷ xs) = rw (definers-map k xs)
 
   ids-map : (ls : List (Local I)) → map (λ p. p .id) (map (mapLocal f) ls) ≡ mapAll (map (λ p. p .id) ls)
   ids-map ls = simp map-map

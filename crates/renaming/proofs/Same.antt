@@ -12,7 +12,7 @@ use Rattle.definition.specs.Syntax.{Index, absent, number, named, Local, TypeUs
 use Rattle.definition.specs.Syntax.{Operand, nothing, label, labels, local, item, access, int32, int64, raw, Plain, Instr, opens, elses, ends, indirect, plain}
 use Rattle.definition.specs.Syntax.{Field, typeF, importF, ownF, exportF, startF, elemF, dataF}
 use Rattle.definition.specs.Types.{isInline, signature}
-use Rattle.definition.specs.Names.{Namespace, Items, Scope, carries, find, taken, distinct, space, foundAt, numberIn, paramCount, paramNames, localsOf, blocksAfter}
+use Rattle.definition.specs.Names.{Namespace, Items, Scope, carries, find, taken, distinct, space, definers, definedAt, holder, foundAt, numberIn, paramCount, paramNames, localsOf, blocksAfter}
 use Rattle.definition.specs.Names.{itemNo, checked, typeNoOf, typeNo, blockType, localNo, depthOf, immediate, plainOp, constOp, closes, instrOp, body}
 use Rattle.definition.specs.Names.{distinctLocals, ownItem, externNo, tableNo, modeOf, resolve}
 use Rattle.renaming.specs.Shape.{mapId, mapIndex, mapTypeUse, mapOperand, mapPlain, mapInstr, mapExtern, mapOwn, mapMode}
@@ -95,11 +95,17 @@ module _ {P I : Type 0} (eq : I → I → Bool) (f g : P → I) (M : Kind → P 
   numberIn-same k ns r (number n) w h = refl
   numberIn-same k ns r (named p) w h = ap (foundAt r) (find-same k p ns (only h) w)
 
-  pub taken-same : (k : Kind) (x : Option P) (ns : Namespace P) → Every M (idNames k x) → All M k ns
+  taken-same : (k : Kind) (x : Option P) (ns : Namespace P) → Every M (idNames k x) → All M k ns
       → taken eq (mapId f x) (mapAll f ns) ≡ taken eq (mapId g x) (mapAll g ns)
   unfolding taken idNames
   taken-same k none ns h w = refl
   taken-same k (some p) ns h w = ap isSome (find-same k p ns (only h) w)
+
+  pub holder-same : (k : Kind) (x : Option P) (ns : Namespace P) (rs : List ℕ) → Every M (idNames k x) → All M k ns
+      → holder eq (mapId f x) (mapAll f ns) rs ≡ holder eq (mapId g x) (mapAll g ns) rs
+  unfolding holder idNames
+  holder-same k none ns rs h w = refl
+  holder-same k (some p) ns rs h w = ap (definedAt rs) (find-same k p ns (only h) w)
 
   distinct-same : (k : Kind) (earlier ns : Namespace P) → All M k earlier → All M k ns
       → distinct eq (mapAll f earlier) (mapAll f ns) ≡ distinct eq (mapAll g earlier) (mapAll g ns)
@@ -121,10 +127,10 @@ module _ {P I : Type 0} (eq : I → I → Bool) (f g : P → I) (M : Kind → P 
 
   module _ (xs : Items P) (ts : List FuncType) (well : (k : Space) → All M (inSpace k) (space k xs)) where
     abbrev Γ₁ : Scope I
-    Γ₁ = record { eq = eq; names = λ k. space k (mapItems f xs); allTypes = ts }
+    Γ₁ = record { eq = eq; names = λ k. space k (mapItems f xs); definers = λ k. definers k (mapItems f xs); allTypes = ts }
 
     abbrev Γ₂ : Scope I
-    Γ₂ = record { eq = eq; names = λ k. space k (mapItems g xs); allTypes = ts }
+    Γ₂ = record { eq = eq; names = λ k. space k (mapItems g xs); definers = λ k. definers k (mapItems g xs); allTypes = ts }
 
     itemNo-same : (k : Space) (r : ℕ) (x : Index P) → Every M (indexNames (inSpace k) x) → itemNo Γ₁ k r (mapIndex f x) ≡ itemNo Γ₂ k r (mapIndex g x)
     unfolding itemNo

@@ -5,17 +5,17 @@ use mathlib.Core.Bool.{Bool, true, false}
 use mathlib.Core.List.{List, [], _∷_, _++_, map, map-append}
 use mathlib.Core.Option.{Option, none, some}
 use borrow.Author.Tests.{eqb-true}
-use Rattle.definition.specs.Basic.{if_then_else_, Answer, ok, refused, _>>=_, each, at}
+use Rattle.definition.specs.Basic.{if_then_else_, Answer, ok, fails, _>>=_, each, at}
 use Rattle.definition.specs.Syntax.{Space, funcs, tables, mems, globals, types, elems, datas, code, sameSpace, FuncType, Rec}
 use Rattle.definition.specs.Deinline.{Numbered, deinlineFrom, deinline, importOrder}
-use Rattle.definition.specs.Names.{Namespace, Items, space, itemOf, taken, registerOne, register, resolveAll}
+use Rattle.definition.specs.Names.{Namespace, Items, space, definers, itemOf, holder, unheld, registerOne, register, resolveAll}
 use Rattle.definition.specs.Assemble.{itemsIn, items, resolved}
 use Rattle.laws.proofs.Passes.{scope-then}
 use Rattle.renaming.specs.Shape.{mapId, mapRec}
 use Rattle.renaming.specs.Kinds.{Kind, inSpace, Names, idNames, names}
 use Rattle.renaming.proofs.Every.{Every, parts, wholes, nothing-said, All}
-use Rattle.renaming.proofs.Maps.{mapNumbered, mapAll, mapItem, mapItem?, mapItems, space-map, itemOf-map, importsFrom-map, allTypes-map, declared-map, deinlineFrom-map}
-use Rattle.renaming.proofs.Same.{bind-same, taken-same, resolve-same}
+use Rattle.renaming.proofs.Maps.{mapNumbered, mapAll, mapDefined, mapItem?, mapItems, space-map, definers-map, itemOf-map, importsFrom-map, allTypes-map, declared-map, deinlineFrom-map}
+use Rattle.renaming.proofs.Same.{bind-same, holder-same, resolve-same}
 use Rattle.renaming.proofs.Fields.{itemNames, numberedNames, of-fields}
 
 -- ## A space is known by its code
@@ -39,18 +39,18 @@ same-space k j e = let c : code k ≡ code j = eqb-true (code k) (code j) e in c
 bind-assoc : {A B C : Type 0} (m : Answer A) (u : A → Answer B) (v : B → Answer C) → (m >>= u >>= v) ≡ (m >>= λ a. u a >>= v)
 unfolding _>>=_
 bind-assoc (ok a) u v = refl
-bind-assoc (refused n r) u v = refl
+bind-assoc (fails q) u v = refl
 
 -- ## Registration
 
 abbrev itemsNames : {P : Type 0} → Items P → Names P
 itemsNames [] = []
-itemsNames (x ∷ xs) = itemNames (some x) ++ itemsNames xs
+itemsNames ((r, k, i) ∷ xs) = idNames (inSpace k) i ++ itemsNames xs
 
 module _ {P : Type 0} {M : Kind → P → Type 0} where
-  item-more : (xs : Items P) (x : Space × Option P) → Every M (itemsNames xs) → Every M (itemNames (some x)) → Every M (itemsNames (xs ++ (x ∷ [])))
-  item-more [] x w h = search wholes
-  item-more (y ∷ xs) x w h = let v = item-more xs x (search parts) h in search (wholes, parts)
+  item-more : (xs : Items P) (r : ℕ) (k : Space) (i : Option P) → Every M (itemsNames xs) → Every M (idNames (inSpace k) i) → Every M (itemsNames (xs ++ ((r, k, i) ∷ [])))
+  item-more [] r k i w h = search wholes
+  item-more (y ∷ xs) r k i w h = let v = item-more xs r k i (search parts) h in search (wholes, parts)
 
   one-all : (k j : Space) (i : Option P) (ns : Namespace P) (t : Bool) → sameSpace k j ≡ t
       → Every M (idNames (inSpace j) i) → All M (inSpace k) ns → All M (inSpace k) ((if t then i ∷ [] else []) ++ ns)
@@ -61,7 +61,7 @@ module _ {P : Type 0} {M : Kind → P → Type 0} where
   space-all : (k : Space) (xs : Items P) → Every M (itemsNames xs) → All M (inSpace k) (space k xs)
   unfolding space
   space-all k [] h = tt
-  space-all k ((j, i) ∷ xs) h = one-all k j i (space k xs) (sameSpace k j) refl (search parts) (space-all k xs (search parts))
+  space-all k ((r, j, i) ∷ xs) h = one-all k j i (space k xs) (sameSpace k j) refl (search parts) (space-all k xs (search parts))
 
 module _ {P I : Type 0} (eq : I → I → Bool) (f g : P → I) (M : Kind → P → Type 0)
     (same : (k : Kind) (p q : P) → M k p → M k q → eq (f p) (f q) ≡ eq (g p) (g q)) where
@@ -69,11 +69,11 @@ module _ {P I : Type 0} (eq : I → I → Bool) (f g : P → I) (M : Kind → P 
   abbrev Follow : {A : Type 0} → (Items I → Answer A) → (Items I → Answer A) → Type 0
   Follow u v = (ys : Items P) → Every M (itemsNames ys) → u (mapItems f ys) ≡ v (mapItems g ys)
 
-  choose-then : {A : Type 0} (r : ℕ) (t : Bool) {a b : Items I} (u v : Items I → Answer A) → u a ≡ v b
-      → ((if t then refused 13 r else ok a) >>= u) ≡ ((if t then refused 13 r else ok b) >>= v)
+  unheld-then : {A : Type 0} (r : ℕ) (held : Option ℕ) {a b : Items I} (u v : Items I → Answer A) → u a ≡ v b
+      → (unheld r held a >>= u) ≡ (unheld r held b >>= v)
   unfolding _>>=_
-  choose-then r true u v e = refl
-  choose-then r false u v e = e
+  unheld-then r none u v e = e
+  unheld-then r (some q) u v e = refl
 
   one-then : {A : Type 0} (r : ℕ) (x : Option (Space × Option P)) (xs : Items P) → Every M (itemsNames xs) → Every M (itemNames x)
       → (u v : Items I → Answer A) → Follow u v
@@ -84,11 +84,13 @@ module _ {P I : Type 0} (eq : I → I → Bool) (f g : P → I) (M : Kind → P 
       rw (
         space-map f j xs,
         space-map g j xs,
-        taken-same eq f g M same (inSpace j) i (space j xs) h (space-all j xs w),
-        ← map-append (mapItem f) xs ((j, i) ∷ []),
-        ← map-append (mapItem g) xs ((j, i) ∷ []),
+        definers-map f j xs,
+        definers-map g j xs,
+        holder-same eq f g M same (inSpace j) i (space j xs) (definers j xs) h (space-all j xs w),
+        ← map-append (mapDefined f) xs ((r, j, i) ∷ []),
+        ← map-append (mapDefined g) xs ((r, j, i) ∷ []),
       )
-      (choose-then r (taken eq (mapId g i) (mapAll g (space j xs))) u v (e (xs ++ ((j, i) ∷ [])) (item-more xs (j, i) w h)))
+      (unheld-then r (holder eq (mapId g i) (mapAll g (space j xs)) (definers j xs)) u v (e (xs ++ ((r, j, i) ∷ [])) (item-more xs r j i w h)))
 
   register-then : {A : Type 0} (fs : Numbered P) (xs : Items P) → Every M (itemsNames xs) → Every M (numberedNames fs)
       → (u v : Items I → Answer A) → Follow u v
@@ -107,8 +109,8 @@ module _ {P I : Type 0} (eq : I → I → Bool) (f g : P → I) (M : Kind → P 
   -- ## Resolution, and the whole
 
   resolveAll-same : (xs : Items P) (ts : List FuncType) → Every M (itemsNames xs) → (fs : Numbered P) → Every M (numberedNames fs)
-      → resolveAll (record { eq = eq; names = λ k. space k (mapItems f xs); allTypes = ts }) (mapNumbered f fs)
-      ≡ resolveAll (record { eq = eq; names = λ k. space k (mapItems g xs); allTypes = ts }) (mapNumbered g fs)
+      → resolveAll (record { eq = eq; names = λ k. space k (mapItems f xs); definers = λ k. definers k (mapItems f xs); allTypes = ts }) (mapNumbered f fs)
+      ≡ resolveAll (record { eq = eq; names = λ k. space k (mapItems g xs); definers = λ k. definers k (mapItems g xs); allTypes = ts }) (mapNumbered g fs)
   unfolding resolveAll each numberedNames
   resolveAll-same xs ts w [] h = refl
   resolveAll-same xs ts w ((r, x) ∷ fs) h =

@@ -7,7 +7,7 @@ use mathlib.Core.List.{List, [], _++_}
 use mathlib.Core.Option.{some}
 use lib.ListN.{length, take}
 use Rattle.definition.specs.Assemble.{longestStream}
-use Rattle.definition.specs.Basic.{Answer, ok, refused, at, sameBytes}
+use Rattle.definition.specs.Basic.{Answer, ok, fails, at, sameBytes}
 use Rattle.definition.specs.Syntax.{Bytes, Identifier, Rec}
 use Rattle.definition.specs.Read.{read}
 use Rattle.definition.specs.Deinline.{Numbered, deinline}
@@ -37,10 +37,11 @@ pub record Renamed (s t : Bytes) : Type 0 where
   pub same-shape : shape first ≡ shape second
   pub alike : Alike (names first) (names second)
 
--- two calls that say the same: the number, the record, how many bytes are written, and the bytes
+-- two calls that say the same: the number, the record, where a name was first used, how many bytes are written, and the bytes
 pub record SaysTheSame (a b : Outcome) : Type 0 where
   pub number : a .number ≡ b .number
   pub rec : a .rec ≡ b .rec
+  pub first : a .first ≡ b .first
   pub written : a .written ≡ b .written
   pub bytes : take (a .written) (a .output) ≡ take (b .written) (b .output)
 
@@ -48,7 +49,7 @@ pub record SaysTheSame (a b : Outcome) : Type 0 where
 
 abbrev pub namesBy : Numbered Identifier → Answer (Scope Identifier) → Bytes
 namesBy fs (ok Γ) = nameSection Γ fs
-namesBy fs (refused n r) = []
+namesBy fs (fails q) = []
 
 -- the name section of some records
 unfoldable pub namesOf : List (Rec Identifier) → Bytes
@@ -64,5 +65,6 @@ pub record WritesBefore (section section′ : Bytes) (a b : Outcome) : Type 0 wh
 pub record SaysTheSameBefore (section section′ : Bytes) (a b : Outcome) : Type 0 where
   pub number : a .number ≡ b .number
   pub rec : a .rec ≡ b .rec
+  pub first : a .first ≡ b .first
   pub nothing : (a .written ≡ 0) ↔ (b .written ≡ 0)
   pub something : (a .written ≡ 0 → ⊥) → WritesBefore section section′ a b

@@ -10,9 +10,9 @@ use native.Mathlib.Omega.{arith}
 use Rattle.syntax.specs.Refusals.{refusedBy}
 use Rattle.syntax.specs.declared.Refusal.{Refusal}
 use Rattle.emit.specs.Put.{Put}
-use Rattle.area.specs.Layout.{LOCALS, UNUSED, WORDS}
+use Rattle.area.specs.Layout.{LOCALS, WORDS}
 use Rattle.area.specs.Kept.{Kept}
-use Rattle.area.proofs.Kept.{kept-less, kept-then, kept-same}
+use Rattle.area.proofs.Kept.{kept-then, kept-same}
 use Rattle.scope.specs.Scope.{scopeIn}
 use Rattle.scope.proofs.Frames.{recalled-scope, scope-kept}
 use Rattle.syntax.specs.declared.Seen.{Seen}
@@ -127,7 +127,7 @@ module _ {a : Answer Entries} {t : Tally} {w : List ℕ} {old : Bytes} {r : Chec
 -- ## Ready after what was written
 
 pub ready-kept : (s w w′ : List ℕ) (r : ℕ) (e : Entry) → Kept LOCALS w w′ → Ready s w r e → Ready s w′ r e
-ready-kept s w w′ r e k h = record { recalled = recalled-scope s w w′ (usesOf s r e) (kept-less UNUSED LOCALS (omega arith) k) (h .recalled); whole = h .whole; head = h .head }
+ready-kept s w w′ r e k h = record { recalled = recalled-scope s w w′ (usesOf s r e) k (h .recalled); whole = h .whole; head = h .head }
 
 -- ## An entry
 
@@ -209,7 +209,7 @@ after-twelve sizes counts sizes′ counts′ h d e = record { sizes = d ∙ h .s
 
 -- the scope after what was written
 scope-same : (s w w′ : List ℕ) → Kept LOCALS w w′ → scopeIn s w′ ≡ scopeIn s w
-scope-same s w w′ k = scope-kept s w w′ (kept-less UNUSED LOCALS (omega arith) k)
+scope-same s w w′ k = scope-kept s w w′ k
 
 module _ (s w : List ℕ) (r : ℕ) (t t₁ : Tally) (e : Entry) (old : Bytes) (v : Verdict) (w₁ : List ℕ) (mid : Bytes) (x : ChecksIn (entryIn (scopeIn s w) s r e) t w old (record { tally = t₁; verdict = v }) w₁ mid)
     (e′ : Entry) (is : e ≡ e′) where

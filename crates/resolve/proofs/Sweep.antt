@@ -5,12 +5,12 @@ use mathlib.Core.List.{List, [], _++_, append-assoc, append-nil}
 use lib.ListN.{length}
 use native.Mathlib.Omega.{arith}
 use Rattle.syntax.specs.Refusals.{refusedBy}
-use Rattle.definition.specs.Basic.{Answer, ok, refused, _>>=_, each, concatMap}
+use Rattle.definition.specs.Basic.{Answer, ok, fails, _>>=_, each, concatMap}
 use Rattle.definition.specs.Syntax.{Bytes, Identifier}
 use Rattle.definition.specs.Types.{uses}
 use Rattle.definition.specs.Names.{Scope, resolveAll}
 use Rattle.syntax.specs.declared.Refusal.{Refusal}
-use Rattle.area.specs.Layout.{LOCALS, TYPES, UNUSED, WORDS}
+use Rattle.area.specs.Layout.{LOCALS, TYPES, WORDS}
 use Rattle.syntax.specs.Fields.{fieldOf}
 use Rattle.syntax.specs.declared.Field as Code
 use Rattle.area.specs.Kept.{Kept}
@@ -40,7 +40,7 @@ use Rattle.resolve.proofs.Checking.{was-fine, fine-kept, was-not, area-
 onto : (xs ys : Entries) (a b : Answer Entries) → a ≡ ok ys → both (ok xs) (both a b) ≡ both (ok (xs ++ ys)) b
 unfolding both
 onto xs ys a (ok zs) e = rw e (ap ok (sym (append-assoc xs ys zs)))
-onto xs ys a (refused n r) e = rw e refl
+onto xs ys a (fails q) e = rw e refl
 
 onto-not : (xs : Entries) (r : Refusal) (a b : Answer Entries) → a ≡ refusedBy r → both (ok xs) (both a b) ≡ refusedBy r
 unfolding both
@@ -49,7 +49,7 @@ onto-not xs r a b e = rw e refl
 nothing-onto : (a : Answer Entries) → both (ok []) a ≡ a
 unfolding both
 nothing-onto (ok xs) = refl
-nothing-onto (refused n r) = refl
+nothing-onto (fails q) = refl
 
 onto-nothing : (xs : Entries) → both (ok xs) (ok []) ≡ ok xs
 unfolding both
@@ -107,7 +107,7 @@ module _ (s w₀ w : List ℕ) (old mid : Bytes) (c : Cursor) (t₀ t : Tally) (
     module _ (f : Code.Field) (here : ℕ) (is : m .what ≡ W.Field f here) where
       fields : entriesOf (scopeIn s w₀) (fieldsAhead c s) ≡ both (threeIn (scopeIn s w) s (c .rec) (three f (c .seen) here)) (entriesOf (scopeIn s w₀) (fieldsAhead (m .next) s))
       fields =
-          let k : scopeIn s w ≡ scopeIn s w₀ = scope-kept s w₀ w (kept-less UNUSED LOCALS (omega arith) (v .kept)) in
+          let k : scopeIn s w ≡ scopeIn s w₀ = scope-kept s w₀ w (v .kept) in
           rw (visit-fields s c m told f here is, entries-append (scopeIn s w₀), k) (ap (λ a. both a (entriesOf (scopeIn s w₀) (fieldsAhead (m .next) s))) (entries-here (scopeIn s w₀) s c (m .next) f here))
 
       uses-are : uses (fieldsAhead c s) ≡ uses (fieldsHere c s (record { field = fieldOf s f; head-end = here; next = m .next })) ++ uses (fieldsAhead (m .next) s)
@@ -120,7 +120,7 @@ module _ (s w₀ w : List ℕ) (old mid : Bytes) (c : Cursor) (t₀ t : Tally) (
       -- this field's entries are ready
       pub sweep-ready : ReadableMet s (m .what) → ReadyThree s w (c .rec) (three f (c .seen) here)
       sweep-ready known =
-          let k = kept-less UNUSED LOCALS (omega arith) (v .kept) in
+          let k = v .kept in
           let a = recalled-here w₀ (typesIn s w₀) s c (m .next) f here sweep-uses in
           let z = whole-here s (c .rec) (c .seen) f here (visit-whole s c m told f here is w (v .ahead)) in
           let b = head-here s (c .seen) f here (λ i es t ls e. visit-func-few s c m told f here is i es t ls e) (visit-readable s m f here is known) in

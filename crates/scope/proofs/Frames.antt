@@ -9,51 +9,52 @@ use Rattle.definition.specs.Syntax.{Identifier, Space, FuncType, code}
 use Rattle.definition.specs.Types.{Uses}
 use Rattle.definition.specs.Names.{Namespace}
 use Rattle.definition.specs.Basic.{sameBytes}
-use Rattle.area.specs.Layout.{LABELS, LOCALS, NAMED, TOTAL, UNUSED, USES}
+use Rattle.area.specs.Layout.{LABELS, LOCALS, NAMED, TOTAL, USES}
 use Rattle.syntax.specs.Tokens.{idOf}
 use Rattle.syntax.specs.declared.Part.{Part}
-use Rattle.name_table.specs.Area.{entry, entryWords, names, labels}
+use Rattle.name_table.specs.Area.{entryWords, labels}
 use Rattle.area.specs.Kept.{Kept}
 use Rattle.area.proofs.Kept.{kept-word}
 use Rattle.name_table.proofs.Walk.{entry-written}
 use Rattle.type_table.specs.Table.{typesIn, Recalled}
 use Rattle.type_table.proofs.Types as Signatures
 use Rattle.name_table.specs.Tables.{base, tableOf}
-use Rattle.name_table.proofs.Tables.{base-low}
-use Rattle.name_table.proofs.Tables.{code-small, words-kept}
+use Rattle.name_table.specs.Definers.{definersBase, definersOf}
+use Rattle.name_table.proofs.Holders.{definers-low, definers-same}
+use Rattle.name_table.proofs.Tables.{base-low, code-small, words-kept, entry-kept, names-kept}
 use Rattle.scope.specs.Scope.{scopeIn, localsIn, labelsIn}
 use Rattle.scope.specs.declared.Locals.{Locals}
 
 -- ## Words that are kept
 
 module _ (s w w′ : List ℕ) (m : ℕ) (k : Kept m w w′) where
-  pub entry-kept : (i : ℕ) → i + 2 < m → entry s w′ i ≡ entry s w i
-  unfolding entry
-  entry-kept i h = rw (kept-word k i (omega arith), kept-word k (i + 1) (omega arith), kept-word k (i + 2) h)
-
-  pub names-kept : (n b : ℕ) → b + 3 * n ≤ m → names n s w′ b ≡ names n s w b
-  unfolding names
-  names-kept zero b h = refl
-  names-kept (suc n) b h = rw (entry-kept b (omega arith), names-kept n (b + 3) (omega arith))
-
   -- the labels below a place
   pub labels-kept : (n : ℕ) → LABELS + 3 * n ≤ m → labelsIn s w′ n ≡ labelsIn s w n
   unfolding labelsIn labels
   labels-kept zero h = refl
-  labels-kept (suc n) h = rw (entry-kept (LABELS + 3 * n) (omega arith), labels-kept n (omega arith))
+  labels-kept (suc n) h = rw (entry-kept s w w′ m k (LABELS + 3 * n) (omega arith), labels-kept n (omega arith))
 
   pub types-kept : NAMED ≤ m → typesIn s w′ ≡ typesIn s w
   types-kept h = Signatures.types-kept m s h k
 
-  table-kept : UNUSED ≤ m → (j : Space) → tableOf j s w′ ≡ tableOf j s w
+  table-kept : LOCALS ≤ m → (j : Space) → tableOf j s w′ ≡ tableOf j s w
   unfolding tableOf
   table-kept h j =
-      rw (kept-word k (NAMED + code j) (omega (arith, code-small j))) (names-kept (min (getD w (NAMED + code j) 0) 256) (base j) (omega (arith, base-low j)))
+      rw (kept-word k (NAMED + code j) (omega (arith, code-small j))) (names-kept s w w′ m k (min (getD w (NAMED + code j) 0) 256) (base j) (omega (arith, base-low j)))
+
+  definers-kept : LOCALS ≤ m → (j : Space) → definersOf j w′ ≡ definersOf j w
+  unfolding definersOf
+  definers-kept h j =
+      rw (kept-word k (NAMED + code j) (omega (arith, code-small j)))
+      (definers-same (min (getD w (NAMED + code j) 0) 256) w w′ (definersBase j) (λ i l u. kept-word k i (omega (arith, definers-low j))))
 
 module _ (s w w′ : List ℕ) where
-  pub scope-kept : Kept UNUSED w w′ → scopeIn s w′ ≡ scopeIn s w
+  pub scope-kept : Kept LOCALS w w′ → scopeIn s w′ ≡ scopeIn s w
   unfolding scopeIn
-  scope-kept k = rw (types-kept s w w′ UNUSED k (omega arith)) (ap (λ (f : Space → Namespace Identifier). record { eq = sameBytes; names = f; allTypes = typesIn s w }) (fun-ext (table-kept s w w′ UNUSED k (omega arith))))
+  scope-kept k =
+      rw (types-kept s w w′ LOCALS k (omega arith))
+      (ap (λ (f : Space → Namespace Identifier). record { eq = sameBytes; names = f; definers = λ j. definersOf j w′; allTypes = typesIn s w }) (fun-ext (table-kept s w w′ LOCALS k (omega arith)))
+      ∙ ap (λ (f : Space → List ℕ). record { eq = sameBytes; names = λ j. tableOf j s w; definers = f; allTypes = typesIn s w }) (fun-ext (definers-kept s w w′ LOCALS k (omega arith))))
 
   pub locals-kept : (l : Locals) → Kept LABELS w w′ → l .count ≤ 128 → localsIn s w′ l ≡ localsIn s w l
   unfolding localsIn
@@ -80,8 +81,8 @@ module _ (w : List ℕ) (ts : List FuncType) where
       let low = u .0 in (low, kept-word k (USES + r) (omega arith) ∙ u .1, recalled-kept w′ m us k h (u .2))
 
 -- and with the types, whose count stands at `TOTAL`
-pub recalled-scope : (s w w′ : List ℕ) (us : Uses) → Kept UNUSED w w′ → Recalled w (typesIn s w) us → Recalled w′ (typesIn s w′) us
-recalled-scope s w w′ us k u = rw (types-kept s w w′ UNUSED k (omega arith)) (recalled-kept w (typesIn s w) w′ UNUSED us k (omega arith) u)
+pub recalled-scope : (s w w′ : List ℕ) (us : Uses) → Kept LOCALS w w′ → Recalled w (typesIn s w) us → Recalled w′ (typesIn s w′) us
+recalled-scope s w w′ us k u = rw (types-kept s w w′ LOCALS k (omega arith)) (recalled-kept w (typesIn s w) w′ LOCALS us k (omega arith) u)
 
 -- ## One more entry
 

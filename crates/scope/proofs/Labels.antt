@@ -6,10 +6,10 @@ use mathlib.Core.List.{List, _∷_}
 use lib.ListN.{length}
 use borrow.Author.Tests.{eq-eqb, ne-eqb}
 use native.Mathlib.Omega.{arith}
-use Rattle.definition.specs.Basic.{ok, refused, _>>=_, sameBytes}
+use Rattle.definition.specs.Basic.{ok, _>>=_, sameBytes}
 use Rattle.definition.specs.Syntax.{Identifier, Index}
 use Rattle.definition.specs.Names.{carries, numberIn, depthOf, closes}
-use Rattle.syntax.specs.Refusals.{refusedBy}
+use Rattle.syntax.specs.Refusals.{refusal, refusedBy}
 use Rattle.syntax.specs.declared.Refusal.{Refusal}
 use Rattle.area.specs.Layout.{LABELS, WORDS}
 use Rattle.syntax.specs.Tokens.{partOf, idOf}
@@ -68,8 +68,8 @@ module _ (s w : List ℕ) (k r : ℕ) (p : Part) where
     closes-inner e = rw (ne-eqb _ _ h, inner g, ← b, ← told, e)
 
     -- it does not
-    pub closes-other : t ≡ false → closes (scopeIn s w) r (idOf s p) (labelsIn s w k) ≡ refused 17 r
+    pub closes-other : (z : Refusal) → t ≡ false → z ≡ refusal 17 r → closes (scopeIn s w) r (idOf s p) (labelsIn s w k) ≡ refusedBy z
     unfolding closes scopeIn labelsIn
-    closes-other e = rw (ne-eqb _ _ h, inner g, ← b, ← told, e)
+    closes-other z e f = rw (ne-eqb _ _ h, inner g, ← b, ← told, e, f)
 
 pub ruleset closings = (closes-plain, closes-nothing, closes-inner, closes-other)

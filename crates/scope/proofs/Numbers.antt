@@ -14,7 +14,7 @@ use Rattle.definition.specs.Types as Types
 use Rattle.definition.specs.Types.{signature, sameType, isInline, isShort, usedAt}
 use Rattle.definition.specs.Names as Names
 use Rattle.definition.specs.Names.{itemNo, typeNo, blockType, isAbsent, shortType}
-use Rattle.syntax.specs.Refusals.{refusedBy}
+use Rattle.syntax.specs.Refusals.{refusal, refusedBy}
 use Rattle.syntax.specs.declared.Refusal.{Refusal}
 use Rattle.area.specs.Layout.{USES}
 use Rattle.syntax.specs.Resolved.{typeNoOf, blockTypeOf}
@@ -71,11 +71,11 @@ module _ (s w : List ℕ) (r n : ℕ) (t : TypeUse) (i : Bool) (is : i ≡ isInl
     pub checked-same : q ≡ A.Same → Names.checked (scopeIn s w) r (isInline (useOf s t)) (signature (useOf s t)) n ≡ ok (record { type-no = n })
     checked-same d = rw d at checked-is
 
-    pub checked-differs : q ≡ A.Differs → Names.checked (scopeIn s w) r (isInline (useOf s t)) (signature (useOf s t)) n ≡ refused 16 r
-    checked-differs d = rw d at checked-is
+    pub checked-differs : (z : Refusal) → q ≡ A.Differs → z ≡ refusal 16 r → Names.checked (scopeIn s w) r (isInline (useOf s t)) (signature (useOf s t)) n ≡ refusedBy z
+    checked-differs z d f = rw f (rw d at checked-is)
 
-    pub checked-nothing : q ≡ A.NoType → Names.checked (scopeIn s w) r (isInline (useOf s t)) (signature (useOf s t)) n ≡ refused 15 r
-    checked-nothing d = rw d at checked-is
+    pub checked-nothing : (z : Refusal) → q ≡ A.NoType → z ≡ refusal 15 r → Names.checked (scopeIn s w) r (isInline (useOf s t)) (signature (useOf s t)) n ≡ refusedBy z
+    checked-nothing z d f = rw f (rw d at checked-is)
 
 pub ruleset checks = (checked-plain, checked-same, checked-differs, checked-nothing)
 

@@ -8,11 +8,13 @@ use mir.Syntax.{w32}
 use mir.Val.{Fits}
 use lib.ListN.{length, replicate}
 use native.Mathlib.Omega.{arith}
-use Rattle.definition.specs.Basic.{if_then_else_, ok, refused, _>>=_, sameBytes, firstAt, later}
+use Rattle.definition.specs.Basic.{if_then_else_, ok, _>>=_, sameBytes, firstAt, later}
 use Rattle.definition.specs.Syntax.{Identifier}
 use Rattle.definition.specs.Names.{Namespace, carries, find, numberIn, localNo}
 use Rattle.area.specs.Layout.{LOCALS, WORDS}
+use Rattle.syntax.specs.Refusals.{refusal, refusedBy}
 use Rattle.syntax.specs.Tokens.{partOf, indexOf}
+use Rattle.syntax.specs.declared.Refusal.{Refusal}
 use Rattle.syntax.specs.declared.Part.{Part}
 use Rattle.syntax.specs.declared.Index.{Index}
 use Rattle.syntax.specs.declared.Index.the-variants as X
@@ -93,8 +95,8 @@ module _ (s w : List ℕ) (l : Locals) (r : ℕ) (x : Index) where
     local-found k e = rw (d, ← b, find-after (l .nameless) name (names (l .count) s w LOCALS), told, e)
 
     -- a name that is not
-    pub local-none : q ≡ F.Nothing → localNo (scopeIn s w) (localsIn s w l) r (indexOf s x) ≡ refused 14 r
+    pub local-none : (z : Refusal) → q ≡ F.Nothing → z ≡ refusal 14 r → localNo (scopeIn s w) (localsIn s w l) r (indexOf s x) ≡ refusedBy z
     unfolding localNo scopeIn localsIn numberIn _>>=_ shifted
-    local-none e = rw (d, ← b, find-after (l .nameless) name (names (l .count) s w LOCALS), told, e)
+    local-none z e f = rw (d, ← b, find-after (l .nameless) name (names (l .count) s w LOCALS), told, e, f)
 
 pub ruleset locals = (local-absent, local-number, local-found, local-none)

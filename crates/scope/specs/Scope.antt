@@ -10,12 +10,13 @@ use Rattle.definition.specs.Names.{Namespace, Scope}
 use Rattle.name_table.specs.Area.{names, labels}
 use Rattle.type_table.specs.Table.{typesIn}
 use Rattle.name_table.specs.Tables.{tableOf}
+use Rattle.name_table.specs.Definers.{definersOf}
 use Rattle.scope.specs.declared.Locals.{Locals}
 
 -- ## The scope
 
 unfoldable pub scopeIn : Bytes → List ℕ → Scope Identifier
-scopeIn s w = record { eq = sameBytes; names = λ k. tableOf k s w; allTypes = typesIn s w }
+scopeIn s w = record { eq = sameBytes; names = λ k. tableOf k s w; definers = λ k. definersOf k w; allTypes = typesIn s w }
 
 -- ## Locals
 

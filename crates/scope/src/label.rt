@@ -52,5 +52,5 @@ pub fn closes(s: &[u8], work: &[u32], k: u32, label: Part, rec: u32) -> Closed
     if name_table::carries(s, work, area::LABELS + 3 * (outer as usize), tag, name) {
         return Closed::Yes;
     }
-    Closed::Refused(Refusal { number: 17, rec })
+    Closed::Refused(syntax::refusal_at(17, rec))
 }

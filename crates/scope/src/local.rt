@@ -31,7 +31,7 @@ pub fn local_no(s: &[u8], work: &[u32], l: Locals, x: Index, rec: u32) -> LocalA
             let name = token::bytes_of(s, p);
             match name_table::find_name(s, work, area::LOCALS, l.count as usize, name) {
                 Found::At(k) => LocalAt::To(LocalNo(l.nameless + k as u32)),
-                Found::Nothing => LocalAt::Refused(Refusal { number: 14, rec }),
+                Found::Nothing => LocalAt::Refused(syntax::refusal_at(14, rec)),
             }
         }
     }

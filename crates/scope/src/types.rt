@@ -38,8 +38,8 @@ fn checked(s: &[u8], work: &[u32], n: u32, t: TypeUse, rec: u32) -> TypeAt
     if type_table::is_inline(s, t) {
         return match type_table::agrees(s, work, n, t) {
             Agreement::Same => TypeAt::To(TypeNo(n)),
-            Agreement::Differs => TypeAt::Refused(Refusal { number: 16, rec }),
-            Agreement::NoType => TypeAt::Refused(Refusal { number: 15, rec }),
+            Agreement::Differs => TypeAt::Refused(syntax::refusal_at(16, rec)),
+            Agreement::NoType => TypeAt::Refused(syntax::refusal_at(15, rec)),
         };
     }
     TypeAt::To(TypeNo(n))

@@ -4,16 +4,16 @@ use mathlib.Core.Path.{_≡_, refl, sym, _∙_, ap}
 use mathlib.Core.List.{List, [], _++_}
 use lib.ListN.{length}
 use native.Mathlib.Omega.{arith}
-use Rattle.definition.specs.Basic.{Answer, ok, refused, concatMap}
+use Rattle.definition.specs.Basic.{Answer, ok, fails, concatMap}
 use Rattle.definition.specs.Syntax.{Bytes}
 use Rattle.definition.specs.Types.{Uses}
 use Rattle.definition.specs.Binary.{inSection, joined}
 use Rattle.syntax.specs.Refusals.{refusedBy}
 use Rattle.syntax.specs.declared.Refusal.{Refusal}
 use Rattle.emit.proofs.Laws.{put-then, put-is, put-skip}
-use Rattle.area.specs.Layout.{LOCALS, UNUSED}
+use Rattle.area.specs.Layout.{LOCALS}
 use Rattle.area.specs.Kept.{Kept}
-use Rattle.area.proofs.Kept.{kept-same, kept-then, kept-less}
+use Rattle.area.proofs.Kept.{kept-same, kept-then}
 use Rattle.type_table.specs.Table.{typesIn, Recalled}
 use Rattle.scope.specs.Scope.{scopeIn}
 use Rattle.scope.proofs.Frames.{types-kept, scope-kept, recalled-scope}
@@ -38,7 +38,7 @@ use Rattle.entries.specs.declared.EndsAt.the-variants as A
 bytes-other : (k j : ℕ) (a : Answer (List Bytes)) → (k ≡ j → ⊥) → [] ≡ bytesIn k (tagged j a)
 unfolding bytesIn tagged joined concatMap
 bytes-other k j (ok bs) e = rw (section-other k j bs e) refl
-bytes-other k j (refused n r) e = unfold inSection in refl
+bytes-other k j (fails q) e = unfold inSection in refl
 
 bytes-same : (k j : ℕ) (a : Answer (List Bytes)) (bs : List Bytes) → j ≡ k → a ≡ ok bs → joined bs ≡ bytesIn k (tagged j a)
 unfolding bytesIn tagged
@@ -82,28 +82,28 @@ module _ (s w : List ℕ) (k r j : ℕ) (e : Entry) (sec : j ≡ sectionNo e) (o
 pub fine-first : (a b : Answer Entries) → Fine (both a b) → Fine a
 unfolding both
 fine-first (ok xs) b f = record { entries = xs; is = refl }
-fine-first (refused n r) b f = let g : refused n r ≡ ok (f .entries) = f .is in let z : _≡_ {A = ℕ} 0 1 = cc in absurd (omega arith)
+fine-first (fails q) b f = let g : fails q ≡ ok (f .entries) = f .is in let z : _≡_ {A = ℕ} 0 1 = cc in absurd (omega arith)
 
 pub fine-second : (a b : Answer Entries) → Fine (both a b) → Fine b
 unfolding both
 fine-second (ok xs) (ok ys) f = record { entries = ys; is = refl }
-fine-second (ok xs) (refused n r) f = let g : refused n r ≡ ok (f .entries) = f .is in let z : _≡_ {A = ℕ} 0 1 = cc in absurd (omega arith)
-fine-second (refused n r) b f = let g : refused n r ≡ ok (f .entries) = f .is in let z : _≡_ {A = ℕ} 0 1 = cc in absurd (omega arith)
+fine-second (ok xs) (fails q) f = let g : fails q ≡ ok (f .entries) = f .is in let z : _≡_ {A = ℕ} 0 1 = cc in absurd (omega arith)
+fine-second (fails q) b f = let g : fails q ≡ ok (f .entries) = f .is in let z : _≡_ {A = ℕ} 0 1 = cc in absurd (omega arith)
 
 pub bytes-both : (k : ℕ) (a b : Answer Entries) → Fine (both a b) → bytesIn k a ++ bytesIn k b ≡ bytesIn k (both a b)
 unfolding both bytesIn
 bytes-both k (ok xs) (ok ys) f = rw (section-append k xs ys, joined-append (inSection k xs) (inSection k ys)) refl
-bytes-both k (ok xs) (refused n r) f = let g : refused n r ≡ ok (f .entries) = f .is in let z : _≡_ {A = ℕ} 0 1 = cc in absurd (omega arith)
-bytes-both k (refused n r) b f = let g : refused n r ≡ ok (f .entries) = f .is in let z : _≡_ {A = ℕ} 0 1 = cc in absurd (omega arith)
+bytes-both k (ok xs) (fails q) f = let g : fails q ≡ ok (f .entries) = f .is in let z : _≡_ {A = ℕ} 0 1 = cc in absurd (omega arith)
+bytes-both k (fails q) b f = let g : fails q ≡ ok (f .entries) = f .is in let z : _≡_ {A = ℕ} 0 1 = cc in absurd (omega arith)
 
 pub scope-same : (s w w′ : List ℕ) → Kept LOCALS w w′ → scopeIn s w′ ≡ scopeIn s w
-scope-same s w w′ k = scope-kept s w w′ (kept-less UNUSED LOCALS (omega arith) k)
+scope-same s w w′ k = scope-kept s w w′ k
 
 pub types-same : (s w w′ : List ℕ) → Kept LOCALS w w′ → typesIn s w′ ≡ typesIn s w
 types-same s w w′ k = types-kept s w w′ LOCALS k (omega arith)
 
 pub recalled-same : (s w w′ : List ℕ) (us : Uses) → Kept LOCALS w w′ → Recalled w (typesIn s w) us → Recalled w′ (typesIn s w′) us
-recalled-same s w w′ us k u = recalled-scope s w w′ us (kept-less UNUSED LOCALS (omega arith) k) u
+recalled-same s w w′ us k u = recalled-scope s w w′ us k u
 
 module _ (s w : List ℕ) (r : ℕ) (e f : Entry) (is : e ≡ f) (v : Emittable s w r f) where
   -- an entry that the code has made

@@ -3,9 +3,10 @@ use Prim.Native.Nat.{ℕ, _≤_, _<_}
 use mathlib.Core.Path.{_≡_}
 use mathlib.Core.List.{List, [], _++_, map}
 use lib.ListN.{length, drop}
-use Rattle.definition.specs.Basic.{Answer, ok, refused}
-use Rattle.definition.specs.Syntax.{Bytes, Item, typeI}
-use Rattle.definition.specs.Names.{resolveAll}
+use Rattle.definition.specs.Basic.{Answer, ok, fails, refused}
+use Rattle.definition.specs.Syntax.{Bytes, Identifier, Item, typeI}
+use Rattle.definition.specs.Names.{resolveAll, Scope}
+use Rattle.definition.specs.Types.{uses}
 use Rattle.definition.specs.Binary.{inSection, joined}
 use Rattle.emit.specs.Put.{Put, past}
 use Rattle.area.specs.Layout.{BYTES, LOCALS, WORDS}
@@ -66,7 +67,7 @@ pub record Counts (n k : ℕ) (es : Entries) : Type 0 where
 -- what the fields resolve to
 abbrev pub keptItems : Answer (List Item) → List Item
 keptItems (ok is) = is
-keptItems (refused n r) = []
+keptItems (fails q) = []
 
 -- the items of the module: the added types come last
 unfoldable pub moduleItems : ℕ → List ℕ → List ℕ → List Item

@@ -12,7 +12,8 @@ use native.Mathlib.Decide.{decLe}
 use native.Mathlib.Numerals.{add-one}
 use mir.Syntax.{w32}
 use mir.Val.{Fits}
-use Rattle.definition.specs.Basic.{if_then_else_, Answer, ok, refused}
+use Rattle.definition.specs.Basic as Basic
+use Rattle.definition.specs.Basic.{if_then_else_, Answer, ok, fails, refused}
 use Rattle.definition.specs.Syntax as Syntax
 use Rattle.definition.specs.Syntax.{Bytes, Identifier, Rec, field, instr, bodyEnd}
 use Rattle.definition.specs.Reader.{Step, got, fault}
@@ -101,8 +102,8 @@ kept-of (ok x, p) k q e =
     let a : ok (keptOf x) ≡ ok k = ap (λ (z : Answer Kept × Place). z .0) e in
     let b : p ≡ q = ap (λ (z : Answer Kept × Place). z .1) e in
     record { rec = x; is = rw b; keeps = cc }
-kept-of (refused n r, p) k q e =
-    let a : refused n r ≡ ok k = ap (λ (z : Answer Kept × Place). z .0) e in let z : _≡_ {A = ℕ} 0 1 = cc in absurd (omega arith)
+kept-of (fails z, p) k q e =
+    let a : fails z ≡ ok k = ap (λ (z : Answer Kept × Place). z .0) e in let z : _≡_ {A = ℕ} 0 1 = cc in absurd (omega arith)
 
 -- an instruction
 record On-instr (u : Bool) (h : Shift) (x : Rec Identifier) : Type 0 where
@@ -239,11 +240,10 @@ module _ (s : Bytes) (w₀ : List ℕ) (p : Place) (m : Marks) (c : Seen) (ended
         → Walks s w₀ (C.Refused (refusal n (q .rec))) w
     unfolding oneRecord
     faulted n (got y next) f e = let z : _≡_ {A = ℕ} 0 1 = cc in absurd (omega arith)
-    faulted n (fault k) f e =
-        let j : k ≡ n = cc in
-        let i : p .rec ≡ q .rec = cc in
-        let g : oneRecord (v .seen) s (p .at) ≡ fault k = rw (room-same (v .counts), v .body) f in
-        stopped (refusal n (q .rec)) (v .same ∙ pass-fault (p .rec) (v .seen) used (v .ends) s (p .at) (4096 - p .rec) k h (omega arith) g ∙ rw (j, i))
+    faulted n (fault m) f e =
+        let j : Basic.refusal m (p .rec) ≡ Basic.refusal n (q .rec) = cc in
+        let g : oneRecord (v .seen) s (p .at) ≡ fault m = rw (room-same (v .counts), v .body) f in
+        stopped (refusal n (q .rec)) (v .same ∙ pass-fault (p .rec) (v .seen) used (v .ends) s (p .at) (4096 - p .rec) m h (omega arith) g ∙ ap (λ (z : Basic.Refusal). record { says = fails z; seen = v .seen; ends = v .ends }) j)
 
     -- ### Outside a body
 
@@ -425,7 +425,7 @@ module _ (s : Bytes) (w₀ : List ℕ) (p : Place) (m : Marks) (c : Seen) (ended
         where
           not-kept : (y : Answer (Rec Identifier)) → keptAnswer y ≡ refused n (q .rec) → y ≡ refused n (q .rec)
           not-kept (ok x) e = let z : _≡_ {A = ℕ} 0 1 = cc in absurd (omega arith)
-          not-kept (refused k r) e = cc
+          not-kept (fails z) e = cc
 
 -- ## The stream's end
 
@@ -467,13 +467,13 @@ ends-put w n a r x u l e = rw (lt-ltb _ _ l, e)
 
 -- ## The two lengths before it
 
-pub too-long : (s : Bytes) (w : List ℕ) → BYTES < length s → Reads s w (C.Refused (refusal 1 0)) w
+pub too-long : (s : Bytes) (w : List ℕ) (q : Refusal) → BYTES < length s → q ≡ refusal 1 0 → Reads s w (C.Refused q) w
 unfolding reading readingArea
-too-long s w h = record { says = rw (lt-ltb _ _ h); leaves = rw (lt-ltb _ _ h) }
+too-long s w q h e = record { says = rw (lt-ltb _ _ h, e); leaves = rw (lt-ltb _ _ h) }
 
-pub too-short : (s : Bytes) (w : List ℕ) → length s ≤ BYTES → length w < WORDS → Reads s w (C.Refused (refusal 10 0)) w
+pub too-short : (s : Bytes) (w : List ℕ) (q : Refusal) → length s ≤ BYTES → length w < WORDS → q ≡ refusal 10 0 → Reads s w (C.Refused q) w
 unfolding reading readingArea
-too-short s w h l = record { says = rw (le-ltb _ _ h, lt-ltb _ _ l); leaves = rw (le-ltb _ _ h, lt-ltb _ _ l) }
+too-short s w q h l e = record { says = rw (le-ltb _ _ h, lt-ltb _ _ l, e); leaves = rw (le-ltb _ _ h, lt-ltb _ _ l) }
 
 pub walked : (s : Bytes) (w : List ℕ) (r : Count) (w′ : List ℕ) → length s ≤ BYTES → WORDS ≤ length w → Walks s w r w′ → Reads s w r w′
 unfolding reading readingArea

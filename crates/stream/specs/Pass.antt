@@ -10,7 +10,7 @@ use Rattle.syntax.specs.Marks.{noMarks}
 use Rattle.syntax.specs.Refusals.{refusal, refusedBy}
 use Rattle.syntax.specs.declared.Place.{Place}
 use Rattle.area.specs.Layout.{BYTES, COUNTS, ENDS, WORDS, endAt}
-use Rattle.definition.specs.Basic.{if_then_else_, Answer, ok, refused}
+use Rattle.definition.specs.Basic.{if_then_else_, Answer, ok, fails, refused}
 use Rattle.definition.specs.Syntax.{Bytes, Identifier, Rec, field, instr, bodyEnd}
 use Rattle.definition.specs.Reader.{Step, got, fault}
 use Rattle.definition.specs.Read.{Seen, nothingSeen, seenAfter, oneRecord, atEnd, records, read}
@@ -68,7 +68,7 @@ endPut w n first second = if ltb n 256 then set (set w (endAt n) first) (endAt n
 
 abbrev pub areaOf : Answer ℕ → List ℕ → List ℕ → List ℕ
 areaOf (ok n) counts w = sets w COUNTS counts
-areaOf (refused n r) counts w = w
+areaOf (fails q) counts w = w
 
 unfoldable pub areaAfter : Passed → List ℕ → List ℕ
 areaAfter p w = areaOf (p .says) (countWords (p .seen)) (sets w ENDS (endWords (p .ends)))

@@ -64,7 +64,7 @@ fn start() -> Place
 fn refused(number: u8, p: Place) -> Count
     ensures { λ r. ⌜ r ≡ refusedAt number p ⌝ }
 {
-    Count::Refused(Refusal { number, rec: p.rec })
+    Count::Refused(syntax::refusal_at(number, p.rec))
 }
 
 // The stream ends here: in a body it is refused, outside one the counts of items are left.
@@ -144,10 +144,10 @@ pub fn read_all(s: &[u8], work: &mut [u32]) -> Count
     ensures { λ r. ⌜ Reads (now (s .entry)) (now (work .entry)) r (now (work .exit)) ⌝ }
 {
     if area::BYTES < s.len() {
-        return Count::Refused(Refusal { number: 1, rec: 0 });
+        return Count::Refused(syntax::refusal_at(1, 0));
     }
     if work.len() < area::WORDS {
-        return Count::Refused(Refusal { number: 10, rec: 0 });
+        return Count::Refused(syntax::refusal_at(10, 0));
     }
     read_records(s, work)
 }

@@ -1,21 +1,22 @@
 -- A walk over all fields: what the definition registers stands in the tables.
 use Prim.Native.Nat.{ℕ, zero, suc, _+_, _*_, _-_, _≤_, _<_, min}
 use mathlib.Core.Path.{_≡_, refl, sym, _∙_, ap}
-use mathlib.Core.Bool.{Bool, true, false}
+use mathlib.Core.Bool.{true}
 use mathlib.Core.List.{List, [], _∷_, _++_, map}
 use mathlib.Core.Option.{Option, none, some}
 use lib.ListN.{length, getD, set, length-set}
 use lib.Seq.{sets, getD-set-same, getD-set-other}
 use borrow.Author.Tests.{ltb-true}
 use native.Mathlib.Omega.{arith}
-use Rattle.definition.specs.Basic.{if_then_else_, Answer, ok, refused, _>>=_, sameBytes}
+use Rattle.definition.specs.Basic as Basic
+use Rattle.definition.specs.Basic.{Answer, ok, fails, _>>=_, sameBytes}
 use Rattle.definition.specs.Syntax.{Bytes, Identifier, Space, funcs, tables, mems, globals, types, elems, datas, code, Field, exportF, number, Instr}
 use Rattle.definition.specs.Reader.{got}
 use Rattle.definition.specs.Records.{fieldRec}
 use Rattle.definition.specs.Spaces.{externSpace, ownSpace, sourceSpace, segments, brings}
 use Rattle.definition.specs.Deinline.{Numbered, sourceFields, fieldsOf}
-use Rattle.definition.specs.Names.{Items, taken, space, itemOf, registerOne, register}
-use Rattle.syntax.specs.Refusals.{refusedBy}
+use Rattle.definition.specs.Names.{Items, space, definers, holder, unheld, itemOf, register}
+use Rattle.syntax.specs.Refusals.{refusalOf, refusedBy}
 use Rattle.syntax.specs.declared.Refusal.{Refusal}
 use Rattle.area.specs.Layout.{NAMED, NAMES, WORDS}
 use Rattle.syntax.specs.Tokens.{idOf}
@@ -32,7 +33,7 @@ use Rattle.syntax.specs.declared.Field as Code
 use Rattle.syntax.specs.declared.Field.the-variants as F
 use Rattle.counting.specs.Counting.{up, oneMore, externBrings, ownBrings}
 use Rattle.counting.proofs.Counts.{extern-brings, own-brings}
-use Rattle.name_table.specs.Area.{entry, entryWords, names}
+use Rattle.name_table.specs.Area.{entry, names}
 use Rattle.area.specs.Kept.{Kept}
 use Rattle.area.proofs.Kept.{kept-then, kept-same, kept-set}
 use Rattle.definition.specs.Read.{fieldBody}
@@ -42,13 +43,15 @@ use Rattle.walk.specs.declared.Cursor.{Cursor}
 use Rattle.walk.specs.declared.Met.{Met}
 use Rattle.walk.specs.declared.What.the-variants as W
 use Rattle.walk.proofs.Steps.{visit-done, visit-read, visit-fields, visit-next}
-use Rattle.registration.specs.Register.{tableAt, Entry, registerIn, nameless, sourceItems, brought, Fit, Puts, Tables}
+use Rattle.registration.specs.Register.{tableAt, definersAt, Entry, registerIn, sourceItems, brought, Fit, Puts, Tables}
 use Rattle.name_table.specs.Tables.{base, tableOf}
+use Rattle.name_table.specs.Definers.{definersBase, definersIn, definersOf, holderIn, itemWords}
 use Rattle.registration.specs.declared.register.Registered.{Registered}
 use Rattle.registration.specs.declared.register.Registered.the-variants as R
 use Rattle.name_table.proofs.Tables.{base-high}
-use Rattle.registration.proofs.Tables.{Holding, holding-more}
-use Rattle.name_table.proofs.Tables.{words-length, code-small}
+use Rattle.registration.proofs.Tables.{Holding, holding-holder, holding-more}
+use Rattle.name_table.proofs.Tables.{code-small}
+use Rattle.name_table.proofs.Holders.{definers-high, definers-same, item-length}
 
 -- ## What the definition registers of a field
 
@@ -56,18 +59,7 @@ use Rattle.name_table.proofs.Tables.{words-length, code-small}
 unfoldable partsThen : Bytes → ℕ → Items Identifier → List Entry → Numbered Identifier → Answer (Items Identifier)
 partsThen s r xs [] fs = register sameBytes xs fs
 partsThen s r xs ((k, p) ∷ ps) fs =
-    if taken sameBytes (idOf s p) (space k xs) then refused 13 r else partsThen s r (xs ++ ((k, idOf s p) ∷ [])) ps fs
-
--- one item
-one-part : (r : ℕ) (xs : Items Identifier) (x : Space × Option Identifier) (fs : Numbered Identifier)
-    → (registerOne sameBytes r xs (some x) >>= λ ys. register sameBytes ys fs)
-    ≡ (if taken sameBytes (x .1) (space (x .0) xs) then refused 13 r else register sameBytes (xs ++ (x ∷ [])) fs)
-unfolding _>>=_
-one-part r xs x fs = go (taken sameBytes (x .1) (space (x .0) xs))
-  where
-    go : (t : Bool) → ((if t then refused 13 r else ok (xs ++ (x ∷ []))) >>= λ ys. register sameBytes ys fs) ≡ (if t then refused 13 r else register sameBytes (xs ++ (x ∷ [])) fs)
-    go true = refl
-    go false = refl
+    unheld r (holder sameBytes (idOf s p) (space k xs) (definers k xs)) (xs ++ ((r, k, idOf s p) ∷ [])) >>= λ ys. partsThen s r ys ps fs
 
 -- exports bring no items
 exports-none : (r n : ℕ) (k : Space) (xs : Items Identifier) (es : List Bytes) (fs : List (Field Identifier)) (gs : Numbered Identifier)
@@ -77,31 +69,24 @@ exports-none r n k xs [] fs gs = refl
 exports-none r n k xs (e ∷ es) fs gs = exports-none r n k xs es fs gs
 
 module _ (s : Bytes) (r : ℕ) (next : Space → ℕ) (body : List (Instr Identifier)) (xs : Items Identifier) (fs : Numbered Identifier) where
-  -- an inline segment, which has no identifier, and its item
-  two-parts : (j k : Space) (i : Part)
-      → (registerOne sameBytes r xs (some (j, none)) >>= λ ys. (registerOne sameBytes r ys (some (k, idOf s i)) >>= λ zs. register sameBytes zs fs))
-      ≡ partsThen s r xs ((j, nameless) ∷ (k, i) ∷ []) fs
-  unfolding _>>=_ taken partsThen
-  two-parts j k i = one-part r (xs ++ ((j, none) ∷ [])) (k, idOf s i) fs
-
   source-parts : (i : Part) (n : ℕ) (x : Source) → register sameBytes xs (map (λ f. (r, f)) (sourceFields (idOf s i) n (sourceOf s x) body) ++ fs) ≡ partsThen s r xs (sourceItems i x) fs
   unfolding sourceFields register itemOf partsThen ownSpace
-  source-parts i n (S.Own o) = one-part r xs (ownSpace (ownOf s o), idOf s i) fs ∙ rw (← own-brings s o) refl
-  source-parts i n (S.Imported m x) = one-part r xs (externSpace (externIs s x), idOf s i) fs ∙ rw (← extern-brings s x) refl
-  source-parts i n (S.TableOf w ys) = two-parts elems tables i
-  source-parts i n (S.MemOf w d) = two-parts datas mems i
+  source-parts i n (S.Own o) = rw (← own-brings s o) refl
+  source-parts i n (S.Imported m x) = rw (← extern-brings s x) refl
+  source-parts i n (S.TableOf w ys) = refl
+  source-parts i n (S.MemOf w d) = refl
 
   field-parts : (f : Code.Field) → register sameBytes xs (map (λ x. (r, x)) (fieldsOf next (fieldOf s f) body) ++ fs) ≡ partsThen s r xs (brought f) fs
   unfolding fieldsOf register itemOf partsThen
-  field-parts (F.Type i ps rs) = one-part r xs (types, idOf s i) fs
-  field-parts (F.Import n i x) = one-part r xs (externSpace (externIs s x), idOf s i) fs ∙ rw (← extern-brings s x) refl
+  field-parts (F.Type i ps rs) = refl
+  field-parts (F.Import n i x) = rw (← extern-brings s x) refl
   field-parts (F.Item i es x) =
       let k = sourceSpace (sourceOf s x) in
       exports-none r (next k) k xs (listOf Token.string s es) (sourceFields (idOf s i) (next k) (sourceOf s x) body) fs ∙ source-parts i (next k) x
   field-parts (F.Export n k x) = unfold _>>=_ in refl
   field-parts (F.Start x) = unfold _>>=_ in refl
-  field-parts (F.Elem i m ys) = one-part r xs (elems, idOf s i) fs
-  field-parts (F.Data i m d) = one-part r xs (datas, idOf s i) fs
+  field-parts (F.Elem i m ys) = refl
+  field-parts (F.Data i m d) = refl
 
 -- ## The same over the work area
 
@@ -116,60 +101,62 @@ record Went (s w : List ℕ) (seen : Seen) (r : ℕ) (xs : Items Identifier) (ps
   holding : Holding s w′ (after seen ps) items
   same : (fs : Numbered Identifier) → partsThen s r xs ps fs ≡ register sameBytes items fs
 
--- one item more, where it is not taken
+-- one item more, where nothing holds its name
 module _ (s w : List ℕ) (seen : Seen) (r : ℕ) (xs : Items Identifier) (h : Holding s w seen xs) (k : Space) (p : Part) (ps : List Entry) (low : countOf seen k < 256) (long : WORDS ≤ length w) where
   abbrev v : List ℕ
-  v = entryWords s w (base k + 3 * countOf seen k) p
+  v = itemWords s w k (countOf seen k) p r
 
   abbrev ys : Items Identifier
-  ys = xs ++ ((k, idOf s p) ∷ [])
+  ys = xs ++ ((r, k, idOf s p) ∷ [])
 
   far : WORDS ≤ length v
-  far = rw (words-length s w (base k + 3 * countOf seen k) p) long
+  far = rw (item-length s w k (countOf seen k) p r low) long
 
   stood : Holding s v (oneMore seen k) ys
-  stood = holding-more s w seen xs h k p low long
+  stood = holding-more s w seen xs h k p r low long
 
-  went-on : (w′ : List ℕ) → taken sameBytes (idOf s p) (tableAt seen k s w) ≡ false → Went s v (oneMore seen k) r ys ps w′ → Went s w seen r xs ((k, p) ∷ ps) w′
-  unfolding partsThen after
+  went-on : (w′ : List ℕ) → holderIn (countOf seen k) k s w p ≡ none → Went s v (oneMore seen k) r ys ps w′ → Went s w seen r xs ((k, p) ∷ ps) w′
+  unfolding partsThen after _>>=_
   went-on w′ d y =
       record {
         items = y .items;
         holding = y .holding;
-        same = λ fs. rw (h .each k, d) (y .same fs);
+        same = λ fs. rw (holding-holder s w seen xs h k p, d) (y .same fs);
       }
 
 went : (s w : List ℕ) (seen : Seen) (r : ℕ) (xs : Items Identifier) (ps : List Entry) (w′ : List ℕ)
     → Holding s w seen xs → Fit seen ps → WORDS ≤ length w → registerIn s w seen r ps ≡ ok w′ → Went s w seen r xs ps w′
-unfolding registerIn partsThen after Fit
+unfolding registerIn partsThen after Fit _>>=_
 went s w seen r xs [] w′ h g long e = let d : w ≡ w′ = cc in record { items = xs; holding = rw (← d) h; same = λ fs. refl }
 went s w seen r xs ((k, p) ∷ ps) w′ h g long e =
-    go (λ f. went s (entryWords s w (base k + 3 * countOf seen k) p) (oneMore seen k) r (xs ++ ((k, idOf s p) ∷ [])) ps w′
+    go (λ f. went s (itemWords s w k (countOf seen k) p r) (oneMore seen k) r (xs ++ ((r, k, idOf s p) ∷ [])) ps w′
     (stood s w seen r xs h k p ps (g .0) long) (g .1) (far s w seen r xs h k p ps (g .0) long) f)
-    (taken sameBytes (idOf s p) (tableAt seen k s w)) refl e
+    (holderIn (countOf seen k) k s w p) refl e
   where
-    go : (registerIn s (entryWords s w (base k + 3 * countOf seen k) p) (oneMore seen k) r ps ≡ ok w′
-        → Went s (entryWords s w (base k + 3 * countOf seen k) p) (oneMore seen k) r (xs ++ ((k, idOf s p) ∷ [])) ps w′)
-        → (t : Bool) → taken sameBytes (idOf s p) (tableAt seen k s w) ≡ t
-        → (if t then refused 13 r else registerIn s (entryWords s w (base k + 3 * countOf seen k) p) (oneMore seen k) r ps) ≡ ok w′ → Went s w seen r xs ((k, p) ∷ ps) w′
-    go rest true d f = let z : _≡_ {A = ℕ} 0 1 = cc in absurd (omega arith)
-    go rest false d f = went-on s w seen r xs h k p ps (g .0) long w′ d (rest f)
+    go : (registerIn s (itemWords s w k (countOf seen k) p r) (oneMore seen k) r ps ≡ ok w′
+        → Went s (itemWords s w k (countOf seen k) p r) (oneMore seen k) r (xs ++ ((r, k, idOf s p) ∷ [])) ps w′)
+        → (o : Option ℕ) → holderIn (countOf seen k) k s w p ≡ o
+        → (unheld r o (itemWords s w k (countOf seen k) p r) >>= λ u. registerIn s u (oneMore seen k) r ps) ≡ ok w′ → Went s w seen r xs ((k, p) ∷ ps) w′
+    go rest none d f = went-on s w seen r xs h k p ps (g .0) long w′ d (rest f)
+    go rest (some q) d f = let z : _≡_ {A = ℕ} 0 1 = cc in absurd (omega arith)
 
 stopped : (s w : List ℕ) (seen : Seen) (r : ℕ) (xs : Items Identifier) (ps : List Entry) (q : Refusal)
     → Holding s w seen xs → Fit seen ps → WORDS ≤ length w → registerIn s w seen r ps ≡ refusedBy q → (fs : Numbered Identifier) → partsThen s r xs ps fs ≡ refusedBy q
-unfolding registerIn partsThen Fit
+unfolding registerIn partsThen Fit _>>=_
 stopped s w seen r xs [] q h g long e fs = let z : _≡_ {A = ℕ} 0 1 = cc in absurd (omega arith)
 stopped s w seen r xs ((k, p) ∷ ps) q h g long e fs =
-    go (λ f. stopped s (entryWords s w (base k + 3 * countOf seen k) p) (oneMore seen k) r (xs ++ ((k, idOf s p) ∷ [])) ps q
+    go (λ f. stopped s (itemWords s w k (countOf seen k) p r) (oneMore seen k) r (xs ++ ((r, k, idOf s p) ∷ [])) ps q
     (stood s w seen r xs h k p ps (g .0) long) (g .1) (far s w seen r xs h k p ps (g .0) long) f fs)
-    (taken sameBytes (idOf s p) (tableAt seen k s w)) refl e
+    (holderIn (countOf seen k) k s w p) refl e
   where
-    go : (registerIn s (entryWords s w (base k + 3 * countOf seen k) p) (oneMore seen k) r ps ≡ refusedBy q → partsThen s r (xs ++ ((k, idOf s p) ∷ [])) ps fs ≡ refusedBy q)
-        → (t : Bool) → taken sameBytes (idOf s p) (tableAt seen k s w) ≡ t
-        → (if t then refused 13 r else registerIn s (entryWords s w (base k + 3 * countOf seen k) p) (oneMore seen k) r ps) ≡ refusedBy q
-        → (if taken sameBytes (idOf s p) (space k xs) then refused 13 r else partsThen s r (xs ++ ((k, idOf s p) ∷ [])) ps fs) ≡ refusedBy q
-    go rest true d f = let a : 13 ≡ q .number = cc in let b : r ≡ q .rec = cc in rw (h .each k, d, a, b)
-    go rest false d f = rw (h .each k, d) (rest f)
+    go : (registerIn s (itemWords s w k (countOf seen k) p r) (oneMore seen k) r ps ≡ refusedBy q → partsThen s r (xs ++ ((r, k, idOf s p) ∷ [])) ps fs ≡ refusedBy q)
+        → (o : Option ℕ) → holderIn (countOf seen k) k s w p ≡ o
+        → (unheld r o (itemWords s w k (countOf seen k) p r) >>= λ u. registerIn s u (oneMore seen k) r ps) ≡ refusedBy q
+        → (unheld r (holder sameBytes (idOf s p) (space k xs) (definers k xs)) (xs ++ ((r, k, idOf s p) ∷ [])) >>= λ ys. partsThen s r ys ps fs) ≡ refusedBy q
+    go rest none d f = rw (holding-holder s w seen xs h k p, d) (rest f)
+    go rest (some z) d f =
+        let y : _≡_ {A = Basic.Refusal} (record { number = 13; rec = r; first = z }) (refusalOf q) = cc in
+        rw (holding-holder s w seen xs h k p, d) (ap (λ (x : Basic.Refusal). fails x) y)
 
 -- ## A field that was visited
 
@@ -192,10 +179,11 @@ after-field s seen (F.Elem i m xs) = refl
 after-field s seen (F.Data i m d) = refl
 
 holding-as : (s w : List ℕ) (a b : Seen) (xs : Items Identifier) → a .counts ≡ b .counts → Holding s w a xs → Holding s w b xs
-unfolding tableAt
+unfolding tableAt definersAt
 holding-as s w a b xs e h =
     record {
       each = λ k. h .each k ∙ ap (λ (c : List ℕ). names (getD c (code k) 0) s w (base k)) e;
+      made = λ k. h .made k ∙ ap (λ (c : List ℕ). definersIn (getD c (code k) 0) w (definersBase k)) e;
       few = λ k. rw e at (h .few k);
       seven = ap length (sym e) ∙ h .seven;
     }
@@ -236,8 +224,8 @@ pub record Registering (s w : List ℕ) (c : Cursor) : Type 0 where
   pub same : register sameBytes [] (fieldsIn s) ≡ register sameBytes items (fieldsAhead c s)
 
 holding-none : (s w : List ℕ) → Holding s w noneSeen []
-unfolding space tableAt names
-holding-none s w = record { each = none; few = few; seven = refl }
+unfolding space definers tableAt definersAt names definersIn
+holding-none s w = record { each = none; made = unmade; few = few; seven = refl }
   where
     none : (k : Space) → [] ≡ names (countOf noneSeen k) s w (base k)
     none funcs = refl
@@ -247,6 +235,15 @@ holding-none s w = record { each = none; few = few; seven = refl }
     none types = refl
     none elems = refl
     none datas = refl
+
+    unmade : (k : Space) → [] ≡ definersIn (countOf noneSeen k) w (definersBase k)
+    unmade funcs = refl
+    unmade tables = refl
+    unmade mems = refl
+    unmade globals = refl
+    unmade types = refl
+    unmade elems = refl
+    unmade datas = refl
 
     few : (k : Space) → countOf noneSeen k ≤ 256
     few funcs = omega arith
@@ -269,11 +266,16 @@ names-same s w w′ zero b h f = refl
 names-same s w w′ (suc n) b h f = rw (f b h, f (b + 1) (omega arith), f (b + 2) (omega arith), names-same s w w′ n (b + 3) (omega arith) f)
 
 pub registering-above : (s w w′ : List ℕ) (c : Cursor) → ((i : ℕ) → NAMES ≤ i → getD w′ i 0 ≡ getD w i 0) → Registering s w c → Registering s w′ c
-unfolding tableAt
+unfolding tableAt definersAt
 registering-above s w w′ c f v =
     record {
       items = v .items;
-      holding = record { each = λ k. v .holding .each k ∙ sym (names-same s w w′ (countOf (c .seen) k) (base k) (base-high k) f); few = v .holding .few; seven = v .holding .seven };
+      holding = record {
+        each = λ k. v .holding .each k ∙ sym (names-same s w w′ (countOf (c .seen) k) (base k) (base-high k) f);
+        made = λ k. v .holding .made k ∙ sym (definers-same (countOf (c .seen) k) w w′ (definersBase k) (λ i l u. f i (omega (arith, definers-high k))));
+        few = v .holding .few;
+        seven = v .holding .seven;
+      };
       same = v .same;
     }
 
@@ -335,16 +337,25 @@ names-above s w xs (suc n) b h = rw (sets-other w NAMED xs b h, sets-other w NAM
 
 -- the counts say how many names there are
 module _ (s w : List ℕ) (c : Cursor) (v : Registering s w c) (long : WORDS ≤ length w) (w′ : List ℕ) (e : w′ ≡ sets w NAMED (c .seen .counts)) where
+  counted : (k : Space) → getD (sets w NAMED (c .seen .counts)) (NAMED + code k) 0 ≡ countOf (c .seen) k
+  counted k = sets-there w NAMED (c .seen .counts) (code k) (omega (arith, code-small k, v .holding .seven)) (omega (arith, v .holding .seven))
+
   stands-table : (k : Space) → space k (v .items) ≡ tableOf k s w′
   unfolding tableOf tableAt
   stands-table k =
-      let a : getD (sets w NAMED (c .seen .counts)) (NAMED + code k) 0 ≡ countOf (c .seen) k =
-      sets-there w NAMED (c .seen .counts) (code k) (omega (arith, code-small k, v .holding .seven)) (omega (arith, v .holding .seven)) in
       let b : min (countOf (c .seen) k) 256 ≡ countOf (c .seen) k = omega (arith, v .holding .few k) in
-      rw (e, a, b, names-above s w (c .seen .counts) (countOf (c .seen) k) (base k) (omega (arith, base-high k, v .holding .seven))) (v .holding .each k)
+      rw (e, counted k, b, names-above s w (c .seen .counts) (countOf (c .seen) k) (base k) (omega (arith, base-high k, v .holding .seven))) (v .holding .each k)
+
+  stands-made : (k : Space) → definers k (v .items) ≡ definersOf k w′
+  unfolding definersOf definersAt
+  stands-made k =
+      let b : min (countOf (c .seen) k) 256 ≡ countOf (c .seen) k = omega (arith, v .holding .few k) in
+      let a : definersIn (countOf (c .seen) k) (sets w NAMED (c .seen .counts)) (definersBase k) ≡ definersIn (countOf (c .seen) k) w (definersBase k) =
+      definers-same (countOf (c .seen) k) w (sets w NAMED (c .seen .counts)) (definersBase k) (λ i l u. sets-other w NAMED (c .seen .counts) i (omega (arith, definers-high k, v .holding .seven))) in
+      rw (e, counted k, b, a) (v .holding .made k)
 
   pub counted-tables : Tables s w′ (v .items)
-  counted-tables = record { each = stands-table }
+  counted-tables = record { each = stands-table; made = stands-made }
 
   pub counted-kept : Kept NAMED w w′
   counted-kept = rw e (sets-kept NAMED w NAMED (c .seen .counts) (omega arith))

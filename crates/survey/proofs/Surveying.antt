@@ -126,8 +126,8 @@ module _ (s w : List ℕ) (c : Cursor) (late : Bool) (v : Passing s w c late) (m
   passing-done q is e = falls-next s w q w (ordering-done s c late (v .order) m told is) e refl
 
   module _ (f : Field) (here : ℕ) (is : m .what ≡ W.Field f here) (t : Lateness) (e : lateness late (standing f) ≡ fineOf t) where
-    pub passing-late : t ≡ L.Late → Surveys s w (Y.Refused (refusal 11 (c .rec))) w
-    passing-late y = falls-late s w (refusal 11 (c .rec)) w (ordering-late s c late (v .order) m told f here is (standing f) refl (isLate late (standing f)) refl (is-late late (standing f) t e y)) refl
+    pub passing-late : (z : Refusal) → t ≡ L.Late → z ≡ refusal 11 (c .rec) → Surveys s w (Y.Refused z) w
+    passing-late z y q = rw q (falls-late s w (refusal 11 (c .rec)) w (ordering-late s c late (v .order) m told f here is (standing f) refl (isLate late (standing f)) refl (is-late late (standing f) t e y)) refl)
 
     pub passing-again : (u : Bool) → t ≡ L.Fine u → Passing s w (m .next) u
     passing-again u y = let z = is-fine late (standing f) t e u y in record { order = ordering-again s c late (v .order) m told f here is (standing f) refl (isLate late (standing f)) refl u (z .0) (z .1); ahead = visit-ahead s c m told f here is w (v .ahead) }
@@ -395,9 +395,9 @@ module _ (s w : List ℕ) (q : Took) (c : Cursor) (late : Bool) (w₁ : List ℕ
   unfolding Reaches Surveys
   told-done k e = rw e at told
 
-  pub told-late : (r : ℕ) → q ≡ T.Late r → Surveys s w (Y.Refused (refusal 11 r)) w₁
+  pub told-late : (r : ℕ) (z : Refusal) → q ≡ T.Late r → z ≡ refusal 11 r → Surveys s w (Y.Refused z) w₁
   unfolding Reaches Surveys
-  told-late r e = rw e at told
+  told-late r z e d = rw d (rw e at told)
 
   module _ (p : Refusal) (e : q ≡ T.Use p) where
     reached-use : UseRefused s w₁ c late p × Kept TYPES w w₁

@@ -128,7 +128,7 @@ pub fn survey_all(s: &[u8], work: &mut [u32], declared: u32) -> Surveyed
     let how = x.how;
     match how {
         Took::Types(_) => Surveyed::Done,
-        Took::Late(rec) => Surveyed::Refused(Refusal { number: 11, rec }),
+        Took::Late(rec) => Surveyed::Refused(syntax::refusal_at(11, rec)),
         Took::Use(r) => late_first(s, work, x.next, x.late, r),
         Took::Name(r, k) => types_first(s, work, x.next, x.late, k, r),
     }

@@ -32,10 +32,7 @@ pub fn late_first(s: &[u8], work: &[u32], from: Cursor, past: bool, r: Refusal) 
                         late = l;
                     }
                     Lateness::Late => {
-                        return Surveyed::Refused(Refusal {
-                            number: 11,
-                            rec: c.rec,
-                        });
+                        return Surveyed::Refused(syntax::refusal_at(11, c.rec));
                     }
                 }
                 c = m.next;

@@ -4,6 +4,7 @@ ghost use mathlib.Core.Path.{_≡_};
 ghost use Rattle.definition.specs.Syntax.{code};
 ghost use Rattle.syntax.specs.Items.{noneSeen};
 ghost use Rattle.syntax.specs.Marks.{noMarks};
+ghost use Rattle.syntax.specs.Refusals.{refusal};
 ghost use Rattle.syntax.specs.Tokens.{spaceOf};
 
 // ## Answers of readers of numbers and bytes
@@ -397,10 +398,22 @@ impl Seen {
 
 // ## What is refused
 
-// Why a stream is refused, by document 01's number, and the record at fault.
+// Why a stream is refused, by document 01's number; the record at fault; and on a duplicate where the name was first used.
 pub struct Refusal {
     pub number: u8,
     pub rec: u32,
+    pub first: u32,
+}
+
+// Anything but a duplicate: the record stands for both.
+pub fn refusal_at(number: u8, rec: u32) -> Refusal
+    ensures { λ r. ⌜ r ≡ refusal number rec ⌝ }
+{
+    Refusal {
+        number,
+        rec,
+        first: rec,
+    }
 }
 
 // ## What is resolved

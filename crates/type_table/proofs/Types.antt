@@ -12,6 +12,7 @@ use Rattle.definition.specs.Syntax.{Bytes, FuncType}
 use Rattle.definition.specs.Types.{sameType, typeAt, signature}
 use Rattle.definition.specs.Names.{paramCount}
 use Rattle.syntax.specs.Refusals.{refusal}
+use Rattle.syntax.specs.declared.Refusal.{Refusal}
 use Rattle.area.specs.Layout.{NAMED, TOTAL, TYPES, USES}
 use Rattle.syntax.specs.TypeUses.{useOf}
 use Rattle.syntax.specs.declared.TypeUse.{TypeUse}
@@ -165,9 +166,9 @@ module _ (s w : List ℕ) (count : ℕ) (t : TypeUse) (r : ℕ) (x : Signature) 
   }
 
   module _ (d : q ≡ T.Nothing) where
-    pub intern-full : 256 ≤ count → Interns s w count t r (I.Refused (refusal 12 r)) w
+    pub intern-full : (z : Refusal) → 256 ≤ count → z ≡ refusal 12 r → Interns s w count t r (I.Refused z) w
     unfolding Interns
-    intern-full h = record { says = rw (used, d, table-length count s w TYPES, le-leb 256 count h); area = refl }
+    intern-full z h e = record { says = rw (used, d, table-length count s w TYPES, le-leb 256 count h, e); area = refl }
 
     pub intern-adds : (w′ : List ℕ) → count < 256 → Adds s w count x w′ → Interns s w count t r (I.Number count (count + 1)) w′
     unfolding Interns

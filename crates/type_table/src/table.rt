@@ -77,7 +77,7 @@ pub fn intern_use(s: &[u8], work: &mut [u32], count: u32, t: TypeUse, rec: u32) 
         TypeFound::Number(n) => Interned::Number(n, count),
         TypeFound::Nothing => {
             if 256 <= count {
-                return Interned::Refused(Refusal { number: 12, rec });
+                return Interned::Refused(syntax::refusal_at(12, rec));
             }
             add_type(s, work, count, x);
             Interned::Number(count, count + 1)

@@ -28,7 +28,7 @@ module _ (count : ℕ) (bs w old : List ℕ) (m : ℕ) (g : m ≡ past 0 (length
 
   -- they have
   pub write-fits : (len : ℕ) (new w′ : List ℕ) → m ≤ length old → Writes bs old 0 len new w w′
-      → Does count bs w old (record { number = 0; rec = count; len = len }) w′ new
+      → Does count bs w old (record { number = 0; rec = count; first = count; len = len }) w′ new
   unfolding fitting heard say outputAfter past
   write-fits len new w′ h y =
       let b = y .put .short in

@@ -9,10 +9,11 @@ ghost use Rattle.sections.specs.Write.{Writable, Held, allEntries, moduleItems}
 ghost use Rattle.name_section.specs.Section.{namesIn};
 ghost use Rattle.writers.specs.Does.{noRoom, Does};
 
-// A number, a record, and how many bytes were written.
+// A number, a record, where the name was first used, and how many bytes were written.
 pub struct Said {
     pub number: u8,
     pub rec: u32,
+    pub first: u32,
     pub len: usize,
 }
 
@@ -22,6 +23,7 @@ fn no_room(count: u32) -> Said
     Said {
         number: 18,
         rec: count,
+        first: count,
         len: 0,
     }
 }
@@ -46,6 +48,7 @@ pub fn write_module(
     Said {
         number: 0,
         rec: count,
+        first: count,
         len,
     }
 }
@@ -72,6 +75,7 @@ pub fn write_names(
     Said {
         number: 0,
         rec: count,
+        first: count,
         len,
     }
 }

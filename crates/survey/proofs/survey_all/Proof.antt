@@ -12,6 +12,9 @@ enum-told c = search needs
 enum-known-how : tie.Need-enum-known-how
 enum-known-how c = search needs
 
+refusal-at-requires : tie.Need-refusal-at-requires
+refusal-at-requires c κs = search needs
+
 enum-known-how-2 : tie.Need-enum-known-how-2
 enum-known-how-2 c = search needs
 
@@ -55,6 +58,7 @@ survey-all-spec =
     survey-fields-requires
     enum-told
     enum-known-how
+    refusal-at-requires
     enum-known-how-2
     late-first-requires
     enum-known-how-3

@@ -6,6 +6,9 @@ use Rattle.frames.proofs.locals.put_local.Tie as tie
 is-taken-requires : tie.Need-is-taken-requires
 is-taken-requires c κs = search one-table
 
+refusal-at-requires : tie.Need-refusal-at-requires
+refusal-at-requires c κs = search needs
+
 same-length : tie.Need-same-length
 same-length c = search needs
 
@@ -35,6 +38,7 @@ put-local-spec =
     tie.close
     (tie.spec
     is-taken-requires
+    refusal-at-requires
     same-length
     returns
     mul-put-name

@@ -27,6 +27,9 @@ cast-t14 c = search labels-fit
 enum-told-2 : tie.Need-enum-told-2
 enum-told-2 c = search needs
 
+refusal-at-requires : tie.Need-refusal-at-requires
+refusal-at-requires c κs = search needs
+
 returns : tie.Need-returns
 returns c = search (numbers) depth 8
 
@@ -51,6 +54,7 @@ depth-of-spec =
     enum-known-k
     cast-t14
     enum-told-2
+    refusal-at-requires
     returns
     returns-2
     returns-3

@@ -33,6 +33,9 @@ carries-requires c κs = search (label-entry, needs)
 returns-3 : tie.Need-returns-3
 returns-3 c = search (closings) depth 12
 
+refusal-at-requires : tie.Need-refusal-at-requires
+refusal-at-requires c κs = search needs
+
 returns-4 : tie.Need-returns-4
 returns-4 c = search (closings) depth 12
 
@@ -50,4 +53,5 @@ closes-spec =
     add-carries
     carries-requires
     returns-3
+    refusal-at-requires
     returns-4)

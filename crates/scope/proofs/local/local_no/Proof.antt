@@ -33,6 +33,9 @@ add-t17 c = search local-place
 enum-told-2 : tie.Need-enum-told-2
 enum-told-2 c = search needs
 
+refusal-at-requires : tie.Need-refusal-at-requires
+refusal-at-requires c κs = search needs
+
 returns : tie.Need-returns
 returns c = search (locals) depth 12
 
@@ -59,6 +62,7 @@ local-no-spec =
     cast-t16
     add-t17
     enum-told-2
+    refusal-at-requires
     returns
     returns-2
     returns-3

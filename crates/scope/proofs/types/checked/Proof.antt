@@ -15,8 +15,14 @@ enum-told c = search needs
 enum-told-2 : tie.Need-enum-told-2
 enum-told-2 c = search needs
 
+refusal-at-requires : tie.Need-refusal-at-requires
+refusal-at-requires c κs = search needs
+
 enum-told-3 : tie.Need-enum-told-3
 enum-told-3 c = search needs
+
+refusal-at-requires-2 : tie.Need-refusal-at-requires-2
+refusal-at-requires-2 c κs = search needs
 
 returns : tie.Need-returns
 returns c = search (checks) depth 12
@@ -38,7 +44,9 @@ checked-spec =
     agrees-requires
     enum-told
     enum-told-2
+    refusal-at-requires
     enum-told-3
+    refusal-at-requires-2
     returns
     returns-2
     returns-3

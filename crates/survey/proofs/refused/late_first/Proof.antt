@@ -28,6 +28,9 @@ enum-known-l c = search needs
 enum-told : tie.Need-enum-told Inv-loop μ-loop
 enum-told c = search needs
 
+refusal-at-requires : tie.Need-refusal-at-requires Inv-loop μ-loop
+refusal-at-requires c κs = search needs
+
 returns : tie.Need-returns Inv-loop μ-loop
 returns c = search passing-late
 
@@ -55,6 +58,7 @@ late-first-spec =
     late-after-requires
     enum-known-l
     enum-told
+    refusal-at-requires
     returns
     loop-less
     loop-again

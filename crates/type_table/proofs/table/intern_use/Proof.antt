@@ -15,6 +15,9 @@ enum-known-n c = search needs
 enum-told : tie.Need-enum-told
 enum-told c = search needs
 
+refusal-at-requires : tie.Need-refusal-at-requires
+refusal-at-requires c κs = search needs
+
 same-length : tie.Need-same-length
 same-length c = search needs
 
@@ -47,6 +50,7 @@ intern-use-spec =
     find-type-requires
     enum-known-n
     enum-told
+    refusal-at-requires
     same-length
     returns
     add-type-requires
