@@ -39,7 +39,7 @@ extern "C" {
 #define BARRIZUPPA_NUMBER 0
 #define BARRIZUPPA_RECORD 1
 #define BARRIZUPPA_LENGTH 2
-#define BARRIZUPPA_RECORD_AGAIN 3
+#define BARRIZUPPA_FIRST 3
 
 /* What a call's number may be. A later release may have more. */
 enum barrizuppa_number {
@@ -86,7 +86,9 @@ enum barrizuppa_number {
  *
  * Length: how many bytes of the output were written; 0 on a refusal.
  *
- * Record once more: the same as the record. A later release may say more here.
+ * First: with 13 the record of the item that had the identifier first; where two
+ * parameters or locals of one function have it, that function's record. In every
+ * other answer the same as the record.
  *
  * Output: its first `length` bytes are the module. Every other byte is as it
  * was, so on a refusal the output is untouched. A module that does not fit

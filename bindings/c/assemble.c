@@ -1,6 +1,7 @@
 /*
  * Assembles a stream from standard input to a module on standard output, or
- * says "refused N at R" on standard error. From the repository's root:
+ * says "refused N at R" on standard error, and of a name that is taken also where
+ * it was first used. From the repository's root:
  *
  *   rt staticlib assembler
  *   cc -Iinclude bindings/c/assemble.c target/staticlib/libassembler.a -o target/bin/assemble_c
@@ -52,7 +53,10 @@ int main(int argc, char **argv)
         fprintf(stderr, "record %u names what is not there\n", (unsigned)answer[BARRIZUPPA_RECORD]);
         break;
     }
-    fprintf(stderr, "refused %u at %u\n",
+    fprintf(stderr, "refused %u at %u",
             (unsigned)answer[BARRIZUPPA_NUMBER], (unsigned)answer[BARRIZUPPA_RECORD]);
+    if (answer[BARRIZUPPA_NUMBER] == BARRIZUPPA_REFUSED_TAKEN)
+        fprintf(stderr, ", first at %u", (unsigned)answer[BARRIZUPPA_FIRST]);
+    fputs("\n", stderr);
     return 1;
 }

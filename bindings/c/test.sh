@@ -12,7 +12,7 @@ flags='-Wall -Wextra -Werror -pedantic'
 cc -std=c99 $flags bindings/c/assemble.c $(pkg-config --cflags --libs barrizuppa) -o "$prefix/assemble_c"
 "$prefix/assemble_c" < examples/notice.stream | cmp - examples/notice.wasm
 
-# A start by a name that nothing has, and a stream of one byte too many.
+# A start by a name that nothing has, two types of one name, and a stream of one byte too many.
 refused() {
     status=0
     "$prefix/assemble_c" > "$prefix/out" 2> "$prefix/error" || status=$?
@@ -21,6 +21,7 @@ refused() {
     tail -n 1 "$prefix/error" | grep -qx "refused $1"
 }
 printf '\010\002\001a' | refused '14 at 0'
+printf '\001\001a\000\000\001\001a\000\000' | refused '13 at 1, first at 0'
 head -c 65537 /dev/zero | refused '1 at 0'
 
 # One version everywhere.

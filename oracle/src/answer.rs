@@ -5,8 +5,9 @@ use std::fmt;
 
 pub enum Answer {
     Module(Vec<u8>),
-    /// The crate's refusal: number, record, and the crate's own message.
-    Refused(u32, usize, String),
+    /// The crate's refusal: number, record, on 13 the first holder's record, which
+    /// is else the record, and the crate's own message.
+    Refused(u32, usize, usize, String),
     /// One of our own refusals, by the front's reading of document 01: the
     /// stream is outside the comparison with the crate.
     Ours(u32, usize),
@@ -19,7 +20,10 @@ impl fmt::Display for Answer {
                 to.write_str("ok ")?;
                 bytes.iter().try_for_each(|byte| write!(to, "{byte:02X}"))
             }
-            Answer::Refused(number, record, _) => write!(to, "refused {number} at {record}"),
+            Answer::Refused(TAKEN, record, first, _) => {
+                write!(to, "refused {TAKEN} at {record}, first at {first}")
+            }
+            Answer::Refused(number, record, ..) => write!(to, "refused {number} at {record}"),
             Answer::Ours(number, record) => write!(to, "ours {number} at {record}"),
         }
     }
@@ -28,7 +32,7 @@ impl fmt::Display for Answer {
 /// The answer on a stream, with `room` bytes of output. With `names` the module
 /// keeps subsections 1 and 2 of the crate's name section.
 pub fn answer(bytes: &[u8], room: usize, names: bool) -> Answer {
-    let stream = match stream::read(bytes) {
+    let mut stream = match stream::read(bytes) {
         Ok(stream) => stream,
         Err((number, record)) => return Answer::Ours(number, record),
     };
@@ -41,7 +45,11 @@ pub fn answer(bytes: &[u8], room: usize, names: bool) -> Answer {
     }
     let module = match said {
         Ok(module) => module,
-        Err((number, record, message)) => return Answer::Refused(number, record, message),
+        Err((TAKEN, record, message)) if message != TAKEN_LOCAL => {
+            let first = first_holder(&mut stream, record);
+            return Answer::Refused(TAKEN, record, first, message);
+        }
+        Err((number, record, message)) => return Answer::Refused(number, record, record, message),
     };
     let module = if names { with_names(&module) } else { without_custom(&module) };
     if module.len() > room { Answer::Ours(18, stream.records) } else { Answer::Module(module) }
@@ -53,6 +61,30 @@ fn crate_says(stream: &Stream<'_>) -> Result<Vec<u8>, (u32, usize, String)> {
         let message = error.message();
         (number(&message), error.span().offset(), message)
     })
+}
+
+/// The refusal of a name that is taken, and the crate's words for it among locals.
+const TAKEN: u32 = 13;
+const TAKEN_LOCAL: &str = "duplicate local identifier";
+
+/// The record of the item that has the name of the one at `record` first. The
+/// crate's error tells the later of the two alone, so the crate is asked again:
+/// without the first holder's identifier it does not refuse the later one.
+fn first_holder(stream: &mut Stream<'_>, record: usize) -> usize {
+    let later = stream.fields.iter().position(|whole| whole.record == record).expect("a field is refused");
+    let name = stream.fields[later].name().copied();
+    for at in 0..later {
+        if stream.fields[at].name().copied() != name {
+            continue;
+        }
+        *stream.fields[at].name().expect("it has that name") = None;
+        let said = crate_says(stream);
+        *stream.fields[at].name().expect("it had that name") = name.flatten();
+        if !matches!(said, Err((TAKEN, again, message)) if again == record && message != TAKEN_LOCAL) {
+            return stream.fields[at].record;
+        }
+    }
+    panic!("no field before record {record} has its name first");
 }
 
 /// Document 01's number for a message of the crate.

@@ -7,7 +7,8 @@
 //!   ok HEX             the module without custom sections; with --names it
 //!                      keeps subsections 1 and 2 of the name section
 //!   refused N at R     the crate's refusal (11, 13 to 17), by document 01's
-//!                      number; with --why the crate's message follows
+//!                      number; 13 with `, first at F`, the record of the first
+//!                      holder; with --why the crate's message follows
 //!   ours N at R        one of our own refusals (1 to 9, 12, 18, 19) by the front's
 //!                      reading of document 01: no question for the crate
 //!   panicked           the crate's code, or a stand-in, panicked
@@ -53,10 +54,10 @@ fn options() -> Option<Options> {
 /// A stream's line; a panic must not end the batch.
 fn line(bytes: &[u8], options: &Options) -> String {
     match catch_unwind(|| answer(bytes, options.room, options.names)) {
-        Ok(Answer::Refused(number, record, message)) if options.why => {
-            format!("refused {number} at {record}: {message}")
-        }
-        Ok(answer) => answer.to_string(),
+        Ok(answer) => match &answer {
+            Answer::Refused(.., message) if options.why => format!("{answer}: {message}"),
+            _ => answer.to_string(),
+        },
         Err(_) => "panicked".to_string(),
     }
 }

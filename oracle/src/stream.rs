@@ -16,6 +16,22 @@ pub struct Whole<'a> {
     pub body: Vec<Located<'a>>,
 }
 
+impl<'a> Whole<'a> {
+    /// The place of the item's identifier, if the field is an item.
+    pub fn name(&mut self) -> Option<&mut Option<&'a str>> {
+        match &mut self.field {
+            Field::Type { name, .. }
+            | Field::Import { name, .. }
+            | Field::Elem { name, .. }
+            | Field::Data { name, .. } => Some(name),
+            Field::Func(head, _) | Field::Table(head, _) | Field::Memory(head, _) | Field::Global(head, _) => {
+                Some(&mut head.name)
+            }
+            Field::Export { .. } | Field::Start(_) => None,
+        }
+    }
+}
+
 pub struct Stream<'a> {
     pub fields: Vec<Whole<'a>>,
     pub records: usize,

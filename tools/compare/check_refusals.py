@@ -5,7 +5,7 @@ usage: check_refusals.py [--program PROGRAM] [--driver PROGRAM] [--document FILE
 
 The document has a heading `## N: ...` for each refusal, and under it lines
 
-    STREAM  refused N at R  WHAT IT IS
+    STREAM  refused N at R  WHAT IT IS      (of 13 `refused 13 at R, first at F`)
 
 A stream is in hex; `3 × (01 02)` stands for three copies, `empty` for nothing.
 `lent 7 bytes:` or `lent 9 words:` before it says that a call is lent so much
@@ -35,7 +35,7 @@ TRIED = 3               # bytes: every stream up to this length is tried
 STRUCK = 17             # bytes: up to this length every part is tried
 
 HEADING = re.compile(r'## (\d+): ')
-LINE = re.compile(r'    (?:lent ([\d,]+) (bytes|words): )?(\S.*?)  +(refused (\d+) at \d+)  +\S')
+LINE = re.compile(r'    (?:lent ([\d,]+) (bytes|words): )?(\S.*?)  +(refused (\d+) at \d+(?:, first at \d+)?)  +\S')
 COPIES = re.compile(r'([\d,]+) × \(([^)]*)\)')
 
 # lent: the driver's option and its value, or nothing. answer: the line that the program prints.

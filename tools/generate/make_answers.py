@@ -19,8 +19,8 @@ After them come streams for the call that also writes the name section (document
   one of the slips below
 The list is always the same for a seed. FOLDER/stdin has the streams, each after
 its length in seven-bit groups (the batch form of batch.py), and
-FOLDER/stdout two answers to each, a line without names and one with them: `ok HEX`
-or `refused N at R`. They are
+FOLDER/stdout two answers to each, a line without names and one with them: `ok HEX`,
+`refused N at R` or `refused 13 at R, first at F`. They are
 the crate's; for our own refusals (1 to 9, 12, 18, 19) they are those on which the
 oracle's front and model.py agree. Where the crate's name section has its known
 difference (docs/DIFFERENCES.md) they are the model's.
@@ -148,11 +148,14 @@ def shown(stream, answer):
         parser.whole()
         sections = {('section', number) for number in section_numbers(answer[1])}
         return parser.shown | sections
-    _, number, record = answer
+    _, number, record, _ = answer
     starts = reading_model.record_starts(stream[:reading_model.STREAM])[:-1]
     begins = starts[record] if record < len(starts) else len(stream)
     first = stream[begins:begins + 1]
-    return {('refused', number, first if first in RECORDS else None)}
+    seen = {('refused', number, first if first in RECORDS else None)}
+    if number == 13:
+        seen.add(('first', first, stream[starts[answer[3]]]))
+    return seen
 
 
 def section_numbers(binary):

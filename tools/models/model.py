@@ -1,6 +1,7 @@
 #!/usr/bin/env python3
 """A plain model of the whole of document 01, and of document 02's call with
-names (§1), rule of else (§3) and one spelling (§5): what a call says of a stream.
+names (§1), rule of else (§3), one spelling (§5) and first holder of a name (§6): what
+a call says of a stream.
 
 It says what the documents and the standard's chapter 5 and appendix (the name
 section) say, in their order, and shares nothing with the definition, the proved
@@ -8,10 +9,11 @@ code or the crate; but whoever wrote it had read the crate's passes. The reading
 rules (2 to 9 and 19) are those of reading_model.py. What document 01 leaves to oracle
 runs is as the oracle answered (docs/DECISIONS.md, 13 and 14).
 
-As a module:   assemble(stream) -> ('ok', module) or ('refused', number, record)
+As a module:   assemble(stream) -> ('ok', module)
+                               or ('refused', number, record, first)
 As a program:  reads streams in the batch form (batch.py) from standard input and
-prints a line for each, `ok HEX` or `refused N at R`. With --names each module has
-its name section.
+prints a line for each, `ok HEX`, `refused N at R` or `refused 13 at R, first at F`.
+With --names each module has its name section.
 """
 import sys
 from collections import namedtuple
@@ -49,7 +51,10 @@ OWN_ITEMS = (Func, Table, Memory, Global)
 
 
 class Refused(Exception):
-    """args: number, record"""
+    """The number, the record, and on 13 the record of the first holder."""
+
+    def __init__(self, number, record, first=None):
+        super().__init__(number, record, record if first is None else first)
 
 
 # ---------------------------------------------------------------------------
@@ -319,6 +324,7 @@ class Assembler:
         self.types = []                         # signatures, by number
         self.first_of = {}                      # a signature's first number
         self.names = [{} for _ in range(7)]
+        self.holders = [{} for _ in range(7)]   # the record that defined each name
         self.imported_functions = 0
         self.locals = []                        # of each own function: names to numbers, and is_beyond
         self.sections = {number: [] for number in range(1, 12)}
@@ -377,8 +383,9 @@ class Assembler:
                 continue
             if field.identifier is not None:
                 if field.identifier in self.names[space]:
-                    raise Refused(13, record)
+                    raise Refused(13, record, self.holders[space][field.identifier])
                 self.names[space][field.identifier] = counts[space]
+                self.holders[space][field.identifier] = record
             counts[space] += 1
 
     def number(self, record, space, index, absent=None):
@@ -615,26 +622,32 @@ class Body:
         return given                            # a float's bytes
 
 
+def refused(number, record):
+    """A refusal that has no other record to tell."""
+    return 'refused', number, record, record
+
+
 def assemble(stream, work=WORK, room=ROOM, names=False, as_crate=False):
-    """What a call says, with this much work area (words) and output (bytes).
+    """What a call says, with this much work area (words) and output (bytes). A
+    refusal other than 13 tells its record twice.
     With `names` it is the call that also writes the name section; `as_crate`
     gives it the one known difference of the crate's (docs/DIFFERENCES.md): no
     locals of a function whose type number is out of range."""
     if len(stream) > reading_model.STREAM:
-        return 'refused', 1, 0
+        return refused(1, 0)
     if work < WORK:
-        return 'refused', 10, 0
+        return refused(10, 0)
     read = reading_model.read(stream)
     if read[0] == 'refused':
-        return read
+        return refused(*read[1:])
     assembler = Assembler(Parser(stream).whole())
     try:
         assembler.run()
-    except Refused as refused:
-        return ('refused',) + refused.args
+    except Refused as fault:
+        return ('refused',) + fault.args
     module = assembler.module() + (assembler.name_section(as_crate) if names else b'')
     if len(module) > room:
-        return 'refused', 18, read[1]
+        return refused(18, read[1])
     return 'ok', module
 
 
@@ -642,7 +655,8 @@ def line(answer):
     """An answer as the programs print it."""
     if answer[0] == 'ok':
         return 'ok ' + answer[1].hex().upper()
-    return 'refused %d at %d' % answer[1:]
+    _, number, record, first = answer
+    return 'refused %d at %d%s' % (number, record, ', first at %d' % first if number == 13 else '')
 
 
 def main():

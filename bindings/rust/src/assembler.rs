@@ -137,9 +137,10 @@ pub fn assemble_names_into(
 type AssembleInto = fn(&[u8], &mut [u32], &mut [u8]) -> Result<usize, Refusal>;
 
 /// A call's answer as a length, or as a refusal.
-fn result((number, [_, record, len, _]): (u32, [u32; 4])) -> Result<usize, Refusal> {
+fn result((number, [_, record, len, first]): (u32, [u32; 4])) -> Result<usize, Refusal> {
     match number {
         0 => Ok(len as usize),
+        Refusal::TAKEN => Err(Refusal::taken(record, first)),
         _ => Err(Refusal::new(number, record)),
     }
 }
@@ -181,11 +182,13 @@ mod tests {
         let mut out = [0; 64];
         let start_and_memory = b"\x08\x01\0\x05\0\0\0\0\x01";
         let no_such_record = b"\x08\x01\0\x0B";
+        let two_types = b"\x08\x01\0\x01\x01a\0\0\x01\x01a\0\0";
         for assemble in [barrizuppa_assemble as Call, barrizuppa_assemble_names] {
             let mut answer =
                 |stream: &[u8], room| call(assemble, stream, &mut work, &mut out[..room]);
             assert_eq!(answer(start_and_memory, 64), (0, [0, 2, 16, 2]));
             assert_eq!(answer(no_such_record, 64), (4, [4, 1, 0, 1]));
+            assert_eq!(answer(two_types, 64), (13, [13, 2, 0, 1]));
             assert_eq!(answer(start_and_memory, 15), (18, [18, 2, 0, 2]));
         }
     }

@@ -2,7 +2,8 @@
 use std::error::Error;
 use std::fmt;
 
-/// A refusal: its number, and the record that holds the fault.
+/// A refusal: its number, the record that holds the fault, and where a name was
+/// first used that is taken.
 ///
 /// Records count from 0. The record is 0 with the numbers 1 and 10, and the
 /// count of records with 18. docs/REFUSALS.md says when each is given, and what
@@ -12,15 +13,47 @@ use std::fmt;
 pub struct Refusal {
     pub number: u32,
     pub record: u32,
+    /// With 13 the record of the item that has the name first; for a parameter or
+    /// local its function's. With any other number the same as `record`.
+    pub first: u32,
 }
 
 impl Refusal {
+    /// The number of a refusal because a name is taken.
+    pub const TAKEN: u32 = 13;
+
     /// The number of a refusal for want of room in the output.
     pub const NO_ROOM: u32 = 18;
 
     /// The refusal of this number at this record.
     pub const fn new(number: u32, record: u32) -> Self {
-        Refusal { number, record }
+        Refusal {
+            number,
+            record,
+            first: record,
+        }
+    }
+
+    /// Refusal 13 at this record, of a name that `first` has.
+    pub const fn taken(record: u32, first: u32) -> Self {
+        Refusal {
+            number: Self::TAKEN,
+            record,
+            first,
+        }
+    }
+
+    /// The line that the program `assemble` writes.
+    pub(crate) fn line(&self) -> String {
+        let Refusal {
+            number,
+            record,
+            first,
+        } = self;
+        match *number {
+            Self::TAKEN => format!("refused {number} at {record}, first at {first}"),
+            _ => format!("refused {number} at {record}"),
+        }
     }
 
     /// What the number means, in a few words.
@@ -53,13 +86,7 @@ impl Refusal {
 /// The line that the program `assemble` writes, and what it means.
 impl fmt::Display for Refusal {
     fn fmt(&self, f: &mut fmt::Formatter<'_>) -> fmt::Result {
-        write!(
-            f,
-            "refused {} at {}: {}",
-            self.number,
-            self.record,
-            self.meaning()
-        )
+        write!(f, "{}: {}", self.line(), self.meaning())
     }
 }
 

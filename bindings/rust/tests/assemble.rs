@@ -129,7 +129,6 @@ fn a_fault_of_each_number_but_1_10_12_and_18() {
         (function(bare, b"\x0B\0"), 8, 1),
         (b"\x08\x01\0\x08\x01\0".to_vec(), 9, 1),
         ([&memory[..], import].concat(), 11, 1),
-        (b"\x01\x01t\0\0\x01\x01t\0\0".to_vec(), 13, 1),
         (b"\x08\x02\x01f".to_vec(), 14, 0),
         (function(b"\x01\x07\x01\0\x7F\0", b""), 15, 0),
         (
@@ -142,6 +141,18 @@ fn a_fault_of_each_number_but_1_10_12_and_18() {
     for (stream, number, record) in cases {
         assert_eq!(assemble(&stream), refused(number, record), "{stream:02X?}");
     }
+}
+
+#[test]
+fn where_a_name_was_first_used() {
+    let two_types = b"\x01\x01t\0\0\x08\x01\0\x01\x01t\0\0\x01\x01t\0\0";
+    assert_eq!(assemble(two_types), Err(Refusal::taken(2, 0)));
+    // A table, a memory of the same name, and a second table.
+    let tables = b"\x05\x01t\0\0\0\0\x04\x01t\0\0\x70\0\0\x04\x01t\0\0\x70\0\0";
+    assert_eq!(assemble_names(tables), Err(Refusal::taken(2, 1)));
+    // Two locals: both are the function's record.
+    let locals = b"\x08\x01\0\x03\0\0\0\0\0\0\x02\x01a\x7F\x01a\x7F\xFF";
+    assert_eq!(assemble(locals), Err(Refusal::taken(1, 1)));
 }
 
 #[test]
@@ -249,6 +260,12 @@ fn a_refusal_in_words() {
     assert_eq!(refusal.to_string(), "refused 14 at 1: no such identifier");
     let error: Box<dyn std::error::Error> = refusal.into();
     assert_eq!(error.downcast_ref(), Some(&Refusal::new(14, 1)));
+    let two_types = b"\x08\x01\0\x01\x01t\0\0\x01\x01t\0\0";
+    let refusal = assemble(two_types).unwrap_err();
+    assert_eq!(refusal, Refusal::taken(2, 1));
+    assert!(refusal
+        .to_string()
+        .starts_with("refused 13 at 2, first at 1: "));
     // Every number has words of its own.
     let meanings: std::collections::HashSet<_> = (0..=19)
         .map(|number| Refusal::new(number, 0).meaning())

@@ -134,16 +134,25 @@ fn the_first_of_several_names() {
 #[test]
 fn a_name_that_is_taken() {
     let stream = with(b"\x03\x07measure\0", b"\x03\x03say\0");
-    let lines = lines(&stream, 13, 14);
-    assert_has(
-        &lines,
-        &[
-            "     5 | (func $say (param $at i32) (param $length i32)",
-            "       | - has the name say first",
-            "    14 | (func $say (param $at i32) (result i32) (local $count i32)",
-            "       |       ^^^^ there is a function of this name",
-        ],
+    let expected = [
+        "     5 | (func $say (param $at i32) (param $length i32)",
+        "       | - has the name say first",
+        "    14 | (func $say (param $at i32) (result i32) (local $count i32)",
+        "       |       ^^^^ there is a function of this name",
+    ];
+    let text = explain(&stream, Refusal::taken(14, 5)).to_string();
+    assert!(
+        text.starts_with("refused 13 at 14, first at 5: a name is taken\n"),
+        "{text}"
     );
+    let told: Vec<String> = text.lines().map(str::to_string).collect();
+    assert_has(&told, &expected);
+    // The refusal's first holder is believed, whoever it is.
+    let other = explain(&stream, Refusal::taken(14, 1)).to_string();
+    assert!(other.contains("\n     1 | "), "{other}");
+    assert!(!other.contains("\n     5 | "), "{other}");
+    // Of a number and a record alone it is looked for.
+    assert_has(&lines(&stream, 13, 14), &expected);
 }
 
 #[test]

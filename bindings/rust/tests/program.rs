@@ -201,6 +201,10 @@ mod with_library {
             told(&["assemble"], REFUSED),
             (1, Vec::new(), line.to_string())
         );
+        let two_types = b"\x01\x01t\0\0\x01\x01t\0\0";
+        let (_, _, error) = told(&["assemble"], two_types);
+        let line = "barrizuppa: standard input: refused 13 at 1, first at 0: ";
+        assert!(error.starts_with(line), "{error}");
 
         let folder = folder("refused");
         let (stream, module) = (folder.join("a.stream"), folder.join("a.wasm"));

@@ -1,7 +1,8 @@
 //! What a call is lent, and what it leaves of it.
 
 /// The assembler's C boundary. Nothing checks this declaration against the
-/// Rattle source. The answer is number, record, written length, record again.
+/// Rattle source. The answer is number, record, written length, and the record
+/// of the first holder of a name that is taken, which is else the record again.
 pub type Assemble = unsafe extern "C" fn(
     stream: *const u8,
     stream_len: usize,
@@ -18,8 +19,11 @@ const GUARD: usize = 64;
 #[derive(Debug, PartialEq)]
 pub enum Said {
     Module { records: u32, bytes: Vec<u8> },
-    Refused { number: u32, record: u32 },
+    Refused { number: u32, record: u32, first: u32 },
 }
+
+/// The refusal by which a name is taken.
+pub const TAKEN: u32 = 13;
 
 /// The pattern of the lent words; never 0, so that an unwritten word is noticed.
 fn word(at: usize, salt: u32) -> u32 {
@@ -51,14 +55,17 @@ pub fn call(assemble: Assemble, stream: &[u8], work: usize, room: usize, salt: u
             &mut answer,
         )
     };
-    let [number, record, length, again] = answer;
+    let [number, record, length, first] = answer;
     let written = length as usize;
     let mut wrong = Vec::new();
     if returned != number {
         wrong.push("it returns another number than its answer has");
     }
-    if again != record {
-        wrong.push("its record differs from its record once more");
+    if number != TAKEN && first != record {
+        wrong.push("it tells a first holder where no name is taken");
+    }
+    if number == TAKEN && first > record {
+        wrong.push("the first holder comes after the second");
     }
     if number == 0 && written > room {
         wrong.push("it says it wrote more than it was lent");
@@ -81,7 +88,7 @@ pub fn call(assemble: Assemble, stream: &[u8], work: usize, room: usize, salt: u
     }
     let said = match number {
         0 => Said::Module { records: record, bytes: bytes[module].to_vec() },
-        _ => Said::Refused { number, record },
+        _ => Said::Refused { number, record, first },
     };
     (said, wrong)
 }
@@ -96,7 +103,7 @@ fn bare_call(assemble: Assemble, stream: &[u8], work: usize, room: usize) -> (Sa
     let mut answer = Box::<[u32; 4]>::new_uninit();
     // SAFETY: as in `call`. The contract says that the call writes the whole work
     // area, all of the answer, and as many bytes as it answers.
-    let ([number, record, length, _], words, module) = unsafe {
+    let ([number, record, length, first], words, module) = unsafe {
         assemble(
             stream.as_ptr(),
             stream.len(),
@@ -115,7 +122,7 @@ fn bare_call(assemble: Assemble, stream: &[u8], work: usize, room: usize) -> (Sa
     match number {
         0 if length as usize == module.len() => (Said::Module { records: record, bytes: module }, wrong),
         0 => (Said::Module { records: record, bytes: module }, vec!["it says it wrote more than it was lent"]),
-        _ => (Said::Refused { number, record }, wrong),
+        _ => (Said::Refused { number, record, first }, wrong),
     }
 }
 
@@ -145,7 +152,7 @@ pub fn examine(assemble: Assemble, stream: &[u8], work: usize, room: usize) -> (
         if let Some(short) = bytes.len().checked_sub(1) {
             let (less, more) = call(assemble, stream, work, short, u32::MAX);
             wrong.extend(more);
-            if less != (Said::Refused { number: 18, record: *records }) {
+            if less != (Said::Refused { number: 18, record: *records, first: *records }) {
                 wrong.push("with a byte less it is not refused 18 at the count of records");
             }
         }
@@ -168,7 +175,7 @@ mod tests {
             *work.add(work_len) = 0;
         }
         let fits = MODULE.len() <= out_len;
-        if fits {
+        if fits && !slip.starts_with("taken") {
             out.copy_from(MODULE.as_ptr(), MODULE.len());
         }
         if slip == "beyond" {
@@ -176,7 +183,9 @@ mod tests {
         }
         *answer = match (fits, slip) {
             (true, "long") => [0, 3, out_len as u32 + 1, 3],
-            (true, "record") => [0, 3, 8, 4],
+            (true, "first") => [0, 3, 8, 4],
+            (_, "taken") => [TAKEN, 3, 0, 1],
+            (_, "taken late") => [TAKEN, 3, 0, 4],
             (true, _) => [0, 3, 8, 3],
             (false, "room") => [18, 2, 0, 2],
             (false, "length") => [18, 3, 8, 3],
@@ -209,7 +218,9 @@ mod tests {
         output_beyond examine "beyond" 20 Some("bytes beyond the module changed");
         output_of_a_refusal examine "beyond" 5 Some("a refusal changed the output");
         too_long examine "long" 20 Some("it says it wrote more than it was lent");
-        two_records examine "record" 20 Some("its record differs from its record once more");
+        first_of_a_module examine "first" 20 Some("it tells a first holder where no name is taken");
+        first_before examine "taken" 20 None;
+        first_after examine "taken late" 20 Some("the first holder comes after the second");
         two_numbers examine "number" 20 Some("it returns another number than its answer has");
         length_of_a_refusal examine "length" 5 Some("a refusal has a length");
         record_of_18 examine "room" 20 Some("with a byte less it is not refused 18 at the count of records");

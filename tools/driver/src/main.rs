@@ -2,10 +2,10 @@
 //!
 //!   driver [--names] [--bare] [--work WORDS] [--room BYTES] < STREAMS
 //!
-//! The streams come in the batch form (batch.rs). One line for each: `ok HEX` or
-//! `refused N at R`, and behind it ` but ...` whatever is wrong with what the call
-//! left: the output beyond the module or after a refusal, the work area, the
-//! answer's four words. 16,384 words and 65,536 bytes are lent if nothing else is
+//! The streams come in the batch form (batch.rs). One line for each: `ok HEX`,
+//! `refused N at R` or `refused 13 at R, first at F`, and behind it ` but ...`
+//! whatever is wrong with what the call left: the output beyond the module or after
+//! a refusal, the work area, the answer's four words. 16,384 words and 65,536 bytes are lent if nothing else is
 //! said. With --bare they are lent as they come from the heap, for a run under a
 //! memory checker. With --names the call that also writes the name section is
 //! asked.
@@ -13,7 +13,7 @@
 mod batch;
 mod lent;
 
-use lent::{examine, examine_bare, Assemble, Said};
+use lent::{examine, examine_bare, Assemble, Said, TAKEN};
 use std::fmt::Write as _;
 use std::io::{Read, Write};
 
@@ -54,7 +54,8 @@ fn line(stream: &[u8], options: &Options) -> String {
             write!(line, "{byte:02X}").unwrap();
             line
         }),
-        Said::Refused { number, record } => format!("refused {number} at {record}"),
+        Said::Refused { number: TAKEN, record, first } => format!("refused {TAKEN} at {record}, first at {first}"),
+        Said::Refused { number, record, .. } => format!("refused {number} at {record}"),
     };
     for what in wrong {
         write!(line, " but {what}").unwrap();

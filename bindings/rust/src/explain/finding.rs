@@ -102,7 +102,7 @@ pub(super) fn find(account: &Account<'_>, refusal: Refusal) -> Finding {
             note: "this would be type 256".to_string(),
             ..Finding::default()
         },
-        13 => taken(rows, at, content),
+        13 => taken(rows, refusal, content),
         14 => missing(rows, at, content),
         15 | 16 => differing(rows, content, refusal.number),
         17 => other_label(rows, at, content),
@@ -265,16 +265,22 @@ fn late_import(rows: &[Row<'_>], at: usize) -> Finding {
 }
 
 /// 13: items are registered before locals, so a name that is taken among the
-/// items is what was meant.
-fn taken(rows: &[Row<'_>], at: usize, content: &Content<'_>) -> Finding {
+/// items is what was meant. Who has it first the refusal tells; one that was made
+/// of a number and a record does not, and then it is looked for.
+fn taken(rows: &[Row<'_>], refusal: Refusal, content: &Content<'_>) -> Finding {
     let Content::Field(field) = content else {
         return Finding::default();
     };
+    let at = refusal.record as usize;
     if let Some((space, Some(name), _)) = item(field) {
-        let first = names(&rows[..at], space)
-            .into_iter()
-            .find(|(other, _)| *other == name);
-        if let Some((_, first)) = first {
+        let told = Some(refusal.first as usize).filter(|first| *first < at);
+        let looked_for = || {
+            names(&rows[..at], space)
+                .into_iter()
+                .find(|(other, _)| *other == name)
+                .map(|(_, row)| row)
+        };
+        if let Some(first) = told.or_else(looked_for) {
             return Finding {
                 note: format!("there is {} of this name", space.some()),
                 marked: Some(format!("${name}")),

@@ -63,9 +63,9 @@ impl<'a> Explanation<'a> {
 
     /// The refusal in a line.
     pub fn title(&self) -> String {
-        let Refusal { number, record, .. } = self.refusal;
-        let title = words(number).map_or(self.refusal.meaning().to_string(), |words| words.title);
-        format!("refused {number} at {record}: {title}")
+        let words = words(self.refusal.number);
+        let title = words.map_or(self.refusal.meaning().to_string(), |words| words.title);
+        format!("{}: {title}", self.refusal.line())
     }
 
     /// The record's row, if it could be read.

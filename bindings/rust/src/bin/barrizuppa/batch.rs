@@ -177,7 +177,10 @@ fn summary(streams: &[PathBuf], outcomes: &[Outcome], time: Duration) -> String 
             }
             Outcome::Refused(refusal) => {
                 let name = stream.file_name().expect("it has a name").to_string_lossy();
-                let place = format!("{name} at {}", refusal.record);
+                let mut place = format!("{name} at {}", refusal.record);
+                if refusal.number == Refusal::TAKEN {
+                    place += &format!(" (first at {})", refusal.first);
+                }
                 refused.entry(refusal.number).or_default().push(place);
             }
             Outcome::Trouble(what) => lines += &format!("barrizuppa: {what}\n"),
