@@ -30,10 +30,17 @@ pub fn refused() -> Vec<(Vec<u8>, Refusal)> {
         if stream.starts_with("lent") {
             continue;
         }
-        let mut words = rest.split(' ');
-        let number = words.next().unwrap().parse().unwrap();
-        let record = words.nth(1).unwrap().parse().unwrap();
-        streams.push((bytes(stream.trim()), Refusal::new(number, record)));
+        // `N at R` or `13 at R, first at F`, and what it is.
+        let told = rest.split("  ").next().unwrap();
+        let mut numbers = told
+            .split([' ', ','])
+            .filter_map(|word| word.parse::<u32>().ok());
+        let mut next = || numbers.next().unwrap();
+        let refusal = match (next(), next()) {
+            (Refusal::TAKEN, record) => Refusal::taken(record, next()),
+            (number, record) => Refusal::new(number, record),
+        };
+        streams.push((bytes(stream.trim()), refusal));
     }
     streams
 }
