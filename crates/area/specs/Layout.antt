@@ -25,37 +25,41 @@ ENDS = 8
 abbrev pub endAt : ℕ → ℕ
 endAt n = ENDS + 2 * n
 
+-- 1 in a strict call
+abbrev pub STRICT : ℕ
+STRICT = 520
+
 -- the table of types, five words each
 abbrev pub TYPES : ℕ
-TYPES = 520
+TYPES = 521
 
 -- for each record the number of the type of its use
 abbrev pub USES : ℕ
-USES = 1800
+USES = 1801
 
 -- how many types there are
 abbrev pub TOTAL : ℕ
-TOTAL = 5896
+TOTAL = 5897
 
 -- how many names the table of each index space has
 abbrev pub NAMED : ℕ
-NAMED = 5897
+NAMED = 5898
 
 -- the tables of names
 abbrev pub NAMES : ℕ
-NAMES = 5904
+NAMES = 5905
 
 -- for each name the record that defined its item
 abbrev pub DEFINERS : ℕ
-DEFINERS = 11280
+DEFINERS = 11281
 
 -- the function's parameters and locals
 abbrev pub LOCALS : ℕ
-LOCALS = 13072
+LOCALS = 13073
 
 -- the labels of its open blocks, the outermost first
 abbrev pub LABELS : ℕ
-LABELS = 13456
+LABELS = 13457
 
 -- the words of one table of names
 abbrev pub TABLE : ℕ

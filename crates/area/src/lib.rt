@@ -1,6 +1,9 @@
 // The work area: where things stand in it, one word of it, and how it is cleared. docs/ARCHITECTURE.md has the layout as a table.
 ghost use mathlib.Core.Path.{_≡_};
+ghost use Prim.Native.Nat.{_≤_};
 ghost use lib.ListN.{length, getD, replicate};
+ghost use Rattle.area.specs.Layout.{WORDS};
+ghost use Rattle.area.specs.Strict.{strictIn, strictWord, strictPut};
 
 // How many words it has at least, and how many bytes a stream has at most.
 pub const WORDS: usize = 16384;
@@ -13,22 +16,24 @@ pub const COUNTS: usize = 0;
 pub const DECLARED: usize = 4;
 // Where the bodies of own functions end, two words each.
 pub const ENDS: usize = 8;
+// 1 in a strict call.
+pub const STRICT: usize = 520;
 // The table of types, five words each.
-pub const TYPES: usize = 520;
+pub const TYPES: usize = 521;
 // For each record the number of the type of its use.
-pub const USES: usize = 1800;
+pub const USES: usize = 1801;
 // How many types there are.
-pub const TOTAL: usize = 5896;
+pub const TOTAL: usize = 5897;
 // How many names the table of each index space has.
-pub const NAMED: usize = 5897;
+pub const NAMED: usize = 5898;
 // The tables of names.
-pub const NAMES: usize = 5904;
+pub const NAMES: usize = 5905;
 // For each name the record that defined its item.
-pub const DEFINERS: usize = 11280;
+pub const DEFINERS: usize = 11281;
 // The function's parameters and locals.
-pub const LOCALS: usize = 13072;
+pub const LOCALS: usize = 13073;
 // The labels of its open blocks, the outermost first.
-pub const LABELS: usize = 13456;
+pub const LABELS: usize = 13457;
 
 // The words of one table of names.
 pub const TABLE: usize = 768;
@@ -44,6 +49,30 @@ pub fn word(work: &[u32], at: usize) -> u32
         return work[at];
     }
     0
+}
+
+fn strict_word(strict: bool) -> u32
+    ensures { λ r. ⌜ r ≡ strictWord strict ⌝ }
+{
+    if strict {
+        return 1;
+    }
+    0
+}
+
+// Whether the call is strict is written.
+pub fn put_strict(work: &mut [u32], strict: bool)
+    requires { ⌜ WORDS ≤ length (now work) ⌝ }
+    ensures { λ _. ⌜ now (work .exit) ≡ strictPut (now (work .entry)) strict ⌝ }
+{
+    work[STRICT] = strict_word(strict);
+}
+
+// Is the call strict?
+pub fn is_strict(work: &[u32]) -> bool
+    ensures { λ r. ⌜ r ≡ strictIn (now (work .entry)) ⌝ }
+{
+    word(work, STRICT) == 1
 }
 
 // Every word becomes 0.

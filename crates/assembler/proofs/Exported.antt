@@ -7,7 +7,7 @@ use native.Mathlib.Omega.{arith}
 use mir.Syntax.{w32}
 use mir.Val.{Fits}
 use mathlib.Core.Bool.{true, false}
-use Rattle.definition.specs.Assemble.{Maker, assembleBy, outcome, outputAfter, callBy, call, callNames}
+use Rattle.definition.specs.Assemble.{Maker, assembleBy, outcome, outputAfter, callBy, call, callNames, callStrict, callStrictNames}
 use Rattle.passes.specs.Passes.{makes}
 use Rattle.assembler.specs.Run.{outcomeOf, Call}
 use Rattle.assembler.specs.Export.{Handed, handed, answerOf, handedOn, lent, exportedBy}
@@ -36,14 +36,22 @@ module _ (old : List ℕ) (n : ℕ) (g : n ≡ lent old) where
     unfolding exportedBy handedOn
     hands-on = ap (λ o. handedOn o (drop n old)) e ∙ ap (λ m. handedOn (callBy make s w (take m old)) (drop m old)) g
 
--- either call
-pub hands-module : (s w old : List ℕ) (h : Handed) → h ≡ exportedBy (callBy (makes false)) s w old → h ≡ exportedBy call s w old
+-- any of the calls
+pub hands-module : (s w old : List ℕ) (h : Handed) → h ≡ exportedBy (callBy (makes false false)) s w old → h ≡ exportedBy call s w old
 unfolding exportedBy call
 hands-module s w old h e = e
 
-pub hands-names : (s w old : List ℕ) (h : Handed) → h ≡ exportedBy (callBy (makes true)) s w old → h ≡ exportedBy callNames s w old
+pub hands-names : (s w old : List ℕ) (h : Handed) → h ≡ exportedBy (callBy (makes false true)) s w old → h ≡ exportedBy callNames s w old
 unfolding exportedBy callNames
 hands-names s w old h e = e
+
+pub hands-strict : (s w old : List ℕ) (h : Handed) → h ≡ exportedBy (callBy (makes true false)) s w old → h ≡ exportedBy callStrict s w old
+unfolding exportedBy callStrict
+hands-strict s w old h e = e
+
+pub hands-strict-names : (s w old : List ℕ) (h : Handed) → h ≡ exportedBy (callBy (makes true true)) s w old → h ≡ exportedBy callStrictNames s w old
+unfolding exportedBy callStrictNames
+hands-strict-names s w old h e = e
 
 -- an output whose length fits in a word is lent as a whole: an exported call is the definition's
 pub exported-call : (f : Call) (s w old : List ℕ) → length old ≤ 4294967295 → exportedBy f s w old ≡ handedOn (f s w old) []

@@ -4,7 +4,7 @@ use mathlib.Core.Path.{_≡_}
 use mathlib.Core.List.{List, [], _∷_, _++_}
 use lib.ListN.{length, take, drop}
 use Rattle.definition.specs.Syntax.{Bytes}
-use Rattle.definition.specs.Assemble.{Outcome, call, callNames}
+use Rattle.definition.specs.Assemble.{Outcome, call, callNames, callStrict, callStrictNames}
 use Rattle.assembler.specs.Run.{Call}
 
 -- the returned number, the answer's words, the output and the work area
@@ -43,3 +43,10 @@ Exports s work old r a out w = ExportsBy call s work old r a out w
 
 abbrev pub ExportsNames : Bytes → List ℕ → Bytes → ℕ → List ℕ → Bytes → List ℕ → Type 0
 ExportsNames s work old r a out w = ExportsBy callNames s work old r a out w
+
+-- and their strict twins
+abbrev pub ExportsStrict : Bytes → List ℕ → Bytes → ℕ → List ℕ → Bytes → List ℕ → Type 0
+ExportsStrict s work old r a out w = ExportsBy callStrict s work old r a out w
+
+abbrev pub ExportsStrictNames : Bytes → List ℕ → Bytes → ℕ → List ℕ → Bytes → List ℕ → Type 0
+ExportsStrictNames s work old r a out w = ExportsBy callStrictNames s work old r a out w

@@ -5,7 +5,7 @@ use mathlib.Core.List.{List}
 use lib.ListN.{length}
 use Rattle.definition.specs.Syntax.{Bytes}
 use Rattle.definition.specs.Assemble as Assemble
-use Rattle.definition.specs.Assemble.{Maker, assembleBy, call, callNames}
+use Rattle.definition.specs.Assemble.{Maker, assembleBy, call, callNames, callStrict, callStrictNames}
 use Rattle.writers.specs.Does.{heard, told}
 use Rattle.writers.specs.declared.Said.{Said}
 
@@ -32,3 +32,10 @@ Assembles s work old r out w = AssemblesBy call s work old r out w
 
 abbrev pub AssemblesNames : Bytes → List ℕ → Bytes → Said → Bytes → List ℕ → Type 0
 AssemblesNames s work old r out w = AssemblesBy callNames s work old r out w
+
+-- and their strict twins
+abbrev pub AssemblesStrict : Bytes → List ℕ → Bytes → Said → Bytes → List ℕ → Type 0
+AssemblesStrict s work old r out w = AssemblesBy callStrict s work old r out w
+
+abbrev pub AssemblesStrictNames : Bytes → List ℕ → Bytes → Said → Bytes → List ℕ → Type 0
+AssemblesStrictNames s work old r out w = AssemblesBy callStrictNames s work old r out w

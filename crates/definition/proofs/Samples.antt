@@ -37,6 +37,12 @@ pub data Sample : Type 0 where
   refuses : Bytes → ℕ → ℕ → Sample
   -- the same, and where the name was first used
   refusesAfter : Bytes → ℕ → ℕ → ℕ → Sample
+  -- a strict call refuses a stream, and the plain call assembles it
+  refusesStrict : Bytes → ℕ → ℕ → Sample
+  -- both calls refuse it at a record, the plain call by the first number
+  refusesBoth : Bytes → ℕ → ℕ → ℕ → Sample
+  -- both calls assemble it, to the same module
+  assemblesStrict : Bytes → ℕ → Bytes → Sample
   -- a number, or an integer, and its groups
   groups : ℕ → Bytes → Sample
   signedGroups : ℤ → Bytes → Sample
@@ -62,8 +68,11 @@ assembled stream = Assemble.assemble stream leastWork 65536
 abbrev assembledNames : Bytes → Assemble.Said
 assembledNames stream = Assemble.assembleNames stream leastWork 65536
 
+abbrev assembledStrict : Bytes → Assemble.Said
+assembledStrict stream = Assemble.assembleStrict stream leastWork 65536
+
 abbrev emptyScope : Names.Scope Identifier
-emptyScope = record { eq = sameBytes; names = λ k. []; definers = λ k. []; allTypes = [] }
+emptyScope = record { strict = false; eq = sameBytes; names = λ k. []; definers = λ k. []; allTypes = [] }
 
 abbrev numbersAre : List FuncType → List ℕ → Answer (List FuncType) → Bool
 numbersAre us ns (ok ts) = sameBytes (map (λ u. Types.typeNumber u ts) us) ns
@@ -74,6 +83,9 @@ holds (assembles stream count bytes) = says (assembled stream) 0 count count byt
 holds (assemblesNames stream count bytes names) = says (assembledNames stream) 0 count count (bytes ++ names)
 holds (refuses stream n r) = says (assembled stream) n r r []
 holds (refusesAfter stream n r q) = says (assembled stream) n r q []
+holds (refusesStrict stream n r) = says (assembledStrict stream) n r r [] && eqb (assembled stream .number) 0
+holds (refusesBoth stream n m r) = says (assembled stream) n r r [] && says (assembledStrict stream) m r r []
+holds (assemblesStrict stream count bytes) = says (assembledStrict stream) 0 count count bytes && says (assembled stream) 0 count count bytes
 holds (groups n bs) = sameBytes (Binary.u n) bs
 holds (signedGroups z bs) = sameBytes (Binary.s z) bs
 holds (labelled blocks x a) = depthIs (Names.depthOf emptyScope blocks 0 x) a
@@ -287,6 +299,19 @@ samples =
     -- refused before the third. Two parameters x of the second function: its own record twice
     ∷ refusesAfter ((0x05 ∷ 0x01 ∷ 0x61 ∷ 0x00 ∷ 0x00 ∷ 0x00 ∷ 0x00 ∷ []) ++ table a ++ (0x01 ∷ 0x01 ∷ 0x61 ∷ 0x00 ∷ 0x00 ∷ []) ++ table b ++ table a) 13 4 1
     ∷ refusesAfter (S7 0x78 ++ (0x03 ∷ 0x00 ∷ 0x00 ∷ 0x00 ∷ 0x00 ∷ 0x02 ∷ 0x01 ∷ 0x78 ∷ 0x7F ∷ 0x01 ∷ 0x78 ∷ 0x7F ∷ 0x00 ∷ 0x00 ∷ 0xFF ∷ [])) 13 3 3
+    -- (02 §8) a strict call: S7; a branch to the function's own label, and one past it; S5 with 9; a local where there is none; a start without functions; a
+    -- load without memories; an element segment with no table index and no table; a type past the last, in a use with an index only, and in
+    -- one with parameters, where 15 is not given
+    ∷ assemblesStrict (S7 0x78) 3 S7-module
+    ∷ assemblesStrict (function ++ block [] ++ brNumber 1 ++ end ++ bodyEnd) 5 (oneFunction ++ (0x0A ∷ 0x09 ∷ 0x01 ∷ 0x07 ∷ 0x00 ∷ 0x02 ∷ 0x40 ∷ 0x0C ∷ 0x01 ∷ 0x0B ∷ 0x0B ∷ []))
+    ∷ refusesStrict (function ++ block [] ++ brNumber 2 ++ end ++ bodyEnd) 20 2
+    ∷ refusesStrict (S5-blocks (br a ++ br b ++ brNumber 9)) 20 7
+    ∷ refusesStrict (function ++ (0x20 ∷ 0x01 ∷ 0x00 ∷ []) ++ bodyEnd) 20 1
+    ∷ refusesStrict (0x08 ∷ 0x01 ∷ 0x00 ∷ []) 20 0
+    ∷ refusesStrict (function ++ (0x28 ∷ 0x00 ∷ 0x00 ∷ 0x00 ∷ []) ++ bodyEnd) 20 1
+    ∷ refusesStrict (0x09 ∷ 0x00 ∷ 0x01 ∷ 0x00 ∷ 0x00 ∷ 0x00 ∷ 0x00 ∷ []) 20 0
+    ∷ refusesStrict (0x03 ∷ 0x00 ∷ 0x00 ∷ 0x00 ∷ 0x01 ∷ 0x00 ∷ 0x00 ∷ 0x00 ∷ 0x00 ∷ 0xFF ∷ []) 20 0
+    ∷ refusesBoth (0x03 ∷ 0x00 ∷ 0x00 ∷ 0x00 ∷ 0x01 ∷ 0x00 ∷ 0x01 ∷ 0x00 ∷ 0x7F ∷ 0x00 ∷ 0x00 ∷ 0xFF ∷ []) 15 20 0
     -- no name, no section
     ∷ assemblesNames [] 0 S1 []
     -- S7's parameter x is 0, and its function has no identifier; S8's l is 2
@@ -315,8 +340,8 @@ unfolding Basic._>>=_ Basic.each Basic.concatMap Basic.same Basic.sameBytes Basi
     Deinline.sourceFields Deinline.fieldsOf Deinline.bodyOf Deinline.deinlineFrom Deinline.deinline Deinline.importsFrom
     Deinline.importOrder Types.signature Types.sameType Types.typeAt Types.typeNumber Types.isInline Types.isShort Types.useOf
     Types.instrUses Types.bodyUses Types.externUses Types.ownUses Types.fieldUses Types.uses Types.declaredBy Types.declared Types.intern
-    Types.allTypes Names.find Names.taken Names.distinct Names.space Names.definers Names.holder Names.itemOf Names.register Names.numberIn Names.isAbsent
-    Names.paramNames Names.localsOf Names.blocksAfter Names.itemNo Names.checked Names.typeNoOf Names.typeNo Names.blockType Names.localNo
+    Types.allTypes Names.find Names.taken Names.distinct Names.space Names.definers Names.holder Names.itemOf Names.register Names.below Names.numberIn Names.isAbsent
+    Names.paramNames Names.localsOf Names.blocksAfter Names.countIn Names.itemNo Names.checked Names.typeNoOf Names.typeNo Names.blockType Names.localNo
     Names.depthOf Names.immediate Names.plainOp Names.constOp Names.closes Names.instrOp Names.body Names.distinctLocals Names.ownItem
     Names.externNo Names.tableNo Names.modeOf Names.resolve Names.resolveAll Binary.unsigned Binary.u Binary.low7 Binary.over128
     Binary.fits7 Binary.signed Binary.s Binary.integer Binary.vec Binary.sized Binary.byte Binary.funcType Binary.limits Binary.tableType
@@ -325,6 +350,6 @@ unfolding Basic._>>=_ Basic.each Basic.concatMap Basic.same Basic.sameBytes Basi
     Binary.sectionNumbers Binary.sections Binary.module′ NameSection.namedFrom NameSection.importedFunction NameSection.ownFunction
     NameSection.functionIn NameSection.functions NameSection.localNamesFrom NameSection.nameAssoc NameSection.indirectNameAssoc
     NameSection.subsections NameSection.sectionName NameSection.nameSection Assemble.scope Assemble.itemsIn Assemble.items Assemble.resolved
-    Assemble.fitting Assemble.moduleIn Assemble.namedModuleIn Assemble.say Assemble.sayRead Assemble.assembleBy Assemble.assemble
+    Assemble.fitting Assemble.moduleIn Assemble.namedModuleIn Assemble.say Assemble.sayRead Assemble.assembleBy Assemble.assembleStrict Assemble.assemble
     Assemble.assembleNames
 samples-hold = refl

@@ -1,6 +1,6 @@
 -- The whole (document 01, "What a call says"): from a stream, a work area and an output buffer to what a call says and leaves.
 use Prim.Native.Nat.{ℕ}
-use mathlib.Core.Bool.{Bool}
+use mathlib.Core.Bool.{Bool, true, false}
 use mathlib.Core.List.{List, [], _++_, map}
 use lib.Dec.{leb, ltb}
 use lib.ListN.{length, drop, replicate}
@@ -16,23 +16,23 @@ use Rattle.definition.specs.NameSection.{nameSection}
 -- ## From fields to items
 
 -- what names mean in some fields: 11, 12 and 13, each over the whole stream
-unfoldable pub scope : {I : Type 0} → (I → I → Bool) → Numbered I → Answer (Scope I)
-scope eq fs =
+unfoldable pub scope : {I : Type 0} → Bool → (I → I → Bool) → Numbered I → Answer (Scope I)
+scope strict eq fs =
     importOrder fs >>= λ _.
     allTypes fs >>= λ ts.
     register eq [] fs >>= λ xs.
-    ok (record { eq = eq; names = λ k. space k xs; definers = λ k. definers k xs; allTypes = ts })
+    ok (record { strict = strict; eq = eq; names = λ k. space k xs; definers = λ k. definers k xs; allTypes = ts })
 
--- the fields in that scope: 14 to 17, and 13 for locals. Added types come after the declared ones
+-- the fields in that scope: 14 to 17, 20 in a strict call, and 13 for locals. Added types come after the declared ones
 unfoldable pub itemsIn : {I : Type 0} → Scope I → Numbered I → Answer (List Item)
 itemsIn Γ fs = resolveAll Γ fs >>= λ is. ok (is ++ map typeI (drop (length (declared fs)) (Γ .allTypes)))
 
 -- the passes in document 01's order
-unfoldable pub items : {I : Type 0} → (I → I → Bool) → Numbered I → Answer (List Item)
-items eq fs = scope eq fs >>= λ Γ. itemsIn Γ fs
+unfoldable pub items : {I : Type 0} → Bool → (I → I → Bool) → Numbered I → Answer (List Item)
+items strict eq fs = scope strict eq fs >>= λ Γ. itemsIn Γ fs
 
-unfoldable pub resolved : {I : Type 0} → (I → I → Bool) → List (Rec I) → Answer (List Item)
-resolved eq rs = items eq (deinline rs)
+unfoldable pub resolved : {I : Type 0} → Bool → (I → I → Bool) → List (Rec I) → Answer (List Item)
+resolved strict eq rs = items strict eq (deinline rs)
 
 -- ## From items to bytes
 
@@ -41,13 +41,13 @@ unfoldable pub fitting : ℕ → ℕ → Bytes → Answer Bytes
 fitting room count bs = if leb (length bs) room then ok bs else refused 18 count
 
 -- the module of some records
-unfoldable pub moduleIn : {I : Type 0} → (I → I → Bool) → ℕ → List (Rec I) → Answer Bytes
-moduleIn eq room rs = resolved eq rs >>= λ is. fitting room (length rs) (module′ is)
+unfoldable pub moduleIn : {I : Type 0} → Bool → (I → I → Bool) → ℕ → List (Rec I) → Answer Bytes
+moduleIn strict eq room rs = resolved strict eq rs >>= λ is. fitting room (length rs) (module′ is)
 
 -- the module and after it its name section (document 02, §1)
-unfoldable pub namedModuleIn : ℕ → List (Rec Identifier) → Answer Bytes
-namedModuleIn room rs =
-    scope sameBytes (deinline rs) >>= λ Γ.
+unfoldable pub namedModuleIn : Bool → ℕ → List (Rec Identifier) → Answer Bytes
+namedModuleIn strict room rs =
+    scope strict sameBytes (deinline rs) >>= λ Γ.
     itemsIn Γ (deinline rs) >>= λ is.
     fitting room (length rs) (module′ is ++ nameSection Γ (deinline rs))
 
@@ -90,11 +90,18 @@ assembleBy make stream work room =
     sayRead make room (read stream)
 
 unfoldable pub assemble : Bytes → ℕ → ℕ → Said
-assemble stream work room = assembleBy (moduleIn sameBytes) stream work room
+assemble stream work room = assembleBy (moduleIn false sameBytes) stream work room
 
 -- with the names
 unfoldable pub assembleNames : Bytes → ℕ → ℕ → Said
-assembleNames stream work room = assembleBy namedModuleIn stream work room
+assembleNames stream work room = assembleBy (namedModuleIn false) stream work room
+
+-- the same two with every number checked (document 02, §8)
+unfoldable pub assembleStrict : Bytes → ℕ → ℕ → Said
+assembleStrict stream work room = assembleBy (moduleIn true sameBytes) stream work room
+
+unfoldable pub assembleStrictNames : Bytes → ℕ → ℕ → Said
+assembleStrictNames stream work room = assembleBy (namedModuleIn true) stream work room
 
 -- ## What a call leaves
 
@@ -124,7 +131,14 @@ callBy make stream work output = outcome output work (assembleBy make stream (le
 
 -- the plain call, and the one that also writes the names
 unfoldable pub call : Bytes → List ℕ → Bytes → Outcome
-call stream work output = callBy (moduleIn sameBytes) stream work output
+call stream work output = callBy (moduleIn false sameBytes) stream work output
 
 unfoldable pub callNames : Bytes → List ℕ → Bytes → Outcome
-callNames stream work output = callBy namedModuleIn stream work output
+callNames stream work output = callBy (namedModuleIn false) stream work output
+
+-- the strict ones
+unfoldable pub callStrict : Bytes → List ℕ → Bytes → Outcome
+callStrict stream work output = callBy (moduleIn true sameBytes) stream work output
+
+unfoldable pub callStrictNames : Bytes → List ℕ → Bytes → Outcome
+callStrictNames stream work output = callBy (namedModuleIn true) stream work output

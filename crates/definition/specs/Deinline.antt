@@ -7,7 +7,7 @@ use mathlib.Core.List.{List, [], _∷_, _++_, map}
 use mathlib.Core.Option.{Option, none, some}
 use lib.ListN.{length}
 use Rattle.definition.specs.Basic.{if_then_else_, Answer, ok, refused}
-use Rattle.definition.specs.Syntax.{Space, Limits, active, number, ownTable, ownMem, Plain, int32, int64, Instr}
+use Rattle.definition.specs.Syntax.{Space, Limits, active, number, ownIndex, ownTable, ownMem, Plain, int32, int64, Instr}
 use Rattle.definition.specs.Syntax.{Source, own, imported, tableOf, memOf, FieldRec, typeR, importR, itemR, exportR, startR, elemR, dataR, Rec, field, instr, bodyEnd}
 use Rattle.definition.specs.Syntax.{Field, typeF, importF, ownF, exportF, startF, elemF, dataF}
 use Rattle.definition.specs.Spaces.{sourceSpace, brings, count}
@@ -29,11 +29,11 @@ unfoldable pub sourceFields : {I : Type 0} → Option I → ℕ → Source I →
 sourceFields i n (own o) b = ownF i o b ∷ []
 sourceFields i n (imported m d) b = importF m i d ∷ []
 sourceFields i n (tableOf wide xs) b =
-    elemF none (active (number n) (zeroOffset wide)) xs
+    elemF none (active (ownIndex n) (zeroOffset wide)) xs
     ∷ ownF i (ownTable (record { element = 0x70; limits = exactly wide (length xs) })) []
     ∷ []
 sourceFields i n (memOf wide d) b =
-    dataF none (active (number n) (zeroOffset wide)) d
+    dataF none (active (ownIndex n) (zeroOffset wide)) d
     ∷ ownF i (ownMem (exactly wide (pages (length d)))) []
     ∷ []
 
@@ -43,7 +43,7 @@ fieldsOf next (typeR i t) b = typeF i t ∷ []
 fieldsOf next (importR n i d) b = importF n i d ∷ []
 fieldsOf next (itemR i es x) b =
     let n = next (sourceSpace x) in
-    map (λ e. exportF e (sourceSpace x) (number n)) es ++ sourceFields i n x b
+    map (λ e. exportF e (sourceSpace x) (ownIndex n)) es ++ sourceFields i n x b
 fieldsOf next (exportR n k x) b = exportF n k x ∷ []
 fieldsOf next (startR x) b = startF x ∷ []
 fieldsOf next (elemR i m xs) b = elemF i m xs ∷ []

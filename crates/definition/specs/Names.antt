@@ -1,13 +1,14 @@
--- Names (the crate's names.rs; the identifier contexts of the standard, 6.1; refusals 13 to 17): items are registered, and every index
+-- Names (the crate's names.rs; the identifier contexts of the standard, 6.1; refusals 13 to 17 and 20): items are registered, and every index
 -- becomes a number. `eq` tells whether two identifiers are equal.
 use Prim.Native.Nat.{ℕ, _+_}
 use mathlib.Core.Bool.{Bool, true, false, _&&_, not}
 use mathlib.Core.List.{List, [], _∷_, _++_, map, tail}
 use mathlib.Core.Option.{Option, none, some}
+use lib.Dec.{ltb}
 use lib.ListN.{length, replicate}
 use Rattle.definition.specs.Basic.{if_then_else_, Answer, ok, fails, refused, _>>=_, each, firstAt, isSome, at}
 use Rattle.definition.specs.Syntax.{ValType, Space, funcs, tables, mems, types, elems, datas, sameSpace, FuncType, ExternType, func, table, mem, global}
-use Rattle.definition.specs.Syntax.{Mode, passive, active, Index, absent, number, named, Local, TypeUse, Own, ownFunc, ownTable, ownMem, ownGlobal}
+use Rattle.definition.specs.Syntax.{Mode, passive, active, Index, absent, number, named, ownIndex, Local, TypeUse, Own, ownFunc, ownTable, ownMem, ownGlobal}
 use Rattle.definition.specs.Syntax.{Operand, nothing, label, labels, local, item, access, int32, int64, raw, Plain, Instr, opens, elses, ends, indirect, plain}
 use Rattle.definition.specs.Syntax.{Field, typeF, importF, ownF, exportF, startF, elemF, dataF}
 use Rattle.definition.specs.Syntax.{LocalNo, TypeNo, Depth, BlockType, empty, single, typed, Op}
@@ -93,8 +94,9 @@ register eq xs ((r, f) ∷ fs) = registerOne eq r xs (itemOf f) >>= λ ys. regis
 -- ## Indices
 
 -- what names mean in a module: the test of identifiers, the namespace of each index space with the records that defined its items, and the
--- types, added ones included
+-- types, added ones included; and whether the call is strict
 pub record Scope (I : Type 0) : Type 0 where
+  pub strict : Bool
   pub eq : I → I → Bool
   pub names : Space → Namespace I
   pub definers : Space → List ℕ
@@ -105,16 +107,22 @@ abbrev pub foundAt : ℕ → Option ℕ → Answer ℕ
 foundAt r none = refused 14 r
 foundAt r (some n) = ok n
 
--- a number passes unchanged and unchecked; an absent index means 0
-unfoldable pub numberIn : {I : Type 0} → (I → I → Bool) → Namespace I → ℕ → Index I → Answer ℕ
-numberIn eq ns r absent = ok 0
-numberIn eq ns r (number n) = ok n
-numberIn eq ns r (named i) = foundAt r (find eq i ns)
+-- a number passes unchanged, and unchecked; in a strict call only below the limit, else 20 (document 02, §8)
+unfoldable pub below : Bool → ℕ → ℕ → ℕ → Answer ℕ
+below strict limit r n = if strict && not (ltb n limit) then refused 20 r else ok n
+
+-- an absent index means 0; an item's own number cannot point nowhere
+unfoldable pub numberIn : {I : Type 0} → Bool → (I → I → Bool) → Namespace I → ℕ → ℕ → Index I → Answer ℕ
+numberIn strict eq ns limit r absent = below strict limit r 0
+numberIn strict eq ns limit r (number n) = below strict limit r n
+numberIn strict eq ns limit r (named i) = foundAt r (find eq i ns)
+numberIn strict eq ns limit r (ownIndex n) = ok n
 
 unfoldable pub isAbsent : {I : Type 0} → Index I → Bool
 isAbsent absent = true
 isAbsent (number n) = false
 isAbsent (named i) = false
+isAbsent (ownIndex n) = false
 
 -- an inline type must be the one that the index names: 15 where there is none, 16 where it differs
 abbrev pub agrees : ℕ → FuncType → ℕ → Option FuncType → Answer TypeNo
@@ -147,8 +155,12 @@ blocksAfter blocks (indirect x t) = blocks
 blocksAfter blocks (plain p) = blocks
 
 module _ {I : Type 0} (Γ : Scope I) where
+  -- how many items a space has; the types with those that uses add
+  unfoldable pub countIn : Space → ℕ
+  countIn k = if sameSpace k types then length (Γ .allTypes) else length (Γ .names k)
+
   unfoldable pub itemNo : Space → ℕ → Index I → Answer ℕ
-  itemNo k r x = numberIn (Γ .eq) (Γ .names k) r x
+  itemNo k r x = numberIn (Γ .strict) (Γ .eq) (Γ .names k) (countIn k) r x
 
   -- ## Type uses: the index, then 15, then 16
 
@@ -158,8 +170,9 @@ module _ {I : Type 0} (Γ : Scope I) where
   -- a use without an index has the number that interning gave it
   unfoldable pub typeNoOf : ℕ → Bool → FuncType → Index I → Answer TypeNo
   typeNoOf r inline? s absent = ok (record { type-no = typeNumber s (Γ .allTypes) })
-  typeNoOf r inline? s (number n) = checked r inline? s n
+  typeNoOf r inline? s (number n) = itemNo types r (number n) >>= λ m. checked r inline? s m
   typeNoOf r inline? s (named i) = itemNo types r (named i) >>= λ n. checked r inline? s n
+  typeNoOf r inline? s (ownIndex n) = itemNo types r (ownIndex n) >>= λ m. checked r inline? s m
 
   unfoldable pub typeNo : ℕ → TypeUse I → Answer TypeNo
   typeNo r t = typeNoOf r (isInline t) (signature t) (t .index)
@@ -171,11 +184,12 @@ module _ {I : Type 0} (Γ : Scope I) where
   -- ## Bodies: `locals` are the function's parameters and locals, `blocks` the labels of the open blocks, innermost first
 
   unfoldable pub localNo : Namespace I → ℕ → Index I → Answer LocalNo
-  localNo locals r x = numberIn (Γ .eq) locals r x >>= λ n. ok (record { local-no = n })
+  localNo locals r x = numberIn (Γ .strict) (Γ .eq) locals (length locals) r x >>= λ n. ok (record { local-no = n })
 
-  -- the label search walks outward from the innermost block: its place in `blocks` is its depth
+  -- the label search walks outward from the innermost block: its place in `blocks` is its depth. The number of open blocks is the depth of
+  -- the function's own label
   unfoldable pub depthOf : Namespace I → ℕ → Index I → Answer Depth
-  depthOf blocks r x = numberIn (Γ .eq) blocks r x >>= λ n. ok (record { depth = n })
+  depthOf blocks r x = numberIn (Γ .strict) (Γ .eq) blocks (length blocks + 1) r x >>= λ n. ok (record { depth = n })
 
   unfoldable pub immediate : Namespace I → Namespace I → ℕ → Operand I → Answer Imm
   immediate locals blocks r nothing = ok noImm
@@ -240,9 +254,7 @@ module _ {I : Type 0} (Γ : Scope I) where
 
   -- a table index that is absent stays so: it decides the segment's form
   unfoldable pub tableNo : ℕ → Index I → Answer (Option ℕ)
-  tableNo r absent = ok none
-  tableNo r (number n) = ok (some n)
-  tableNo r (named i) = itemNo tables r (named i) >>= λ n. ok (some n)
+  tableNo r x = itemNo tables r x >>= λ n. ok (if isAbsent x then none else some n)
 
   unfoldable pub modeOf : {X : Type 0} → (ℕ → Index I → Answer X) → ℕ → Mode (Index I) (Plain I) → Answer (Mode X Op)
   modeOf f r passive = ok passive

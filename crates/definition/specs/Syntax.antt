@@ -62,11 +62,12 @@ code datas = 6
 abbrev pub sameSpace : Space → Space → Bool
 sameSpace k j = eqb (code k) (code j)
 
--- document 01's index: absent, a number, or an identifier
+-- document 01's index: absent, a number, or an identifier; and what de-inlining writes for it, the number of the item itself
 pub data Index (I : Type 0) : Type 0 where
   absent : Index I
   number : ℕ → Index I
   named : I → Index I
+  ownIndex : ℕ → Index I
 
 -- a parameter or a local
 pub record Local (I : Type 0) : Type 0 where

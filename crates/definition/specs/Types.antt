@@ -7,7 +7,7 @@ use mathlib.Core.Option.{Option, none, some}
 use lib.Dec.{eqb, leb, ltb}
 use lib.ListN.{length}
 use Rattle.definition.specs.Basic.{if_then_else_, Answer, ok, refused, _>>=_, sameBytes, firstAt, someOr}
-use Rattle.definition.specs.Syntax.{FuncType, ExternType, func, table, mem, global, Index, absent, number, named, TypeUse}
+use Rattle.definition.specs.Syntax.{FuncType, ExternType, func, table, mem, global, Index, absent, number, named, ownIndex, TypeUse}
 use Rattle.definition.specs.Syntax.{Instr, opens, elses, ends, indirect, plain, Own, ownFunc, ownTable, ownMem, ownGlobal}
 use Rattle.definition.specs.Syntax.{Field, typeF, importF, ownF, exportF, startF, elemF, dataF}
 use Rattle.definition.specs.Deinline.{Numbered}
@@ -43,6 +43,7 @@ abbrev pub unlessIndexed : {I : Type 0} → FuncType → Index I → List FuncTy
 unlessIndexed s absent = s ∷ []
 unlessIndexed s (number n) = []
 unlessIndexed s (named i) = []
+unlessIndexed s (ownIndex n) = []
 
 unfoldable pub useOf : {I : Type 0} → TypeUse I → List FuncType
 useOf t = unlessIndexed (signature t) (t .index)

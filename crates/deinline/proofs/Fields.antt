@@ -7,7 +7,7 @@ use mathlib.Core.Option.{Option, none}
 use lib.ListN.{length}
 use Rattle.definition.specs.Basic.{Answer, ok, fails, _>>=_, each, concatMap}
 use Rattle.definition.specs.Syntax as Syntax
-use Rattle.definition.specs.Syntax.{Bytes, Identifier, Space, ExternType, Index, number, active, Plain, Instr, TypeUse, TypeNo, Item, Field, typeF, importF, ownF, exportF, startF, elemF, dataF}
+use Rattle.definition.specs.Syntax.{Bytes, Identifier, Space, ExternType, Index, number, ownIndex, active, Plain, Instr, TypeUse, TypeNo, Item, Field, typeF, importF, ownF, exportF, startF, elemF, dataF}
 use Rattle.definition.specs.Syntax.{ownFunc, ownTable, ownMem, ownGlobal}
 use Rattle.definition.specs.Token as Token
 use Rattle.definition.specs.Spaces.{sourceSpace}
@@ -178,15 +178,15 @@ module _ (Γ : Scope Identifier) (r : ℕ) where
 
   -- ## Exports: a number resolves to itself
 
-  export-number : (e : Bytes) (k : Space) (n : ℕ) → resolve Γ r (exportF e k (number n)) ≡ ok (Syntax.exportI e k n)
+  export-number : (e : Bytes) (k : Space) (n : ℕ) → resolve Γ r (exportF e k (ownIndex n)) ≡ ok (Syntax.exportI e k n)
   unfolding resolve itemNo numberIn _>>=_
   export-number e k n = refl
 
   exports-are : (k : Space) (n : ℕ) (es : List Bytes)
-      → entriesOf Γ (map (λ x. (r, x)) (map (λ e. exportF e k (number n)) es)) ≡ tagged 7 (ok (exportEntries k n es))
+      → entriesOf Γ (map (λ x. (r, x)) (map (λ e. exportF e k (ownIndex n)) es)) ≡ tagged 7 (ok (exportEntries k n es))
   unfolding tagged exportEntries both entries
   exports-are k n [] = entries-none Γ
-  exports-are k n (e ∷ es) = entries-cons Γ r (exportF e k (number n)) _ ∙ rw (export-number e k n, exports-are k n es) refl
+  exports-are k n (e ∷ es) = entries-cons Γ r (exportF e k (ownIndex n)) _ ∙ rw (export-number e k n, exports-are k n es) refl
 
 -- ## The three entries
 
@@ -209,11 +209,11 @@ module _ (Γ : Scope Identifier) (s : Bytes) (r : ℕ) where
   -- the exports of an item, and then its fields
   item-three : (es : Code.List) (k : Kind.Space) (n : ℕ) (fs : List (Field Identifier)) (a b : Entry)
       → entriesOf Γ (map (λ x. (r, x)) fs) ≡ both (entryIn Γ s r a) (entryIn Γ s r b)
-      → entriesOf Γ (map (λ x. (r, x)) (map (λ e. exportF e (spaceOf k) (number n)) (listOf Token.string s es) ++ fs)) ≡ threeIn Γ s r (threeOf (E.Exports es k n) a b)
+      → entriesOf Γ (map (λ x. (r, x)) (map (λ e. exportF e (spaceOf k) (ownIndex n)) (listOf Token.string s es) ++ fs)) ≡ threeIn Γ s r (threeOf (E.Exports es k n) a b)
   unfolding threeIn entryIn answerOf
   item-three es k n fs a b h =
-      ap (entriesOf Γ) (map-append (λ x. (r, x)) (map (λ e. exportF e (spaceOf k) (number n)) (listOf Token.string s es)) fs)
-      ∙ entries-append Γ (map (λ x. (r, x)) (map (λ e. exportF e (spaceOf k) (number n)) (listOf Token.string s es))) (map (λ x. (r, x)) fs)
+      ap (entriesOf Γ) (map-append (λ x. (r, x)) (map (λ e. exportF e (spaceOf k) (ownIndex n)) (listOf Token.string s es)) fs)
+      ∙ entries-append Γ (map (λ x. (r, x)) (map (λ e. exportF e (spaceOf k) (ownIndex n)) (listOf Token.string s es))) (map (λ x. (r, x)) fs)
       ∙ rw (exports-are Γ r (spaceOf k) n (listOf Token.string s es), h)
 
   -- the field of an item of one entry
@@ -251,7 +251,7 @@ module _ (Γ : Scope Identifier) (s : Bytes) (r : ℕ) where
   data-in i m d = single 11 _ (data-single Γ r i (modeOf s m) (partOf s d))
 
   own-three : (es : Code.List) (i : Option Identifier) (o : Own) (seen : Seen) (n here : ℕ)
-      → entriesOf Γ (map (λ x. (r, x)) (map (λ e. exportF e (spaceOf (ownSpaceOf o)) (number n)) (listOf Token.string s es) ++ (ownF i (ownOf s o) (bodyIn (ownBody (ownOf s o)) (r + 1) s here) ∷ [])))
+      → entriesOf Γ (map (λ x. (r, x)) (map (λ e. exportF e (spaceOf (ownSpaceOf o)) (ownIndex n)) (listOf Token.string s es) ++ (ownF i (ownOf s o) (bodyIn (ownBody (ownOf s o)) (r + 1) s here) ∷ [])))
       ≡ threeIn Γ s r (threeOf (E.Exports es (ownSpaceOf o) n) (secondOf (S.Own o) seen) (thirdOf (S.Own o) here))
   unfolding entryIn answerOf resolve ownItem ownBody entries tagged funcField secondOf thirdOf
   own-three es i (O.Func t ls) seen n here = item-three es K.Funcs n _ (E.Func t) (E.Code t ls here) (entries-one Γ r _ ∙ function-both Γ r i (useOf s t) (listOf Token.param s ls) (bodyFrom (4096 - (r + 1)) 0 s here))
@@ -260,32 +260,32 @@ module _ (Γ : Scope Identifier) (s : Bytes) (r : ℕ) where
   own-three es i (O.Global t c) seen n here = item-three es K.Globals n _ (E.Global t c) E.Nothing (item-one _ (E.Global t c) (single 6 _ (global-single Γ r i (globalTypeIs t) (constantAt s c) [])))
 
   extern-three : (es : Code.List) (i : Option Identifier) (m : ImportName) (x : Extern) (n : ℕ)
-      → entriesOf Γ (map (λ x. (r, x)) (map (λ e. exportF e (spaceOf (externSpaceOf x)) (number n)) (listOf Token.string s es) ++ (importF (nameOf s m) i (externIs s x) ∷ [])))
+      → entriesOf Γ (map (λ x. (r, x)) (map (λ e. exportF e (spaceOf (externSpaceOf x)) (ownIndex n)) (listOf Token.string s es) ++ (importF (nameOf s m) i (externIs s x) ∷ [])))
       ≡ threeIn Γ s r (threeOf (E.Exports es (externSpaceOf x) n) (E.Import m x) E.Nothing)
   extern-three es i m x n = item-three es (externSpaceOf x) n _ (E.Import m x) E.Nothing (item-one _ (E.Import m x) (import-in m i x))
 
   -- an inline table's segment has the table's number, and so for a memory
   table-three : (es : Code.List) (i : Option Identifier) (w : Bool) (xs : Code.List) (n : ℕ)
-      → entriesOf Γ (map (λ x. (r, x)) (map (λ e. exportF e Syntax.tables (number n)) (listOf Token.string s es)
-      ++ (elemF none (active (number n) (zeroOffset w)) (listOf Token.present s xs)
+      → entriesOf Γ (map (λ x. (r, x)) (map (λ e. exportF e Syntax.tables (ownIndex n)) (listOf Token.string s es)
+      ++ (elemF none (active (ownIndex n) (zeroOffset w)) (listOf Token.present s xs)
       ∷ ownF i (ownTable (record { element = 0x70; limits = exactly w (length (listOf Token.present s xs)) })) []
       ∷ [])))
       ≡ threeIn Γ s r (threeOf (E.Exports es K.Tables n) (E.InlineElem w n xs) (E.InlineTable w xs))
   unfolding entryIn answerOf resolve ownItem entries tagged
   table-three es i w xs n =
       item-three es K.Tables n _ (E.InlineElem w n xs) (E.InlineTable w xs)
-      (item-two _ _ (E.InlineElem w n xs) (E.InlineTable w xs) (single 9 _ (elem-single Γ r none (active (number n) (zeroOffset w)) (listOf Token.present s xs))) refl)
+      (item-two _ _ (E.InlineElem w n xs) (E.InlineTable w xs) (single 9 _ (elem-single Γ r none (active (ownIndex n) (zeroOffset w)) (listOf Token.present s xs))) refl)
 
   mem-three : (es : Code.List) (i : Option Identifier) (w : Bool) (d : Part) (n : ℕ)
-      → entriesOf Γ (map (λ x. (r, x)) (map (λ e. exportF e Syntax.mems (number n)) (listOf Token.string s es)
-      ++ (dataF none (active (number n) (zeroOffset w)) (partOf s d)
+      → entriesOf Γ (map (λ x. (r, x)) (map (λ e. exportF e Syntax.mems (ownIndex n)) (listOf Token.string s es)
+      ++ (dataF none (active (ownIndex n) (zeroOffset w)) (partOf s d)
       ∷ ownF i (ownMem (exactly w (pages (length (partOf s d))))) []
       ∷ [])))
       ≡ threeIn Γ s r (threeOf (E.Exports es K.Mems n) (E.InlineData w n d) (E.InlineMem w d))
   unfolding entryIn answerOf resolve ownItem entries tagged
   mem-three es i w d n =
       item-three es K.Mems n _ (E.InlineData w n d) (E.InlineMem w d)
-      (item-two _ _ (E.InlineData w n d) (E.InlineMem w d) (single 11 _ (data-single Γ r none (active (number n) (zeroOffset w)) (partOf s d))) refl)
+      (item-two _ _ (E.InlineData w n d) (E.InlineMem w d) (single 11 _ (data-single Γ r none (active (ownIndex n) (zeroOffset w)) (partOf s d))) refl)
 
 -- ## One record
 

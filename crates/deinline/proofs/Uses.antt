@@ -5,7 +5,7 @@ use mathlib.Core.Path.{_≡_, refl}
 use mathlib.Core.Bool.{true}
 use mathlib.Core.List.{List, [], _∷_, _++_, map}
 use lib.ListN.{length, getD}
-use Rattle.definition.specs.Syntax.{Bytes, Identifier, Space, FuncType, number, Field, exportF}
+use Rattle.definition.specs.Syntax.{Bytes, Identifier, Space, FuncType, number, ownIndex, Field, exportF}
 use Rattle.definition.specs.Token as Token
 use Rattle.definition.specs.Read.{fieldBody, sourceBody, ownBody}
 use Rattle.definition.specs.Deinline.{fieldsOf, sourceFields}
@@ -51,7 +51,7 @@ module _ (P : ℕ → FuncType → Type 0) where
 
   -- an export has no use
   exports-use : (r : ℕ) (k : Space) (n : ℕ) (es : List Bytes) (fs : List (Field Identifier))
-      → All (uses (map (λ x. (r, x)) (map (λ e. exportF e k (number n)) es ++ fs))) → All (uses (map (λ x. (r, x)) fs))
+      → All (uses (map (λ x. (r, x)) (map (λ e. exportF e k (ownIndex n)) es ++ fs))) → All (uses (map (λ x. (r, x)) fs))
   unfolding uses fieldUses
   exports-use r k n [] fs a = a
   exports-use r k n (e ∷ es) fs a = exports-use r k n es fs a

@@ -7,7 +7,7 @@ use mathlib.Core.Option.{none}
 use lib.ListN.{length}
 use Rattle.definition.specs.Basic.{Answer, ok, fails, _>>=_, concatMap}
 use Rattle.definition.specs.Syntax as Syntax
-use Rattle.definition.specs.Syntax.{Bytes, Identifier, Space, tables, mems, number, active, Item}
+use Rattle.definition.specs.Syntax.{Bytes, Identifier, Space, tables, mems, ownIndex, active, Item}
 use Rattle.definition.specs.Token as Token
 use Rattle.definition.specs.Deinline.{Numbered, exactly, pages, zeroOffset}
 use Rattle.definition.specs.Types as Types
@@ -85,10 +85,10 @@ answerOf Γ s r (E.Export n k x) = oneOf entryOf (resolve Γ r (Syntax.exportF (
 answerOf Γ s r (E.Exports es k n) = ok (exportEntries (spaceOf k) n (listOf Token.string s es))
 answerOf Γ s r (E.Start x) = oneOf entryOf (resolve Γ r (Syntax.startF (indexOf s x)))
 answerOf Γ s r (E.Elem m xs) = oneOf entryOf (resolve Γ r (Syntax.elemF none (modeOf s m) (listOf Token.present s xs)))
-answerOf Γ s r (E.InlineElem w n xs) = oneOf entryOf (resolve Γ r (Syntax.elemF none (active (number n) (zeroOffset w)) (listOf Token.present s xs)))
+answerOf Γ s r (E.InlineElem w n xs) = oneOf entryOf (resolve Γ r (Syntax.elemF none (active (ownIndex n) (zeroOffset w)) (listOf Token.present s xs)))
 answerOf Γ s r (E.Code t ls here) = oneOf codeOf (resolve Γ r (funcField s r t ls here))
 answerOf Γ s r (E.Data m d) = oneOf entryOf (resolve Γ r (Syntax.dataF none (modeOf s m) (partOf s d)))
-answerOf Γ s r (E.InlineData w n d) = oneOf entryOf (resolve Γ r (Syntax.dataF none (active (number n) (zeroOffset w)) (partOf s d)))
+answerOf Γ s r (E.InlineData w n d) = oneOf entryOf (resolve Γ r (Syntax.dataF none (active (ownIndex n) (zeroOffset w)) (partOf s d)))
 
 -- the type uses that it resolves
 unfoldable pub usesOf : Bytes → ℕ → Entry → Uses

@@ -10,7 +10,7 @@ use types.Run.{OneOf, miss}
 use denote.Enum.Declared.{tagOf}
 use Rattle.definition.specs.Basic.{Answer, ok, _>>=_, concatMap}
 use Rattle.definition.specs.Syntax as Syntax
-use Rattle.definition.specs.Syntax.{Bytes, Identifier, FuncType, number, active, importF, ownF, ownGlobal, exportF, startF, elemF, dataF}
+use Rattle.definition.specs.Syntax.{Bytes, Identifier, FuncType, number, ownIndex, active, importF, ownF, ownGlobal, exportF, startF, elemF, dataF}
 use Rattle.definition.specs.Token as Token
 use Rattle.definition.specs.Deinline.{exactly, pages, zeroOffset}
 use Rattle.definition.specs.Types as Types
@@ -107,7 +107,7 @@ module _ (Γ : Scope Identifier) (s : Bytes) (r : ℕ) (e : Entry) (old : List �
     arm-inline-mem w b d p = one-put (answerOf Γ s r e) _ old at o new (rw d) p
 
     -- an inline segment's offset needs no name, nor does its item's number
-    inline-data : (w : Bool) (n : ℕ) (b : Bytes) → resolve Γ r (dataF none (active (number n) (zeroOffset w)) b) ≡ ok (Syntax.dataI (active n (zeroOp w)) b)
+    inline-data : (w : Bool) (n : ℕ) (b : Bytes) → resolve Γ r (dataF none (active (ownIndex n) (zeroOffset w)) b) ≡ ok (Syntax.dataI (active n (zeroOp w)) b)
     unfolding resolve modeOf itemNo numberIn constOp plainOp immediate _>>=_ zeroOffset zeroOp
     inline-data true n b = refl
     inline-data false n b = refl
@@ -146,7 +146,7 @@ module _ (Γ : Scope Identifier) (s : Bytes) (r : ℕ) (e : Entry) (old : List �
       unfolding answerOf
       arm-elem m xs d w g = rw d (one-emits entryOf _ old at q x new w g)
 
-      pub arm-inline-elem : (b : Bool) (n : ℕ) (xs : Code.List) → e ≡ E.InlineElem b n xs → Emits entryOf (resolve Γ r (elemF none (active (number n) (zeroOffset b)) (listOf Token.present s xs))) old at q new → x ≡ oneEnd q → Arm x new
+      pub arm-inline-elem : (b : Bool) (n : ℕ) (xs : Code.List) → e ≡ E.InlineElem b n xs → Emits entryOf (resolve Γ r (elemF none (active (ownIndex n) (zeroOffset b)) (listOf Token.present s xs))) old at q new → x ≡ oneEnd q → Arm x new
       unfolding answerOf
       arm-inline-elem b n xs d w g = rw d (one-emits entryOf _ old at q x new w g)
 

@@ -168,7 +168,7 @@ module _ (r : ℕ) (i : Option Identifier) (s : Bytes) (here : ℕ) where
   source-uses n (Syntax.memOf w d) = refl
 
   item-uses : (j : Space) (n : ℕ) (es : List Bytes) (x : Syntax.Source Identifier)
-      → uses (map (λ z. (r, z)) (map (λ e. Syntax.exportF e j (Syntax.number n)) es ++ sourceFields i n x (bodyIn (sourceBody x) (r + 1) s here))) ≡ usesSource r x s here
+      → uses (map (λ z. (r, z)) (map (λ e. Syntax.exportF e j (Syntax.ownIndex n)) es ++ sourceFields i n x (bodyIn (sourceBody x) (r + 1) s here))) ≡ usesSource r x s here
   unfolding uses fieldUses
   item-uses j n [] x = source-uses n x
   item-uses j n (e ∷ es) x = item-uses j n es x

@@ -10,7 +10,7 @@ use borrow.Author.Tests.{leb-true, leb-false}
 use native.Mathlib.Omega.{arith}
 use Rattle.definition.specs.Basic.{if_then_else_, ok, concatMap}
 use Rattle.definition.specs.Syntax as Syntax
-use Rattle.definition.specs.Syntax.{Bytes, Identifier, Space, FuncType, ExternType, Index, absent, number, named, TypeUse, Instr, Own, Source, FieldRec, Rec, field, instr, bodyEnd}
+use Rattle.definition.specs.Syntax.{Bytes, Identifier, Space, FuncType, ExternType, Index, absent, number, named, TypeUse, Instr, Own, Source, FieldRec, Rec, field, instr, bodyEnd, ownIndex}
 use Rattle.definition.specs.Reader.{got}
 use Rattle.definition.specs.Records.{Room, fieldRec}
 use Rattle.definition.specs.Instructions.{Inside, insideAfter}
@@ -107,6 +107,7 @@ index-asks : (t : FuncType) (x : Index Identifier) → unlessIndexed t x ≡ ask
 index-asks t absent = refl
 index-asks t (number n) = refl
 index-asks t (named i) = refl
+index-asks t (ownIndex n) = refl
 
 use-asks : (t : TypeUse Identifier) → useOf t ≡ useAsks t
 unfolding useOf signature
@@ -154,7 +155,7 @@ module _ (r : ℕ) (i : Option Identifier) (b : List (Instr Identifier)) where
 
   -- exports use none
   item-asks : (k : ℕ) (sp : Space) (es : List Bytes) (x : Source Identifier) → (sourceBody x ≡ none → b ≡ [])
-      → signatures (uses (map (λ z. (r, z)) (map (λ e. Syntax.exportF e sp (Syntax.number k)) es ++ sourceFields i k x b)))
+      → signatures (uses (map (λ z. (r, z)) (map (λ e. Syntax.exportF e sp (Syntax.ownIndex k)) es ++ sourceFields i k x b)))
       ≡ sourceAsks x ++ signatures (inBody (sourceBody x) (r + 1) b)
   unfolding uses fieldUses
   item-asks k sp [] x n = source-asks k x n

@@ -23,7 +23,7 @@ module _ (r : ℕ) (i : Option Identifier) (b : List (Instr Identifier)) where
 
   -- an item and its exports declare no type
   pub item-declares : (k : Space) (n : ℕ) (es : List Bytes) (x : Source Identifier)
-      → declared (map (λ z. (r, z)) (map (λ e. Syntax.exportF e k (Syntax.number n)) es ++ sourceFields i n x b)) ≡ []
+      → declared (map (λ z. (r, z)) (map (λ e. Syntax.exportF e k (Syntax.ownIndex n)) es ++ sourceFields i n x b)) ≡ []
   unfolding declared declaredBy
   item-declares k n [] x = source-declares n x
   item-declares k n (e ∷ es) x = item-declares k n es x

@@ -16,6 +16,7 @@ pub mod Readers
 pub mod Reading
 pub mod Sets
 pub mod Smallest
+pub mod Strict
 pub mod Table
 pub mod TypeSection
 pub mod Uses

@@ -49,9 +49,9 @@ module _ (s : Bytes) (rs : List (Rec Identifier)) (e : read s ≡ ok rs) (ts : L
 -- ## What is written
 
 -- the types of a scope
-scope-types : (eq : Identifier → Identifier → Bool) (fs : Numbered Identifier) (Γ : Scope Identifier) → scope eq fs ≡ ok Γ → allTypes fs ≡ ok (Γ .allTypes)
+scope-types : (strict : Bool) (eq : Identifier → Identifier → Bool) (fs : Numbered Identifier) (Γ : Scope Identifier) → scope strict eq fs ≡ ok Γ → allTypes fs ≡ ok (Γ .allTypes)
 unfolding scope
-scope-types eq fs Γ e =
+scope-types strict eq fs Γ e =
     let c = came (importOrder fs) _ Γ e in
     let d = came (allTypes fs) _ Γ (c .2) in
     let f = came (register eq [] fs) _ Γ (d .2) in
@@ -71,10 +71,10 @@ fits room count bs m e = go (leb (length bs) room) e
     go false e = let z : _≡_ {A = ℕ} 0 1 = cc in absurd (omega arith)
 
 -- a module of these records, and after it what is not section 1
-pub module-smallest : (s : Bytes) (rs : List (Rec Identifier)) → read s ≡ ok rs → (eq : Identifier → Identifier → Bool) (Γ : Scope Identifier) → scope eq (deinline rs) ≡ ok Γ
+pub module-smallest : (s : Bytes) (rs : List (Rec Identifier)) → read s ≡ ok rs → (strict : Bool) (eq : Identifier → Identifier → Bool) (Γ : Scope Identifier) → scope strict eq (deinline rs) ≡ ok Γ
     → (is : List Item) → itemsIn Γ (deinline rs) ≡ ok is → (bs : Bytes) → (at bs 0 ≡ some 1 → ⊥) → NoTypeTooMany rs (module′ is ++ bs)
-module-smallest s rs e eq Γ f is g bs n =
-    let a = scope-types eq (deinline rs) Γ f in
+module-smallest s rs e strict eq Γ f is g bs n =
+    let a = scope-types strict eq (deinline rs) Γ f in
     let h = module-holds Γ (deinline rs) is bs a g n in
     record {
       types = Γ .allTypes;
@@ -87,13 +87,13 @@ nothing-first : at {A = ℕ} [] 0 ≡ some 1 → ⊥
 unfolding at
 nothing-first e = let z : _≡_ {A = ℕ} 0 1 = cc in omega arith
 
-pub module-writes : WritesSmallest (moduleIn sameBytes)
+pub module-writes : (strict : Bool) → WritesSmallest (moduleIn strict sameBytes)
 unfolding moduleIn resolved items
-module-writes s rs e room m h =
-    let c = came (scope sameBytes (deinline rs) >>= λ Γ. itemsIn Γ (deinline rs)) _ m h in
-    let d = came (scope sameBytes (deinline rs)) _ (c .0) (c .1) in
+module-writes strict s rs e room m h =
+    let c = came (scope strict sameBytes (deinline rs) >>= λ Γ. itemsIn Γ (deinline rs)) _ m h in
+    let d = came (scope strict sameBytes (deinline rs)) _ (c .0) (c .1) in
     rw (sym (fits room (length rs) (module′ (c .0)) m (c .2)), ← append-nil (module′ (c .0)))
-    (module-smallest s rs e sameBytes (d .0) (d .1) (c .0) (d .2) [] nothing-first)
+    (module-smallest s rs e strict sameBytes (d .0) (d .1) (c .0) (d .2) [] nothing-first)
 
 -- the name section is a custom one, of number 0
 custom-first : (bs : Bytes) → at (customOf bs) 0 ≡ some 1 → ⊥
@@ -105,10 +105,10 @@ names-first : (Γ : Scope Identifier) (fs : Numbered Identifier) → at (nameSec
 unfolding nameSection
 names-first Γ fs e = custom-first (subsections (Γ .names funcs) (functions Γ fs)) e
 
-pub names-write : WritesSmallest namedModuleIn
+pub names-write : (strict : Bool) → WritesSmallest (namedModuleIn strict)
 unfolding namedModuleIn
-names-write s rs e room m h =
-    let c = came (scope sameBytes (deinline rs)) _ m h in
+names-write strict s rs e room m h =
+    let c = came (scope strict sameBytes (deinline rs)) _ m h in
     let d = came (itemsIn (c .0) (deinline rs)) _ m (c .2) in
     rw (sym (fits room (length rs) (module′ (d .0) ++ nameSection (c .0) (deinline rs)) m (d .2)))
-    (module-smallest s rs e sameBytes (c .0) (c .1) (d .0) (d .1) (nameSection (c .0) (deinline rs)) (names-first (c .0) (deinline rs)))
+    (module-smallest s rs e strict sameBytes (c .0) (c .1) (d .0) (d .1) (nameSection (c .0) (deinline rs)) (names-first (c .0) (deinline rs)))

@@ -8,7 +8,7 @@ use mathlib.Core.Option.{some}
 use lib.Dec.{eqb, leb}
 use lib.ListN.{length}
 use Rattle.definition.specs.Basic.{if_then_else_, ok, concatMap, at}
-use Rattle.definition.specs.Syntax.{Bytes, Identifier, FuncType, ExternType, func, table, mem, global, Index, absent, number, named, TypeUse}
+use Rattle.definition.specs.Syntax.{Bytes, Identifier, FuncType, ExternType, func, table, mem, global, Index, absent, number, named, ownIndex, TypeUse}
 use Rattle.definition.specs.Syntax.{Instr, opens, elses, ends, indirect, plain, Own, ownFunc, ownTable, ownMem, ownGlobal}
 use Rattle.definition.specs.Syntax.{Source, own, imported, tableOf, memOf, FieldRec, typeR, importR, itemR, exportR, startR, elemR, dataR, Rec, field, instr, bodyEnd}
 use Rattle.definition.specs.Read.{read}
@@ -22,6 +22,7 @@ abbrev pub askedBy : {I : Type 0} → Index I → FuncType → List FuncType
 askedBy absent t = t ∷ []
 askedBy (number n) t = []
 askedBy (named i) t = []
+askedBy (ownIndex n) t = []
 
 abbrev pub useAsks : {I : Type 0} → TypeUse I → List FuncType
 useAsks t = askedBy (t .index) (record { params = map (λ p. p .type) (t .params); results = t .results })

@@ -6,7 +6,7 @@ use lib.ListN.{length, length-append}
 use native.Mathlib.Omega.{arith}
 use Rattle.definition.specs.Basic.{concatMap}
 use Rattle.definition.specs.Syntax as Syntax
-use Rattle.definition.specs.Syntax.{Bytes, Identifier, Space, FuncType, number, exportF}
+use Rattle.definition.specs.Syntax.{Bytes, Identifier, Space, FuncType, number, ownIndex, exportF}
 use Rattle.definition.specs.Token as Token
 use Rattle.definition.specs.Deinline.{Numbered, fieldsOf, sourceFields}
 use Rattle.definition.specs.Types as Types
@@ -105,7 +105,7 @@ brought-few Γ s r (N.Own t ls) = omega arith
 -- the functions of a record's fields: exports bring none
 module _ (Γ : Scope Identifier) where
   exports-bring : (r : ℕ) (k : Space) (n : ℕ) (es : List Bytes) (fs : List (Syntax.Field Identifier))
-      → functions Γ (map (λ x. (r, x)) (map (λ e. exportF e k (number n)) es ++ fs)) ≡ functions Γ (map (λ x. (r, x)) fs)
+      → functions Γ (map (λ x. (r, x)) (map (λ e. exportF e k (ownIndex n)) es ++ fs)) ≡ functions Γ (map (λ x. (r, x)) fs)
   unfolding functions concatMap functionIn
   exports-bring r k n [] fs = refl
   exports-bring r k n (e ∷ es) fs = exports-bring r k n es fs

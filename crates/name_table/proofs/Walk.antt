@@ -1,23 +1,23 @@
 -- Plain mathematics of the loops over the work area.
 use Prim.Native.Nat.{ℕ, zero, suc, _+_, _-_, _*_, _/_, _%_, _≤_, _<_, min}
 use mathlib.Core.Path.{_≡_, refl, sym, _∙_, ap}
-use mathlib.Core.Bool.{Bool, true, false, _&&_, false≢true}
+use mathlib.Core.Bool.{Bool, true, false, _&&_, not, false≢true}
 use mathlib.Core.List.{List, [], _∷_, _++_, append-nil}
 use mathlib.Core.Option.{Option, none, some}
 use lib.ListN.{length, getD, set, take, drop, replicate, length-set, drop-of-length-le}
 use lib.Seq.{drop-cons, drop-length, getD-set-same, getD-set-other}
 use lib.Dec.{eqb}
-use borrow.Author.Tests.{eqb-true, eqb-false, eq-eqb, ne-eqb}
+use borrow.Author.Tests.{eqb-true, eqb-false, eq-eqb, ne-eqb, lt-ltb, le-ltb}
 use borrow.Author.Fill.{fill-more}
 use mir.Syntax.{w32}
 use mir.Val.{Fits}
 use native.Mathlib.Omega.{arith}
 use native.Mathlib.Decide.{decLe}
 use native.Mathlib.Numerals.{add-one}
-use Rattle.definition.specs.Basic.{if_then_else_, same, sameBytes, firstAt, later, isSome, ok}
+use Rattle.definition.specs.Basic.{if_then_else_, Answer, same, sameBytes, firstAt, later, isSome, ok, refused}
 use Rattle.laws.proofs.Equal.{same-eq}
 use Rattle.definition.specs.Syntax.{Identifier}
-use Rattle.definition.specs.Names.{carries, find, numberIn, taken, Namespace}
+use Rattle.definition.specs.Names.{carries, find, below, numberIn, taken, Namespace}
 use Rattle.syntax.specs.Refusals.{refusal, refusedBy}
 use Rattle.syntax.specs.Tokens.{part, partOf, idOf, indexOf}
 use Rattle.syntax.specs.declared.Part.{Part}
@@ -287,25 +287,45 @@ module _ {s w : List ℕ} {base blocks : ℕ} {name : List ℕ} {left passed : �
 
 -- ## An index
 
-module _ (ns : Namespace Identifier) (r : ℕ) (s : List ℕ) (x : Index) where
+-- a number below the limit, a number that is not checked, and one that is
+module _ (strict : Bool) (limit r n : ℕ) where
+  pub below-low : n < limit → below strict limit r n ≡ ok n
+  unfolding below
+  below-low h = rw (lt-ltb n limit h) (go strict)
+    where
+      go : (t : Bool) → (if t && not true then refused 20 r else ok n) ≡ ok n
+      go true = refl
+      go false = refl
+
+  pub below-lax : (b : Bool) → b ≡ strict → b ≡ false → below strict limit r n ≡ ok n
+  unfolding below
+  below-lax b e f = rw (← e, f)
+
+  pub below-not : (b : Bool) (z : Refusal) → limit ≤ n → b ≡ strict → b ≡ true → z ≡ refusal 20 r → below strict limit r n ≡ refusedBy z
+  unfolding below
+  below-not b z h e f d = rw (← e, f, le-ltb n limit h, d)
+
+pub ruleset belows = (below-low, below-lax, below-not)
+
+module _ (strict : Bool) (ns : Namespace Identifier) (limit r : ℕ) (s : List ℕ) (x : Index) where
   -- an absent index is 0
-  pub number-absent : x ≡ X.Absent → numberIn sameBytes ns r (indexOf s x) ≡ ok 0
+  pub number-absent : (a : Answer ℕ) → x ≡ X.Absent → below strict limit r 0 ≡ a → numberIn strict sameBytes ns limit r (indexOf s x) ≡ a
   unfolding numberIn
-  number-absent d = rw d
+  number-absent a d h = rw d h
 
   -- a number is itself
-  pub number-number : (n : ℕ) → x ≡ X.Number n → numberIn sameBytes ns r (indexOf s x) ≡ ok n
+  pub number-number : (n : ℕ) (a : Answer ℕ) → x ≡ X.Number n → below strict limit r n ≡ a → numberIn strict sameBytes ns limit r (indexOf s x) ≡ a
   unfolding numberIn
-  number-number n d = rw d
+  number-number n a d h = rw d h
 
   module _ (p : Part) (d : x ≡ X.Named p) (name : List ℕ) (b : name ≡ partOf s p) (q : Found) (told : find sameBytes name ns ≡ found q) where
     -- a name that is there
-    pub number-found : (k : ℕ) → q ≡ F.At k → numberIn sameBytes ns r (indexOf s x) ≡ ok k
+    pub number-found : (k : ℕ) → q ≡ F.At k → numberIn strict sameBytes ns limit r (indexOf s x) ≡ ok k
     unfolding numberIn
     number-found k e = rw (d, sym b, told, e)
 
     -- a name that is not
-    pub number-none : (z : Refusal) → q ≡ F.Nothing → z ≡ refusal 14 r → numberIn sameBytes ns r (indexOf s x) ≡ refusedBy z
+    pub number-none : (z : Refusal) → q ≡ F.Nothing → z ≡ refusal 14 r → numberIn strict sameBytes ns limit r (indexOf s x) ≡ refusedBy z
     unfolding numberIn
     number-none z e f = rw (d, sym b, told, e, f)
 
@@ -328,13 +348,13 @@ first-low p (x ∷ xs) = go (p x) (firstAt p xs) (first-low p xs)
     go false (some n) h = omega arith
 
 -- a table has as many names as entries
-names-length : (n : ℕ) (s w : List ℕ) (base : ℕ) → length (names n s w base) ≡ n
+pub names-length : (n : ℕ) (s w : List ℕ) (base : ℕ) → length (names n s w base) ≡ n
 unfolding names
 names-length zero s w base = refl
 names-length (suc n) s w base = ap suc (names-length n s w (base + 3))
 
 -- and as many labels as open blocks
-labels-length : (n : ℕ) (s w : List ℕ) (base : ℕ) → length (labels n s w base) ≡ n
+pub labels-length : (n : ℕ) (s w : List ℕ) (base : ℕ) → length (labels n s w base) ≡ n
 unfolding labels
 labels-length zero s w base = refl
 labels-length (suc n) s w base = ap suc (labels-length n s w base)

@@ -20,6 +20,8 @@ pub use spaces::name_count;
 pub use spaces::table_base;
 pub use table::Found;
 pub use table::Resolved;
+pub use table::Table;
+pub use table::below;
 pub use table::find_name;
 pub use table::is_taken;
 pub use table::number_in;

@@ -5,6 +5,7 @@ use syntax::Refusal;
 ghost use mathlib.Core.Path.{_≡_};
 ghost use Prim.Native.Nat.{_+_, _*_, _≤_};
 ghost use lib.ListN.{length};
+ghost use Rattle.area.specs.Strict.{strictIn};
 ghost use Rattle.definition.specs.Basic.{sameBytes};
 ghost use Rattle.definition.specs.Names as Names;
 ghost use Rattle.syntax.specs.Tokens.{idOf, indexOf};
@@ -54,17 +55,36 @@ pub fn is_taken(s: &[u8], work: &[u32], base: usize, count: usize, id: Part) -> 
     }
 }
 
-// The number that an index means among count names.
-pub fn number_in(s: &[u8], work: &[u32], base: usize, count: usize, x: Index, rec: u32) -> Resolved
-    requires { ⌜ (base + 3 * count ≤ length (now work)) × (count ≤ 256) ⌝ }
-    ensures { λ r. ⌜ Names.numberIn sameBytes (names count (now (s .entry)) (now (work .entry)) base) rec (indexOf (now (s .entry)) x) ≡ resolved r ⌝ }
+// A number as an index says it. In a strict call it must be below the limit.
+pub fn below(work: &[u32], limit: u32, n: u32, rec: u32) -> Resolved
+    ensures { λ r. ⌜ Names.below (strictIn (now (work .entry))) limit rec n ≡ resolved r ⌝ }
+{
+    if limit <= n {
+        if area::is_strict(work) {
+            return Resolved::Refused(syntax::refusal_at(20, rec));
+        }
+    }
+    Resolved::To(n)
+}
+
+// An index space: where its names begin and how many there are, and how many items it has.
+pub struct Table {
+    pub base: usize,
+    pub count: usize,
+    pub limit: u32,
+}
+
+// The number that an index means in a space.
+pub fn number_in(s: &[u8], work: &[u32], t: Table, x: Index, rec: u32) -> Resolved
+    requires { ⌜ (t .base + 3 * t .count ≤ length (now work)) × (t .count ≤ 256) ⌝ }
+    ensures { λ r. ⌜ Names.numberIn (strictIn (now (work .entry))) sameBytes (names (t .count) (now (s .entry)) (now (work .entry)) (t .base)) (t .limit) rec (indexOf (now (s .entry)) x) ≡ resolved r ⌝ }
 {
     match x {
-        Index::Absent => Resolved::To(0),
-        Index::Number(n) => Resolved::To(n),
+        Index::Absent => below(work, t.limit, 0, rec),
+        Index::Number(n) => below(work, t.limit, n, rec),
         Index::Named(p) => {
             let name = token::bytes_of(s, p);
-            match find_name(s, work, base, count, name) {
+            match find_name(s, work, t.base, t.count, name) {
                 Found::At(k) => Resolved::To(k as u32),
                 Found::Nothing => Resolved::Refused(syntax::refusal_at(14, rec)),
             }

@@ -12,7 +12,7 @@ use Rattle.definition.specs.Basic.{if_then_else_, Answer, ok, fails, refused}
 use Rattle.definition.specs.Syntax.{Bytes, Identifier, Rec}
 use Rattle.definition.specs.Read.{read}
 use Rattle.laws.specs.Steps.{total}
-use Rattle.area.specs.Layout.{BYTES, COUNTS, ENDS, TYPES, WORDS}
+use Rattle.area.specs.Layout.{BYTES, COUNTS, ENDS, STRICT, WORDS}
 use Rattle.stream.specs.Pass.{passed, endWords, areaAfter, counted, reading, readingArea, Reads}
 use Rattle.counting.specs.Counting.{countWords}
 use Rattle.stream.specs.declared.pass.Count.{Count}
@@ -29,8 +29,8 @@ drop-sets : (n i : ℕ) (l vs : List ℕ) → i + length vs ≤ n → drop n (se
 drop-sets n i l [] h = refl
 drop-sets n i l (v ∷ vs) h = drop-sets n (suc i) (set l i v) vs (omega arith) ∙ drop-set-lt n l i v (omega arith)
 
--- the words from `ENDS` up to `TYPES`
-middle : (l : List ℕ) → ENDS ≤ length l → drop ENDS (take TYPES l) ≡ take 512 (drop ENDS l)
+-- the words from `ENDS` up to `STRICT`
+middle : (l : List ℕ) → ENDS ≤ length l → drop ENDS (take STRICT l) ≡ take 512 (drop ENDS l)
 middle l h = ap (drop ENDS) (take-add ENDS 512 l) ∙ drop-at (take ENDS l) (take 512 (drop ENDS l)) ENDS (length-take-le ENDS l h)
 
 -- words that are written from `ENDS` on
@@ -53,9 +53,9 @@ area-is s w rs e =
     let b : take 512 (passed s .ends) ≡ endsFrom 4096 begin s = ap (take 512) (ends-in s rs e) ∙ take-all 512 (endsFrom 4096 begin s) (ends-few s rs e) in
     rw (a, b)
 
--- its words from `ENDS` up to `TYPES` begin with the ends
+-- its words from `ENDS` up to `STRICT` begin with the ends
 module _ (s : Bytes) (w : List ℕ) (l : WORDS ≤ length w) (es cs : List ℕ) (few : length es ≤ 512) (seven : length cs ≡ 7) where
-  words-are : drop ENDS (take TYPES (sets (sets w ENDS es) COUNTS cs)) ≡ es ++ take (512 - length es) (drop (ENDS + length es) w)
+  words-are : drop ENDS (take STRICT (sets (sets w ENDS es) COUNTS cs)) ≡ es ++ take (512 - length es) (drop (ENDS + length es) w)
   words-are =
       let a : ENDS ≤ length (sets (sets w ENDS es) COUNTS cs) = rw (length-sets (sets w ENDS es) COUNTS cs, length-sets w ENDS es) (omega arith) in
       middle (sets (sets w ENDS es) COUNTS cs) a
@@ -73,7 +73,7 @@ ahead-begin s w rs e h =
     record {
       ends = record {
         rest = take (512 - length (endsFrom 4096 begin s)) (drop (ENDS + length (endsFrom 4096 begin s)) w);
-        is = ap (λ z. drop ENDS (take TYPES z)) (area-is s w rs e) ∙ words-are s w h (endsFrom 4096 begin s) (countWords (passed s .seen)) (ends-few s rs e) (seven-counts s);
+        is = ap (λ z. drop ENDS (take STRICT z)) (area-is s w rs e) ∙ words-are s w h (endsFrom 4096 begin s) (countWords (passed s .seen)) (ends-few s rs e) (seven-counts s);
       };
       few = omega arith;
       sound = sound-in s rs e;

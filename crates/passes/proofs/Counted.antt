@@ -67,7 +67,7 @@ module _ (items : List Space) where
     field-types (typeR i t) = omega arith
     field-types (importR n i d) = extern-types d ∙ omega arith
     field-types (itemR i es x) =
-        let e : length (declared (map (λ z. (r, z)) (map (λ e. Syntax.exportF e (sourceSpace x) (Syntax.number (next (sourceSpace x)))) es ++ sourceFields i (next (sourceSpace x)) x b))) ≡ 0 =
+        let e : length (declared (map (λ z. (r, z)) (map (λ e. Syntax.exportF e (sourceSpace x) (Syntax.ownIndex (next (sourceSpace x)))) es ++ sourceFields i (next (sourceSpace x)) x b))) ≡ 0 =
         ap length (item-declares r i b (sourceSpace x) (next (sourceSpace x)) es x) in
         source-types x ∙ omega arith
     field-types (exportR n k x) = omega arith

@@ -3,3 +3,4 @@ pub mod Counted
 pub mod Join
 pub mod Stages
 pub mod Whole
+pub mod Strict

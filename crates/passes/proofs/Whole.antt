@@ -4,11 +4,11 @@ use mathlib.Core.Path.{_≡_, refl, sym, _∙_, ap}
 use mathlib.Core.Bool.{Bool, true, false}
 use mathlib.Core.List.{List, []}
 use lib.Dec.{ltb}
-use lib.ListN.{length}
+use lib.ListN.{length, getD}
 use native.Mathlib.Omega.{arith}
 use Rattle.syntax.specs.Refusals.{refusalOf}
 use Rattle.syntax.specs.declared.Refusal.{Refusal}
-use Rattle.area.specs.Layout.{BYTES, TYPES, WORDS}
+use Rattle.area.specs.Layout.{BYTES, TYPES, WORDS, STRICT, DECLARED}
 use Rattle.definition.specs.Basic as Basic
 use Rattle.definition.specs.Basic.{if_then_else_, refusal, Answer, ok, fails, refused, _>>=_, sameBytes}
 use Rattle.definition.specs.Syntax.{Bytes, Identifier, Rec, Item, FuncType}
@@ -27,9 +27,9 @@ use Rattle.stream.specs.declared.pass.Count.the-variants as C
 use Rattle.type_table.specs.Table.{typeTable, typesIn, Recalled}
 use Rattle.type_table.proofs.Types.{table-length}
 use Rattle.walk.specs.Walk.{begin, fieldsIn, Ahead}
-use Rattle.walk.proofs.Steps.{ahead-kept}
+use Rattle.walk.proofs.Steps.{ahead-kept, ahead-below}
 use Rattle.passes.proofs.Join.{fields-in}
-use Rattle.passes.proofs.Begin.{reads-accepted, Accepted}
+use Rattle.passes.proofs.Begin.{reads-accepted, Accepted, reads-long}
 use Rattle.interning.specs.Declaring.{DeclaredAll}
 use Rattle.survey.specs.Survey.{typesAfterOrder, Stands, Surveys}
 use Rattle.survey.specs.declared.Surveyed.{Surveyed}
@@ -42,6 +42,10 @@ use Rattle.passes.specs.Passes.{Found, fromNames, fromTypes, fromFields,
 use Rattle.passes.specs.Passes.{makes, writes, saidBy, ReadyBy, Prepares}
 use Rattle.passes.specs.declared.Passed.{Passed}
 use Rattle.passes.proofs.Stages.{refuses, passes-on}
+use Rattle.area.specs.Strict.{strictIn, strictPut}
+use Rattle.area.proofs.Strict.{strict-put, put-kept, strict-kept}
+use Rattle.area.proofs.Kept.{kept-less, kept-word}
+use Rattle.area.specs.Lent.{Lent}
 
 -- ## The order of imports, the types of uses, and the names
 
@@ -67,15 +71,15 @@ module _ (s w : List ℕ) (q : Surveyed) (w₁ : List ℕ) (h : Surveys s w q w�
     pub survey-recalled : Recalled w₁ (typesIn s w₁) (uses (fieldsIn s))
     survey-recalled = stands .recalled
 
-    scope-is : _≡_ {A = Scope Identifier} (record { eq = sameBytes; names = λ k. space k (stands .items); definers = λ k. definers k (stands .items); allTypes = typesIn s w₁ }) (scopeIn s w₁)
+    scope-is : _≡_ {A = Scope Identifier} (record { strict = strictIn w; eq = sameBytes; names = λ k. space k (stands .items); definers = λ k. definers k (stands .items); allTypes = typesIn s w₁ }) (scopeIn s w₁)
     unfolding scopeIn
-    scope-is = λ i. record { eq = sameBytes; names = λ k. stands .tables .each k i; definers = λ k. stands .tables .made k i; allTypes = typesIn s w₁ }
+    scope-is = let k = sym (strict-kept (stands .kept) (omega arith)) in λ i. record { strict = k i; eq = sameBytes; names = λ k. stands .tables .each k i; definers = λ k. stands .tables .made k i; allTypes = typesIn s w₁ }
 
-    pub survey-done : (count : ℕ) (p : Passed) (w₂ b : List ℕ) → Passes (fromNames (fieldsIn s) (scopeIn s w₁)) count s w₁ p w₂ b → Passes (fromFields (fieldsIn s)) count s w p w₂ b
+    pub survey-done : (count : ℕ) (p : Passed) (w₂ b : List ℕ) → Passes (fromNames (fieldsIn s) (scopeIn s w₁)) count s w₁ p w₂ b → Passes (fromFields (strictIn w) (fieldsIn s)) count s w p w₂ b
     unfolding fromFields fromTypes _>>=_
     survey-done count p w₂ b y = let t = stands .all in let a = stands .says in passes-on _ _ count s w w₁ p w₂ b (rw (t, a, scope-is) refl) (stands .kept .long) y
 
-  pub survey-not : (count : ℕ) (p : Passed) (b : List ℕ) (r : Refusal) → q ≡ S.Refused r → p .verdict ≡ V′.Refused r → Passes (fromFields (fieldsIn s)) count s w p w₁ b
+  pub survey-not : (count : ℕ) (p : Passed) (b : List ℕ) (r : Refusal) → q ≡ S.Refused r → p .verdict ≡ V′.Refused r → Passes (fromFields (strictIn w) (fieldsIn s)) count s w p w₁ b
   unfolding fromFields fromTypes Surveys
   survey-not count p b r e v =
       (let g = rw e at h in
@@ -94,6 +98,10 @@ module _ (s w : List ℕ) (d : ℕ) (w₁ : List ℕ) (h : DeclaredAll s w d w�
   pub declared-ahead : Ahead s w begin → Ahead s w₁ begin
   declared-ahead a = ahead-kept s w w₁ begin (h .kept) a
 
+  -- the call is as strict as before
+  pub declared-on : (count : ℕ) (p : Passed) (w₂ b : List ℕ) → Passes (fromFields (strictIn w₁) (fieldsIn s)) count s w₁ p w₂ b → Passes (fromFields (strictIn w) (fieldsIn s)) count s w p w₂ b
+  declared-on count p w₂ b y = passes-on _ _ count s w w₁ p w₂ b (ap (λ t. fromFields t (fieldsIn s)) (sym (strict-kept (h .kept) (omega arith)))) (h .kept .long) y
+
 -- ## The records
 
 -- what follows the types follows the order of imports and then them
@@ -103,9 +111,9 @@ order-then (ok u) b k = refl
 order-then (fails q) b k = refl
 
 -- the stages are the definition's passes
-fields-found : (fs : Numbered Identifier) → fromFields fs ≡ (scope sameBytes fs >>= fromNames fs)
+fields-found : (strict : Bool) (fs : Numbered Identifier) → fromFields strict fs ≡ (scope strict sameBytes fs >>= fromNames fs)
 unfolding fromFields typesAfterOrder fromTypes
-fields-found fs = order-then (importOrder fs) (allTypes fs) (fromTypes fs) ∙ sym (scope-then sameBytes fs (fromNames fs))
+fields-found strict fs = order-then (importOrder fs) (allTypes fs) (fromTypes strict fs) ∙ sym (scope-then strict sameBytes fs (fromNames fs))
 
 -- what follows them, on what they find and on the items alone
 found-then : (fs : Numbered Identifier) (a : Answer (Scope Identifier)) (k : Found → Answer Bytes) → (a >>= λ Γ. itemsIn Γ fs >>= λ is. k (Γ, is)) ≡ (a >>= fromNames fs >>= k)
@@ -123,14 +131,14 @@ items-then fs (ok Γ) k = refl
 items-then fs (fails q) k = refl
 
 -- a call is its writer after the passes
-made : (names : Bool) (room : ℕ) (rs : List (Rec Identifier)) → makes names room rs ≡ (fromFields (deinline rs) >>= λ x. fitting room (length rs) (writes names (deinline rs) x))
+made : (strict names : Bool) (room : ℕ) (rs : List (Rec Identifier)) → makes strict names room rs ≡ (fromFields strict (deinline rs) >>= λ x. fitting room (length rs) (writes names (deinline rs) x))
 unfolding moduleIn resolved items namedModuleIn
-made false room rs =
-    rw (fields-found (deinline rs))
-    (items-then (deinline rs) (scope sameBytes (deinline rs)) (λ is. fitting room (length rs) (module′ is))
-    ∙ found-then (deinline rs) (scope sameBytes (deinline rs)) (λ x. fitting room (length rs) (writes false (deinline rs) x)))
-made true room rs =
-    rw (fields-found (deinline rs)) (found-then (deinline rs) (scope sameBytes (deinline rs)) (λ x. fitting room (length rs) (writes true (deinline rs) x)))
+made strict false room rs =
+    rw (fields-found strict (deinline rs))
+    (items-then (deinline rs) (scope strict sameBytes (deinline rs)) (λ is. fitting room (length rs) (module′ is))
+    ∙ found-then (deinline rs) (scope strict sameBytes (deinline rs)) (λ x. fitting room (length rs) (writes false (deinline rs) x)))
+made strict true room rs =
+    rw (fields-found strict (deinline rs)) (found-then (deinline rs) (scope strict sameBytes (deinline rs)) (λ x. fitting room (length rs) (writes true (deinline rs) x)))
 
 -- what reading refuses the call refuses
 read-not : (make : Maker) (s : Bytes) (work room : ℕ) (z : Basic.Refusal) → reading s work ≡ fails z → assembleBy make s work room ≡ refusing z
@@ -169,11 +177,11 @@ count-of s work n rs d e = go (ltb BYTES (length s)) (ltb work WORDS) e
     go false true e = let z : _≡_ {A = ℕ} 0 1 = cc in absurd (omega arith)
     go false false e = let f : ok (0 + length rs) ≡ ok n = (let g = e in rw d at g) in let x : 0 + length rs ≡ n = cc in omega arith
 
-module _ (s w : List ℕ) (q : Count) (w₁ : List ℕ) (h : Reads s w q w₁) (l : length w₁ ≡ length w) (p : Passed) where
-  pub prepare-not : (r : Refusal) → q ≡ C.Refused r → p .verdict ≡ V′.Refused r → (b : List ℕ) → Prepares s w p w₁ b
-  prepare-not r e v b = record { says = λ names room. rw v (read-not (makes names) s (length w) room (refusalOf r) (h .says ∙ ap counted e)); ready = rw v tt; long = l }
+module _ (strict : Bool) (s w : List ℕ) (q : Count) (w₁ : List ℕ) (h : Reads s w q w₁) (l : length w₁ ≡ length w) (p : Passed) where
+  pub prepare-not : (r : Refusal) → q ≡ C.Refused r → p .verdict ≡ V′.Refused r → (b : List ℕ) → Prepares strict s w p w₁ b
+  prepare-not r e v b = record { says = λ names room. rw v (read-not (makes strict names) s (length w) room (refusalOf r) (h .says ∙ ap counted e)); ready = rw v tt; long = l }
 
-  pub prepare-done : (n : ℕ) (w₂ b : List ℕ) → q ≡ C.Records n → Passes (fromFields (fieldsIn s)) n s w₁ p w₂ b → Prepares s w p w₂ b
+  pub prepare-done : (n : ℕ) (w₂ b : List ℕ) → q ≡ C.Records n → Passes (fromFields strict (fieldsIn s)) n s w₁ p w₂ b → Prepares strict s w p w₂ b
   unfolding _>>=_ say
   prepare-done n w₂ b e y = record { says = λ names room. whole names room ∙ ends names room (p .verdict) (y .says); ready = ready (p .verdict) (y .says); long = y .long ∙ l }
     where
@@ -187,18 +195,18 @@ module _ (s w : List ℕ) (q : Count) (w₁ : List ℕ) (h : Reads s w q w₁) (
       number = count-of s (length w) n (a .recs) (a .is) told-n
 
       whole : (names : Bool) (room : ℕ)
-          → assembleBy (makes names) s (length w) room ≡ say n (fromFields (fieldsIn s) >>= λ x. fitting room n (writes names (fieldsIn s) x))
+          → assembleBy (makes strict names) s (length w) room ≡ say n (fromFields strict (fieldsIn s) >>= λ x. fitting room n (writes names (fieldsIn s) x))
       whole names room =
-          let m : makes names room (a .recs) ≡ (fromFields (fieldsIn s) >>= λ x. fitting room n (writes names (fieldsIn s) x)) =
-          made names room (a .recs) ∙ rw (fields-in s (a .recs) (a .is), number) refl in
-          read-ok (makes names) s (length w) room n (a .recs) (a .is) told-n ∙ ap (say n) m
+          let m : makes strict names room (a .recs) ≡ (fromFields strict (fieldsIn s) >>= λ x. fitting room n (writes names (fieldsIn s) x)) =
+          made strict names room (a .recs) ∙ rw (fields-in s (a .recs) (a .is), number) refl in
+          read-ok (makes strict names) s (length w) room n (a .recs) (a .is) told-n ∙ ap (say n) m
 
-      ends : (names : Bool) (room : ℕ) (v : Verdict) → PassesBy v (fromFields (fieldsIn s)) n s p w₂ b
-          → say n (fromFields (fieldsIn s) >>= λ x. fitting room n (writes names (fieldsIn s) x))
+      ends : (names : Bool) (room : ℕ) (v : Verdict) → PassesBy v (fromFields strict (fieldsIn s)) n s p w₂ b
+          → say n (fromFields strict (fieldsIn s) >>= λ x. fitting room n (writes names (fieldsIn s) x))
           ≡ saidBy v (p .count) room (writes names (fieldsIn s) (scopeIn s w₂, moduleItems (p .declared) s w₂))
       ends names room V′.Fine z = let f = z .found in let c = z .records in rw (f, c) refl
       ends names room (V′.Refused r) z = rw z refl
 
-      ready : (v : Verdict) → PassesBy v (fromFields (fieldsIn s)) n s p w₂ b → ReadyBy v s p w₂ b
+      ready : (v : Verdict) → PassesBy v (fromFields strict (fieldsIn s)) n s p w₂ b → ReadyBy v s p w₂ b
       ready V′.Fine z = z .ready
       ready (V′.Refused r) z = tt

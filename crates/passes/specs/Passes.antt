@@ -31,11 +31,11 @@ Found = Scope Identifier × List Item
 unfoldable pub fromNames : Numbered Identifier → Scope Identifier → Answer Found
 fromNames fs Γ = itemsIn Γ fs >>= λ is. ok (Γ, is)
 
-unfoldable pub fromTypes : Numbered Identifier → List FuncType → Answer Found
-fromTypes fs ts = register sameBytes [] fs >>= λ xs. fromNames fs (record { eq = sameBytes; names = λ k. space k xs; definers = λ k. definers k xs; allTypes = ts })
+unfoldable pub fromTypes : Bool → Numbered Identifier → List FuncType → Answer Found
+fromTypes strict fs ts = register sameBytes [] fs >>= λ xs. fromNames fs (record { strict = strict; eq = sameBytes; names = λ k. space k xs; definers = λ k. definers k xs; allTypes = ts })
 
-unfoldable pub fromFields : Numbered Identifier → Answer Found
-fromFields fs = typesAfterOrder fs >>= λ ts. fromTypes fs ts
+unfoldable pub fromFields : Bool → Numbered Identifier → Answer Found
+fromFields strict fs = typesAfterOrder fs >>= λ ts. fromTypes strict fs ts
 
 -- what a writer asks for: the items as the work area has them, their tally, and the bytes of their entries that were kept
 pub record Prepared (s : List ℕ) (p : Passed) (w kept : List ℕ) : Type 0 where
@@ -60,10 +60,10 @@ pub record Passes (a : Answer Found) (count : ℕ) (s w : List ℕ) (p : Passed)
 
 -- ## What is left of a call
 
--- what a call makes of records, with the names or without; and what its writer makes of what the passes find
-abbrev pub makes : Bool → Maker
-makes false = moduleIn sameBytes
-makes true = namedModuleIn
+-- what a call makes of records, strict or not, with the names or without; and what its writer makes of what the passes find
+abbrev pub makes : Bool → Bool → Maker
+makes strict false = moduleIn strict sameBytes
+makes strict true = namedModuleIn strict
 
 abbrev pub writes : Bool → Numbered Identifier → Found → Bytes
 writes false fs x = module′ (x .1)
@@ -78,9 +78,9 @@ abbrev pub ReadyBy : Verdict → List ℕ → Passed → List ℕ → List ℕ �
 ReadyBy V′.Fine s p w kept = Prepared s p w kept
 ReadyBy (V′.Refused q) s p w kept = Unit {0}
 
--- all passes: what is left of either call is its writer
-pub record Prepares (s w : List ℕ) (p : Passed) (w′ kept : List ℕ) : Type 0 where
-  pub says : (names : Bool) (room : ℕ) → assembleBy (makes names) s (length w) room
+-- all passes: what is left of any call is its writer
+pub record Prepares (strict : Bool) (s w : List ℕ) (p : Passed) (w′ kept : List ℕ) : Type 0 where
+  pub says : (names : Bool) (room : ℕ) → assembleBy (makes strict names) s (length w) room
       ≡ saidBy (p .verdict) (p .count) room (writes names (fieldsIn s) (scopeIn s w′, moduleItems (p .declared) s w′))
   pub ready : ReadyBy (p .verdict) s p w′ kept
   pub long : length w′ ≡ length w

@@ -9,6 +9,7 @@ ghost use Prim.Native.Nat.{_≤_};
 ghost use lib.ListN.{length, getD};
 ghost use Rattle.area.specs.Layout.{DECLARED, TYPES};
 ghost use Rattle.area.specs.Lent.{Lent};
+ghost use Rattle.area.specs.Strict.{strictIn};
 ghost use Rattle.definition.specs.Types as Types;
 ghost use Rattle.type_table.specs.Table.{typeTable, typesIn, Recalled};
 ghost use Rattle.walk.specs.Walk.{Ahead, begin, fieldsIn};
@@ -63,7 +64,7 @@ fn resolve(s: &[u8], work: &mut [u32], kept: &mut [u8], count: u32, declared: u3
 // The order of imports, the types of uses and the names, in one walk; then the fields.
 fn intern(s: &[u8], work: &mut [u32], kept: &mut [u8], count: u32, declared: u32) -> Passed
     requires { ⌜ Lent (now s) (now work) × (declared ≤ 256) × Ahead (now s) (now work) begin × (typeTable declared (now s) (now work) TYPES ≡ Types.declared (fieldsIn (now s))) ⌝ }
-    ensures { λ r. ⌜ Passes (fromFields (fieldsIn (now (s .entry)))) count (now (s .entry)) (now (work .entry)) r (now (work .exit)) (now (kept .exit)) ⌝ }
+    ensures { λ r. ⌜ Passes (fromFields (strictIn (now (work .entry))) (fieldsIn (now (s .entry)))) count (now (s .entry)) (now (work .entry)) r (now (work .exit)) (now (kept .exit)) ⌝ }
 {
     match survey::survey_all(s, work, declared) {
         Surveyed::Done => resolve(s, work, kept, count, declared),
@@ -74,18 +75,27 @@ fn intern(s: &[u8], work: &mut [u32], kept: &mut [u8], count: u32, declared: u32
 // The declared types; then what uses and names there are.
 fn declare(s: &[u8], work: &mut [u32], kept: &mut [u8], count: u32) -> Passed
     requires { ⌜ Lent (now s) (now work) × Ahead (now s) (now work) begin × (getD (now work) DECLARED 0 ≡ length (Types.declared (fieldsIn (now s)))) ⌝ }
-    ensures { λ r. ⌜ Passes (fromFields (fieldsIn (now (s .entry)))) count (now (s .entry)) (now (work .entry)) r (now (work .exit)) (now (kept .exit)) ⌝ }
+    ensures { λ r. ⌜ Passes (fromFields (strictIn (now (work .entry))) (fieldsIn (now (s .entry)))) count (now (s .entry)) (now (work .entry)) r (now (work .exit)) (now (kept .exit)) ⌝ }
 {
     let declared = interning::declare_all(s, work);
     intern(s, work, kept, count, declared)
 }
 
-// The records; then the passes over their fields.
-pub fn prepare(s: &[u8], work: &mut [u32], kept: &mut [u8]) -> Passed
-    ensures { λ r. ⌜ Prepares (now (s .entry)) (now (work .entry)) r (now (work .exit)) (now (kept .exit)) ⌝ }
+// Whether the call is strict; then the declared types.
+fn with_strictness(s: &[u8], work: &mut [u32], kept: &mut [u8], count: u32, strict: bool) -> Passed
+    requires { ⌜ Lent (now s) (now work) × Ahead (now s) (now work) begin × (getD (now work) DECLARED 0 ≡ length (Types.declared (fieldsIn (now s)))) ⌝ }
+    ensures { λ r. ⌜ Passes (fromFields strict (fieldsIn (now (s .entry)))) count (now (s .entry)) (now (work .entry)) r (now (work .exit)) (now (kept .exit)) ⌝ }
+{
+    area::put_strict(work, strict);
+    declare(s, work, kept, count)
+}
+
+// The records; then, in a strict call or a plain one, the passes over their fields.
+pub fn prepare(s: &[u8], work: &mut [u32], kept: &mut [u8], strict: bool) -> Passed
+    ensures { λ r. ⌜ Prepares strict (now (s .entry)) (now (work .entry)) r (now (work .exit)) (now (kept .exit)) ⌝ }
 {
     match stream::read_all(s, work) {
-        Count::Records(count) => declare(s, work, kept, count),
+        Count::Records(count) => with_strictness(s, work, kept, count, strict),
         Count::Refused(q) => refuse(q),
     }
 }

@@ -1,6 +1,7 @@
 -- An exported call says what a call on the part that is lent says; beyond that part the output goes on.
 use Prim.Native.Nat.{ℕ, _≤_}
 use mathlib.Core.Path.{_≡_, sym, _∙_, ap}
+use mathlib.Core.Bool.{false}
 use mathlib.Core.List.{List, _++_}
 use lib.ListN.{length, take, drop}
 use lib.Seq.{take-append-le}
@@ -31,11 +32,11 @@ module _ (f : Call) (s : Bytes) (work : List ℕ) (old : Bytes) (r : ℕ) (a : L
 
 pub call-within : (s work old : List ℕ) → call s work old .written ≤ length (call s work old .output)
 unfolding call
-call-within s work old = written-within (moduleIn sameBytes) s work old
+call-within s work old = written-within (moduleIn false sameBytes) s work old
 
 pub names-within : (s work old : List ℕ) → callNames s work old .written ≤ length (callNames s work old .output)
 unfolding callNames
-names-within s work old = written-within namedModuleIn s work old
+names-within s work old = written-within (namedModuleIn false) s work old
 
 module _ (a b : Outcome) (h : a .written ≤ length (a .output)) (h′ : b .written ≤ length (b .output)) (x y : Bytes) where
   pub same-beyond : SaysTheSame a b → SaysTheSame (goingOn a x) (goingOn b y)

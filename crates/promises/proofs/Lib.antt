@@ -4,4 +4,6 @@ pub mod Demand1
 pub mod Demand3
 pub mod NamesAfter
 pub mod Types
+pub mod InRange
 pub mod Shutouts
+pub mod Strict

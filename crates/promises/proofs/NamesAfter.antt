@@ -67,28 +67,28 @@ module _ (count room room′ : ℕ) where
 
 module _ (s : Bytes) (work room : ℕ) where
   abbrev named : Assemble.Said
-  named = assembleBy namedModuleIn s work room
+  named = assembleBy (namedModuleIn false) s work room
 
   said-after : (work′ room′ : ℕ) → leastWork ≤ work′ → 0 < length (named .bytes) → length (named .bytes) ≤ room′
-      → Follows room (sectionOf (read s)) named (assembleBy (moduleIn sameBytes) s work′ room′)
+      → Follows room (sectionOf (read s)) named (assembleBy (moduleIn false sameBytes) s work′ room′)
   unfolding assembleBy sayRead namedModuleIn moduleIn resolved items namesOf
   said-after work′ room′ h′ p h = rw (le-ltb work′ leastWork h′) (go (ltb longestStream (length s)) (ltb work leastWork) (read s) p h)
     where
       go : (x y : Bool) (c : Answer (List (Rec Identifier)))
-          → 0 < length ((if x then refusing (refusal 1 0) else if y then refusing (refusal 10 0) else sayRead namedModuleIn room c) .bytes)
-          → length ((if x then refusing (refusal 1 0) else if y then refusing (refusal 10 0) else sayRead namedModuleIn room c) .bytes) ≤ room′
-          → Follows room (sectionOf c) (if x then refusing (refusal 1 0) else if y then refusing (refusal 10 0) else sayRead namedModuleIn room c)
-          (if x then refusing (refusal 1 0) else sayRead (moduleIn sameBytes) room′ c)
+          → 0 < length ((if x then refusing (refusal 1 0) else if y then refusing (refusal 10 0) else sayRead (namedModuleIn false) room c) .bytes)
+          → length ((if x then refusing (refusal 1 0) else if y then refusing (refusal 10 0) else sayRead (namedModuleIn false) room c) .bytes) ≤ room′
+          → Follows room (sectionOf c) (if x then refusing (refusal 1 0) else if y then refusing (refusal 10 0) else sayRead (namedModuleIn false) room c)
+          (if x then refusing (refusal 1 0) else sayRead (moduleIn false sameBytes) room′ c)
       go true y c p h = absurd (omega arith)
       go false true c p h = absurd (omega arith)
       go false false (fails q) p h = absurd (omega arith)
-      go false false (ok rs) p h = with-scope (length rs) room room′ (deinline rs) (scope sameBytes (deinline rs)) p h
+      go false false (ok rs) p h = with-scope (length rs) room room′ (deinline rs) (scope false sameBytes (deinline rs)) p h
 
 module _ (s : Bytes) (work work′ : List ℕ) (h′ : leastWork ≤ length work′) (old old′ : Bytes) (p : 0 < callNames s work old .written) where
   written-fits : callNames s work old .written ≤ length old
   unfolding callNames callBy outcome
   written-fits =
-      let n = length (assembleBy namedModuleIn s (length work) (length old) .bytes) in
+      let n = length (assembleBy (namedModuleIn false) s (length work) (length old) .bytes) in
       said-after s (length work) (length old) (length work′) n h′ p (omega arith) .within
 
   call-after : callNames s work old .written ≤ length old′ → NamesAfter (sectionOf (read s)) (callNames s work old) (call s work′ old′)

@@ -5,7 +5,7 @@ use mathlib.Core.List.{List}
 use lib.ListN.{length}
 use native.Mathlib.Omega.{arith}
 use Rattle.definition.specs.Reader.{Step}
-use Rattle.definition.specs.Assemble.{call, callNames}
+use Rattle.definition.specs.Assemble.{call, callNames, callStrict, callStrictNames}
 use Rattle.emit.specs.Put.{Put}
 use Rattle.syntax.specs.Refusals.{refusalOf}
 use Rattle.syntax.specs.Numbers.{u32At, u64At}
@@ -17,8 +17,8 @@ use Rattle.stream.specs.Pass.{counted, Reads}
 use Rattle.stream.specs.Export.{Told}
 use Rattle.stream.specs.declared.pass.Count.{Count}
 use Rattle.stream.specs.declared.pass.Count.the-variants as C
-use Rattle.assembler.specs.Run.{Call, AssemblesBy, Assembles, AssemblesNames}
-use Rattle.assembler.specs.Export.{ExportsBy, Exports, ExportsNames}
+use Rattle.assembler.specs.Run.{Call, AssemblesBy, Assembles, AssemblesNames, AssemblesStrict, AssemblesStrictNames}
+use Rattle.assembler.specs.Export.{ExportsBy, Exports, ExportsNames, ExportsStrict, ExportsStrictNames}
 use Rattle.promises.specs.Promise.{OneAnswer, OneExport}
 
 -- ## The assembler
@@ -35,18 +35,30 @@ assemble-one = answer-one call
 pub assemble-names-one : (s work old : List ℕ) → OneAnswer (AssemblesNames s work old)
 assemble-names-one = answer-one callNames
 
+pub assemble-strict-one : (s work old : List ℕ) → OneAnswer (AssemblesStrict s work old)
+assemble-strict-one = answer-one callStrict
+
+pub assemble-strict-names-one : (s work old : List ℕ) → OneAnswer (AssemblesStrictNames s work old)
+assemble-strict-names-one = answer-one callStrictNames
+
 -- and so does what is handed over
 handed-one : (f : Call) (s work old : List ℕ) → OneExport (ExportsBy f s work old)
 handed-one f s work old r r′ a a′ out out′ w w′ k k′ =
     let e = k ∙ sym k′ in
     (λ i. e i .number, λ i. e i .answer, λ i. e i .output, λ i. e i .work)
 
--- `barrizuppa_assemble`, `barrizuppa_assemble_names`
+-- the exported calls
 pub export-one : (s work old : List ℕ) → OneExport (Exports s work old)
 export-one = handed-one call
 
 pub export-names-one : (s work old : List ℕ) → OneExport (ExportsNames s work old)
 export-names-one = handed-one callNames
+
+pub export-strict-one : (s work old : List ℕ) → OneExport (ExportsStrict s work old)
+export-strict-one = handed-one callStrict
+
+pub export-strict-names-one : (s work old : List ℕ) → OneExport (ExportsStrictNames s work old)
+export-strict-names-one = handed-one callStrictNames
 
 -- ## The reading pass
 

@@ -12,11 +12,11 @@ use Rattle.definition.specs.Basic.{if_then_else_, refusal, Answer, ok, fails, s
 use Rattle.definition.specs.Syntax.{Bytes, Identifier, Rec}
 use Rattle.definition.specs.Read.{read}
 use Rattle.definition.specs.Assemble as Assemble
-use Rattle.definition.specs.Assemble.{longestStream, leastWork, Maker, moduleIn, namedModuleIn, refusing, say, sayRead, assembleBy, Outcome, outputAfter, outcome, callBy, call, callNames}
+use Rattle.definition.specs.Assemble.{longestStream, leastWork, Maker, moduleIn, namedModuleIn, refusing, say, sayRead, assembleBy, Outcome, outputAfter, outcome, callBy, call, callNames, callStrict, callStrictNames}
 use Rattle.laws.specs.TypeLists.{NoTypeTooMany, WritesSmallest}
 use Rattle.laws.proofs.NoTypeTooMany.{module-writes, names-write}
-use Rattle.assembler.specs.Run.{outcomeOf, AssemblesBy, Assembles, AssemblesNames}
-use Rattle.assembler.specs.Export.{lent, ExportsBy, Exports, ExportsNames}
+use Rattle.assembler.specs.Run.{outcomeOf, AssemblesBy, Assembles, AssemblesNames, AssemblesStrict, AssemblesStrictNames}
+use Rattle.assembler.specs.Export.{lent, ExportsBy, Exports, ExportsNames, ExportsStrict, ExportsStrictNames}
 use Rattle.assembler.proofs.Exported.{written-within}
 use Rattle.writers.specs.declared.Said.{Said}
 use Rattle.promises.specs.Promise.{outcomeIn, FewestTypes}
@@ -77,18 +77,34 @@ module _ (make : Maker) (writes : WritesSmallest make) (s : Bytes) (work : List 
 module _ (s : Bytes) (work : List ℕ) (old : Bytes) (r : Said) (out : Bytes) (w : List ℕ) where
   pub fewest-assemble : Assembles s work old r out w → 0 < r .len → FewestTypes s (outcomeOf r out w)
   unfolding call
-  fewest-assemble = fewest-by (moduleIn sameBytes) module-writes s work old r out w
+  fewest-assemble = fewest-by (moduleIn false sameBytes) (module-writes false) s work old r out w
 
   pub fewest-assemble-names : AssemblesNames s work old r out w → 0 < r .len → FewestTypes s (outcomeOf r out w)
   unfolding callNames
-  fewest-assemble-names = fewest-by namedModuleIn names-write s work old r out w
+  fewest-assemble-names = fewest-by (namedModuleIn false) (names-write false) s work old r out w
 
--- `barrizuppa_assemble`, `barrizuppa_assemble_names`: the written length is the answer's third word
+  pub fewest-assemble-strict : AssemblesStrict s work old r out w → 0 < r .len → FewestTypes s (outcomeOf r out w)
+  unfolding callStrict
+  fewest-assemble-strict = fewest-by (moduleIn true sameBytes) (module-writes true) s work old r out w
+
+  pub fewest-assemble-strict-names : AssemblesStrictNames s work old r out w → 0 < r .len → FewestTypes s (outcomeOf r out w)
+  unfolding callStrictNames
+  fewest-assemble-strict-names = fewest-by (namedModuleIn true) (names-write true) s work old r out w
+
+-- the exported calls: the written length is the answer's third word
 module _ (s : Bytes) (work : List ℕ) (old : Bytes) (r : ℕ) (a : List ℕ) (out : Bytes) (w : List ℕ) where
   pub fewest-export : Exports s work old r a out w → 0 < outcomeIn r a out w .written → FewestTypes s (outcomeIn r a out w)
   unfolding call
-  fewest-export = export-fewest-by (moduleIn sameBytes) module-writes s work old r a out w
+  fewest-export = export-fewest-by (moduleIn false sameBytes) (module-writes false) s work old r a out w
 
   pub fewest-export-names : ExportsNames s work old r a out w → 0 < outcomeIn r a out w .written → FewestTypes s (outcomeIn r a out w)
   unfolding callNames
-  fewest-export-names = export-fewest-by namedModuleIn names-write s work old r a out w
+  fewest-export-names = export-fewest-by (namedModuleIn false) (names-write false) s work old r a out w
+
+  pub fewest-export-strict : ExportsStrict s work old r a out w → 0 < outcomeIn r a out w .written → FewestTypes s (outcomeIn r a out w)
+  unfolding callStrict
+  fewest-export-strict = export-fewest-by (moduleIn true sameBytes) (module-writes true) s work old r a out w
+
+  pub fewest-export-strict-names : ExportsStrictNames s work old r a out w → 0 < outcomeIn r a out w .written → FewestTypes s (outcomeIn r a out w)
+  unfolding callStrictNames
+  fewest-export-strict-names = export-fewest-by (namedModuleIn true) (names-write true) s work old r a out w

@@ -1,5 +1,6 @@
 -- What follows from the promises of the assembler's calls (`Assembles`, `Exports` and their twins in crates/assembler/specs), with names and without.
 use mathlib.Core.Path.{_≡_}
+use mathlib.Core.Bool.{true, false}
 use mathlib.Core.List.{List, [], _++_}
 use Prim.Native.Nat.{ℕ, _<_}
 use lib.ListN.{length, take, getD, replicate}
@@ -9,6 +10,7 @@ use Rattle.definition.specs.Read.{read}
 use Rattle.definition.specs.Assemble.{Outcome}
 use Rattle.laws.specs.TypeLists.{NoTypeTooMany}
 use Rattle.renaming.specs.Renamed.{namesOf}
+use Rattle.in_range.specs.InRange.{noNames, CallInRange}
 use Rattle.writers.specs.declared.Said.{Said}
 
 -- what an exported call says and leaves: the returned number, and of the answer's words the record, the written length and where a name was first used
@@ -52,7 +54,7 @@ pub record SameExport (work work′ : List ℕ) (old old′ : Bytes) (r r′ : �
 
 -- the name section of a stream's records
 abbrev pub sectionOf : Answer (List (Rec Identifier)) → Bytes
-sectionOf (ok rs) = namesOf rs
+sectionOf (ok rs) = namesOf false rs
 sectionOf (fails q) = []
 
 -- both calls have accepted: `a`, with names, has written what `b` wrote without them, and then the section
@@ -72,3 +74,13 @@ pub record FewestTypes (s : Bytes) (o : Outcome) : Type 0 where
   pub records : List (Rec Identifier)
   pub reads : read s ≡ ok records
   pub types : NoTypeTooMany records (take (o .written) (o .output))
+
+-- ## Every index in range (document 02, §8)
+
+-- a strict call has accepted the stream: the module that it has written is that of items whose indices each lie below their space's count; with names,
+-- the stream's name section stands after it (crates/in_range/specs/InRange.antt)
+abbrev pub ModuleInRange : Bytes → Outcome → Type 0
+ModuleInRange s o = CallInRange noNames s o
+
+abbrev pub NamedInRange : Bytes → Outcome → Type 0
+NamedInRange s o = CallInRange (namesOf true) s o

@@ -1,6 +1,7 @@
 -- Demand 3: two streams that differ only in identifiers, equal in the one where they are equal in the other, are assembled to the same answer.
 use mathlib.Core.Path.{_≡_, ap, _∙_, sym}
 use Prim.Native.Nat.{ℕ, zero, suc, _≤_}
+use mathlib.Core.Bool.{Bool, true, false}
 use mathlib.Core.List.{List, [], _∷_, map, List·Memᴰ, List·Memᴰ·head, List·Memᴰ·tail}
 use mathlib.Core.Option.{some}
 use lib.Dec.{lit≤}
@@ -10,7 +11,7 @@ use borrow.Author.Tests.{le-ltb}
 use Rattle.definition.specs.Assemble.{longestStream, leastWork}
 use Rattle.definition.specs.Basic.{at, sameBytes}
 use Rattle.definition.specs.Syntax.{Bytes, Identifier, Rec}
-use Rattle.definition.specs.Assemble.{resolved, moduleIn, sayRead, assembleBy, assemble, outputAfter, outcome, callBy, call}
+use Rattle.definition.specs.Assemble.{resolved, moduleIn, sayRead, assembleBy, assemble, outputAfter, outcome, callBy, call, callStrict}
 use Rattle.renaming.specs.Shape.{shape, mapRec}
 use Rattle.renaming.specs.Kinds.{Kind, names}
 use Rattle.renaming.specs.Renamed.{Alike, Renamed, SaysTheSame}
@@ -64,51 +65,70 @@ module _ (xs ys : List (Rec Identifier)) (same-shape : shape xs ≡ shape ys) (a
       let e = alike .equal-at-once k (h .0) (w .0) (f p) (f q) (g p) (g q) (in-first p h) (in-first q w) (in-second p h) (in-second q w) in
       both-ways _ _ (λ t. eq-same (g p) (g q) (e .0 (same-eq (f p) (f q) t))) (λ t. eq-same (f p) (f q) (e .1 (same-eq (g p) (g q) t)))
 
-  pub same-items : resolved sameBytes xs ≡ resolved sameBytes ys
-  same-items =
-      ap (resolved sameBytes) (sym back-first)
-      ∙ resolved-same sameBytes (naming [] xs) (naming [] ys) Of equal-at-once zs (record { holds = λ k p m. mem-at m })
-      ∙ ap (resolved sameBytes) back-second
+  pub same-items : (strict : Bool) → resolved strict sameBytes xs ≡ resolved strict sameBytes ys
+  same-items strict =
+      ap (resolved strict sameBytes) (sym back-first)
+      ∙ resolved-same sameBytes (naming [] xs) (naming [] ys) Of equal-at-once strict zs (record { holds = λ k p m. mem-at m })
+      ∙ ap (resolved strict sameBytes) back-second
 
   pub same-length : length xs ≡ length ys
   unfolding shape
   same-length = simp length-map at (ap length same-shape)
 
-  same-module : (room : ℕ) → moduleIn sameBytes room xs ≡ moduleIn sameBytes room ys
+  same-module : (strict : Bool) (room : ℕ) → moduleIn strict sameBytes room xs ≡ moduleIn strict sameBytes room ys
   unfolding moduleIn
-  same-module room = rw (same-items, same-length)
+  same-module strict room = rw (same-items strict, same-length)
 
--- ## Demand 3 on streams, and on calls
+-- ## Demand 3 on streams, and on calls: the plain one and the strict one
+
+module _ (strict : Bool) where
+  demand-3-by : (s t : Bytes) (work room : ℕ) → leastWork ≤ work → Renamed s t
+      → assembleBy (moduleIn strict sameBytes) s work room ≡ assembleBy (moduleIn strict sameBytes) t work room
+  unfolding assembleBy sayRead
+  demand-3-by s t work room enough d =
+      let l = same-length (d .first) (d .second) (d .same-shape) (d .alike) in
+      let m = same-module (d .first) (d .second) (d .same-shape) (d .alike) strict room in
+      rw (le-ltb longestStream (length s) (d .short), le-ltb longestStream (length t) (d .short′), le-ltb work leastWork enough, d .reads, d .reads′, l, m)
+
+  -- a work area that is large enough may be any
+  any-work : (s : Bytes) (work work′ room : ℕ) → leastWork ≤ work → leastWork ≤ work′
+      → assembleBy (moduleIn strict sameBytes) s work room ≡ assembleBy (moduleIn strict sameBytes) s work′ room
+  unfolding assembleBy
+  any-work s work work′ room h h′ = rw (le-ltb work leastWork h, le-ltb work′ leastWork h′)
+
+  pub same-said : (s t : Bytes) (work work′ room room′ : ℕ) → leastWork ≤ work → leastWork ≤ work′ → room ≡ room′ → Renamed s t
+      → assembleBy (moduleIn strict sameBytes) s work room ≡ assembleBy (moduleIn strict sameBytes) t work′ room′
+  same-said s t work work′ room room′ h h′ e d = rw e (any-work s work work′ room′ h h′ ∙ demand-3-by s t work′ room′ h′ d)
+
+  pub demand-3-callBy : (s t : Bytes) (work work′ : List ℕ) (output output′ : Bytes)
+      → leastWork ≤ length work → leastWork ≤ length work′ → length output ≡ length output′ → Renamed s t
+      → SaysTheSame (callBy (moduleIn strict sameBytes) s work output) (callBy (moduleIn strict sameBytes) t work′ output′)
+  unfolding callBy outcome outputAfter
+  demand-3-callBy s t work work′ output output′ h h′ e d =
+      let a = same-said s t (length work) (length work′) (length output) (length output′) h h′ e d in
+      record {
+        number = ap (λ x. x .number) a;
+        rec = ap (λ x. x .rec) a;
+        first = ap (λ x. x .first) a;
+        written = ap (λ x. length (x .bytes)) a;
+        bytes = take-append-seam _ _ ∙ ap (λ x. x .bytes) a ∙ sym (take-append-seam _ _);
+      }
 
 pub demand-3 : (s t : Bytes) (work room : ℕ) → leastWork ≤ work → Renamed s t → assemble s work room ≡ assemble t work room
-unfolding assemble assembleBy sayRead
-demand-3 s t work room enough d =
-    let l = same-length (d .first) (d .second) (d .same-shape) (d .alike) in
-    let m = same-module (d .first) (d .second) (d .same-shape) (d .alike) room in
-    rw (le-ltb longestStream (length s) (d .short), le-ltb longestStream (length t) (d .short′), le-ltb work leastWork enough, d .reads, d .reads′, l, m)
-
--- a work area that is large enough may be any
-any-work : (s : Bytes) (work work′ room : ℕ) → leastWork ≤ work → leastWork ≤ work′ → assemble s work room ≡ assemble s work′ room
-unfolding assemble assembleBy
-any-work s work work′ room h h′ = rw (le-ltb work leastWork h, le-ltb work′ leastWork h′)
-
-pub same-said : (s t : Bytes) (work work′ room room′ : ℕ) → leastWork ≤ work → leastWork ≤ work′ → room ≡ room′ → Renamed s t
-    → assemble s work room ≡ assemble t work′ room′
-same-said s t work work′ room room′ h h′ e d = rw e (any-work s work work′ room′ h h′ ∙ demand-3 s t work′ room′ h′ d)
+unfolding assemble
+demand-3 = demand-3-by false
 
 pub demand-3-call : (s t : Bytes) (work work′ : List ℕ) (output output′ : Bytes)
     → leastWork ≤ length work → leastWork ≤ length work′ → length output ≡ length output′ → Renamed s t
     → SaysTheSame (call s work output) (call t work′ output′)
-unfolding call callBy assemble outcome outputAfter
-demand-3-call s t work work′ output output′ h h′ e d =
-    let a = same-said s t (length work) (length work′) (length output) (length output′) h h′ e d in
-    record {
-      number = ap (λ x. x .number) a;
-      rec = ap (λ x. x .rec) a;
-      first = ap (λ x. x .first) a;
-      written = ap (λ x. length (x .bytes)) a;
-      bytes = take-append-seam _ _ ∙ ap (λ x. x .bytes) a ∙ sym (take-append-seam _ _);
-    }
+unfolding call
+demand-3-call = demand-3-callBy false
+
+pub demand-3-strict : (s t : Bytes) (work work′ : List ℕ) (output output′ : Bytes)
+    → leastWork ≤ length work → leastWork ≤ length work′ → length output ≡ length output′ → Renamed s t
+    → SaysTheSame (callStrict s work output) (callStrict t work′ output′)
+unfolding callStrict
+demand-3-strict = demand-3-callBy true
 
 -- two streams of the examples
 pub same-answer : assemble first leastWork 65536 ≡ assemble second leastWork 65536

@@ -42,8 +42,8 @@ unfolding
     Deinline.sourceFields Deinline.fieldsOf Deinline.bodyOf Deinline.deinlineFrom Deinline.deinline Deinline.importsFrom Deinline.importOrder
     Types.signature Types.sameType Types.typeAt Types.typeNumber Types.isInline Types.isShort Types.useOf Types.instrUses Types.bodyUses
     Types.externUses Types.ownUses Types.fieldUses Types.uses Types.declaredBy Types.declared Types.intern Types.allTypes
-    Names.find Names.taken Names.distinct Names.space Names.definers Names.holder Names.itemOf Names.register Names.numberIn Names.isAbsent Names.paramNames Names.localsOf
-    Names.blocksAfter Names.itemNo Names.checked Names.typeNoOf Names.typeNo Names.blockType Names.localNo Names.depthOf Names.immediate
+    Names.find Names.taken Names.distinct Names.space Names.definers Names.holder Names.itemOf Names.register Names.below Names.numberIn Names.isAbsent Names.paramNames Names.localsOf
+    Names.blocksAfter Names.countIn Names.itemNo Names.checked Names.typeNoOf Names.typeNo Names.blockType Names.localNo Names.depthOf Names.immediate
     Names.plainOp Names.closes Names.instrOp Names.body Names.distinctLocals Names.ownItem Names.externNo Names.resolve Names.resolveAll
     Binary.unsigned Binary.u Binary.vec Binary.sized Binary.byte Binary.funcType Binary.externType Binary.blockType Binary.imm Binary.instruction
     Binary.expr Binary.runs Binary.func-code Binary.entries Binary.inSection Binary.joined Binary.content Binary.section Binary.preamble

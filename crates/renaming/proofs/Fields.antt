@@ -5,7 +5,7 @@ use mathlib.Core.Bool.{Bool, true, false}
 use mathlib.Core.List.{List, [], _∷_, _++_, map, map-append, append-assoc}
 use mathlib.Core.Option.{Option, none, some}
 use Rattle.definition.specs.Basic.{concatMap}
-use Rattle.definition.specs.Syntax.{Bytes, Space, number, Instr, Source, own, imported, tableOf, memOf}
+use Rattle.definition.specs.Syntax.{Bytes, Space, ownIndex, Instr, Source, own, imported, tableOf, memOf}
 use Rattle.definition.specs.Syntax.{FieldRec, typeR, importR, itemR, exportR, startR, elemR, dataR, Rec, field, instr, bodyEnd, Field, exportF}
 use Rattle.definition.specs.Spaces.{ownSpace, sourceSpace, brings, count}
 use Rattle.definition.specs.Deinline.{zeroOffset, sourceFields, fieldsOf, bodyOf, Numbered, deinlineFrom}
@@ -39,7 +39,7 @@ module _ {P : Type 0} {M : Kind → P → Type 0} (r : ℕ) where
   of-body q (instr x ∷ rs) h = let w = of-body (q + 1) rs (search parts) in search (wholes, parts)
   of-body q (bodyEnd ∷ rs) h = nothing-said
 
-  of-exports : (k : Space) (n : ℕ) (es : List Bytes) → Every M (numberedNames (at-record r (map (λ e. exportF e k (number n)) es)))
+  of-exports : (k : Space) (n : ℕ) (es : List Bytes) → Every M (numberedNames (at-record r (map (λ e. exportF e k (ownIndex n)) es)))
   unfolding numberedNames itemOf usedNames indexNames
   of-exports k n [] = nothing-said
   of-exports k n (e ∷ es) = of-exports k n es

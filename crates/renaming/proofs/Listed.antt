@@ -5,7 +5,7 @@ use mathlib.Core.List.{List, [], _∷_, map, map-append}
 use mathlib.Core.Option.{Option, none, some}
 use Rattle.definition.specs.Basic.{concatMap}
 use Rattle.definition.specs.Syntax.{Space, funcs, tables, mems, types, ExternType, func, table, mem, global, Mode, passive, active}
-use Rattle.definition.specs.Syntax.{Index, absent, number, named, Local, TypeUse, Own, ownFunc, ownTable, ownMem, ownGlobal}
+use Rattle.definition.specs.Syntax.{Index, absent, number, named, ownIndex, Local, TypeUse, Own, ownFunc, ownTable, ownMem, ownGlobal}
 use Rattle.definition.specs.Syntax.{Operand, nothing, label, labels, local, item, access, int32, int64, raw, Plain, Instr, opens, elses, ends, indirect, plain}
 use Rattle.definition.specs.Syntax.{Source, own, imported, tableOf, memOf, FieldRec, typeR, importR, itemR, exportR, startR, elemR, dataR, Rec, field, instr, bodyEnd}
 use Rattle.renaming.specs.Shape.{mapId, mapIndex, mapLocal, mapTypeUse, mapOperand, mapInstr, mapExtern, mapOwn, mapSource, mapMode, mapFieldRec, mapRec}
@@ -26,6 +26,7 @@ module _ {I J : Type 0} (f : I → J) where
   indexNames-map k absent = refl
   indexNames-map k (number n) = refl
   indexNames-map k (named i) = refl
+  indexNames-map k (ownIndex n) = refl
 
   indicesNames-map : (k : Kind) (xs : List (Index I)) → indicesNames k (map (mapIndex f) xs) ≡ mapNames (indicesNames k xs)
   unfolding indicesNames concatMap

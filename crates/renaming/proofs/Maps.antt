@@ -6,7 +6,7 @@ use mathlib.Core.List.{List, [], _∷_, _++_, map, map-append, map-map, tail}
 use mathlib.Core.Option.{Option, none, some}
 use lib.ListN.{length-map, replicate}
 use Rattle.definition.specs.Basic.{if_then_else_, at}
-use Rattle.definition.specs.Syntax.{Bytes, Space, sameSpace, FuncType, ExternType, func, table, mem, global, TypeNo, Index, absent, number, named, Local, TypeUse}
+use Rattle.definition.specs.Syntax.{Bytes, Space, sameSpace, FuncType, ExternType, func, table, mem, global, TypeNo, Index, absent, number, ownIndex, named, Local, TypeUse}
 use Rattle.definition.specs.Syntax.{Instr, opens, elses, ends, indirect, plain, Own, ownFunc, ownTable, ownMem, ownGlobal, Source, own, imported, tableOf, memOf}
 use Rattle.definition.specs.Syntax.{FieldRec, typeR, importR, itemR, exportR, startR, elemR, dataR, Rec, field, instr, bodyEnd}
 use Rattle.definition.specs.Syntax.{Field, typeF, importF, ownF, exportF, startF, elemF, dataF}
@@ -70,11 +70,13 @@ module _ {I J : Type 0} (f : I → J) where
   isAbsent-map absent = refl
   isAbsent-map (number n) = refl
   isAbsent-map (named i) = refl
+  isAbsent-map (ownIndex n) = refl
 
   unlessIndexed-map : (s : FuncType) (x : Index I) → unlessIndexed s (mapIndex f x) ≡ unlessIndexed s x
   unlessIndexed-map s absent = refl
   unlessIndexed-map s (number n) = refl
   unlessIndexed-map s (named i) = refl
+  unlessIndexed-map s (ownIndex n) = refl
 
   useOf-map : (t : TypeUse I) → useOf (mapTypeUse f t) ≡ useOf t
   unfolding useOf
@@ -268,7 +270,7 @@ module _ {I J : Type 0} (f : I → J) where
   sourceFields-map i n (tableOf w xs) b = rw (zeroOffset-map w, length-map)
   sourceFields-map i n (memOf w d) b = rw (zeroOffset-map w)
 
-  exports-map : (k : Space) (n : ℕ) (es : List Bytes) → map (λ e. exportF e k (number n)) es ≡ map mapField (map (λ e. exportF e k (number n)) es)
+  exports-map : (k : Space) (n : ℕ) (es : List Bytes) → map (λ e. exportF e k (ownIndex n)) es ≡ map mapField (map (λ e. exportF e k (ownIndex n)) es)
   exports-map k n es = simp map-map
 
   fieldsOf-map : (next : Space → ℕ) (x : FieldRec I) (b : List (Instr I))

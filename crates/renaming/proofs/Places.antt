@@ -6,7 +6,7 @@ use mathlib.Core.List.{List, [], _∷_, _++_, map, append-assoc, append-nil}
 use mathlib.Core.Option.{Option, none, some}
 use lib.ListN.{getD}
 use native.Mathlib.Nat.{add-zero, zero-add, add-suc, suc-add}
-use Rattle.definition.specs.Syntax.{ExternType, func, table, mem, global, Mode, passive, active, Index, absent, number, named, Local, TypeUse}
+use Rattle.definition.specs.Syntax.{ExternType, func, table, mem, global, Mode, passive, active, Index, absent, number, named, ownIndex, Local, TypeUse}
 use Rattle.definition.specs.Syntax.{Operand, nothing, label, labels, local, item, access, int32, int64, raw, Plain, Instr, opens, elses, ends, indirect, plain}
 use Rattle.definition.specs.Syntax.{Own, ownFunc, ownTable, ownMem, ownGlobal, Source, own, imported, tableOf, memOf}
 use Rattle.definition.specs.Syntax.{FieldRec, typeR, importR, itemR, exportR, startR, elemR, dataR, Rec, field, instr, bodyEnd}
@@ -43,6 +43,7 @@ abbrev numberIndex : Index U → Count (Index ℕ)
 numberIndex absent = zero-of absent
 numberIndex (number n) = zero-of (number n)
 numberIndex (named i) = λ n. (named n, suc n)
+numberIndex (ownIndex n) = zero-of (ownIndex n)
 
 abbrev numberLocal : Local U → Count (Local ℕ)
 numberLocal l = one-of (λ i. record { id = i; type = l .type }) (numberId (l .id))
@@ -156,6 +157,7 @@ module _ {I : Type 0} where
   back-index absent = back-zero (λ f. refl)
   back-index (number n) = back-zero (λ f. refl)
   back-index (named i) = record { ids = i ∷ []; back = λ f n js h. (ap named (h .0), h .1) }
+  back-index (ownIndex n) = back-zero (λ f. refl)
 
   back-list : {X Y Z : Type 0} (p : Y → Count Z) (m : X → Y) {put : (ℕ → I) → Z → X}
       → ((x : X) → Back (p (m x)) put x) → (xs : List X) → Back (list-of p (map m xs)) (λ f. map (put f)) xs

@@ -5,14 +5,14 @@ use Prim.Native.Nat.{ℕ, zero, suc, _+_}
 use mathlib.Core.Bool.{Bool, true, false, _&&_, not}
 use mathlib.Core.List.{List, [], _∷_, _++_, map, map-append}
 use mathlib.Core.Option.{Option, none, some}
-use lib.ListN.{replicate}
+use lib.ListN.{replicate, length, length-map}
 use Rattle.definition.specs.Basic.{if_then_else_, Answer, _>>=_, each, firstAt, isSome, at, concatMap}
 use Rattle.definition.specs.Syntax.{Space, funcs, tables, mems, types, FuncType, ExternType, func, table, mem, global, Mode, passive, active}
-use Rattle.definition.specs.Syntax.{Index, absent, number, named, Local, TypeUse, TypeNo, Own, ownFunc, ownTable, ownMem, ownGlobal}
+use Rattle.definition.specs.Syntax.{Index, absent, number, named, ownIndex, Local, TypeUse, TypeNo, Own, ownFunc, ownTable, ownMem, ownGlobal}
 use Rattle.definition.specs.Syntax.{Operand, nothing, label, labels, local, item, access, int32, int64, raw, Plain, Instr, opens, elses, ends, indirect, plain}
 use Rattle.definition.specs.Syntax.{Field, typeF, importF, ownF, exportF, startF, elemF, dataF}
 use Rattle.definition.specs.Types.{isInline, signature}
-use Rattle.definition.specs.Names.{Namespace, Items, Scope, carries, find, taken, distinct, space, definers, definedAt, holder, foundAt, numberIn, paramCount, paramNames, localsOf, blocksAfter}
+use Rattle.definition.specs.Names.{Namespace, Items, Scope, carries, find, taken, distinct, space, definers, definedAt, holder, foundAt, numberIn, countIn, paramCount, paramNames, localsOf, blocksAfter}
 use Rattle.definition.specs.Names.{itemNo, checked, typeNoOf, typeNo, blockType, localNo, depthOf, immediate, plainOp, constOp, closes, instrOp, body}
 use Rattle.definition.specs.Names.{distinctLocals, ownItem, externNo, tableNo, modeOf, resolve}
 use Rattle.renaming.specs.Shape.{mapId, mapIndex, mapTypeUse, mapOperand, mapPlain, mapInstr, mapExtern, mapOwn, mapMode}
@@ -88,12 +88,13 @@ module _ {P I : Type 0} (eq : I → I → Bool) (f g : P → I) (M : Kind → P 
   find-same k p [] m h = refl
   find-same k p (x ∷ ns) m h = rw (carries-same k p x m (h .0), find-same k p ns m (h .1))
 
-  numberIn-same : (k : Kind) (ns : Namespace P) (r : ℕ) (x : Index P) → All M k ns → Every M (indexNames k x)
-      → numberIn eq (mapAll f ns) r (mapIndex f x) ≡ numberIn eq (mapAll g ns) r (mapIndex g x)
+  numberIn-same : (strict : Bool) (k : Kind) (ns : Namespace P) (limit r : ℕ) (x : Index P) → All M k ns → Every M (indexNames k x)
+      → numberIn strict eq (mapAll f ns) limit r (mapIndex f x) ≡ numberIn strict eq (mapAll g ns) limit r (mapIndex g x)
   unfolding numberIn indexNames
-  numberIn-same k ns r absent w h = refl
-  numberIn-same k ns r (number n) w h = refl
-  numberIn-same k ns r (named p) w h = ap (foundAt r) (find-same k p ns (only h) w)
+  numberIn-same strict k ns limit r absent w h = refl
+  numberIn-same strict k ns limit r (number n) w h = refl
+  numberIn-same strict k ns limit r (named p) w h = ap (foundAt r) (find-same k p ns (only h) w)
+  numberIn-same strict k ns limit r (ownIndex n) w h = refl
 
   taken-same : (k : Kind) (x : Option P) (ns : Namespace P) → Every M (idNames k x) → All M k ns
       → taken eq (mapId f x) (mapAll f ns) ≡ taken eq (mapId g x) (mapAll g ns)
@@ -125,16 +126,16 @@ module _ {P I : Type 0} (eq : I → I → Bool) (f g : P → I) (M : Kind → P 
 
   -- ## In a module whose items are `xs` and whose types are `ts`
 
-  module _ (xs : Items P) (ts : List FuncType) (well : (k : Space) → All M (inSpace k) (space k xs)) where
+  module _ (strict : Bool) (xs : Items P) (ts : List FuncType) (well : (k : Space) → All M (inSpace k) (space k xs)) where
     abbrev Γ₁ : Scope I
-    Γ₁ = record { eq = eq; names = λ k. space k (mapItems f xs); definers = λ k. definers k (mapItems f xs); allTypes = ts }
+    Γ₁ = record { strict = strict; eq = eq; names = λ k. space k (mapItems f xs); definers = λ k. definers k (mapItems f xs); allTypes = ts }
 
     abbrev Γ₂ : Scope I
-    Γ₂ = record { eq = eq; names = λ k. space k (mapItems g xs); definers = λ k. definers k (mapItems g xs); allTypes = ts }
+    Γ₂ = record { strict = strict; eq = eq; names = λ k. space k (mapItems g xs); definers = λ k. definers k (mapItems g xs); allTypes = ts }
 
     itemNo-same : (k : Space) (r : ℕ) (x : Index P) → Every M (indexNames (inSpace k) x) → itemNo Γ₁ k r (mapIndex f x) ≡ itemNo Γ₂ k r (mapIndex g x)
-    unfolding itemNo
-    itemNo-same k r x h = rw (space-map f k xs, space-map g k xs) (numberIn-same (inSpace k) (space k xs) r x (well k) h)
+    unfolding itemNo countIn
+    itemNo-same k r x h = rw (space-map f k xs, space-map g k xs, length-map (space k xs) (mapId f), length-map (space k xs) (mapId g)) (numberIn-same strict (inSpace k) (space k xs) _ r x (well k) h)
 
     checked-same : (r : ℕ) (t : Bool) (s : FuncType) (n : ℕ) → checked Γ₁ r t s n ≡ checked Γ₂ r t s n
     unfolding checked
@@ -144,8 +145,9 @@ module _ {P I : Type 0} (eq : I → I → Bool) (f g : P → I) (M : Kind → P 
         → typeNoOf Γ₁ r t s (mapIndex f x) ≡ typeNoOf Γ₂ r t s (mapIndex g x)
     unfolding typeNoOf
     typeNoOf-same r t s absent h = refl
-    typeNoOf-same r t s (number n) h = checked-same r t s n
+    typeNoOf-same r t s (number n) h = bind-same (itemNo-same types r (number n) h) (checked-same r t s)
     typeNoOf-same r t s (named p) h = bind-same (itemNo-same types r (named p) h) (checked-same r t s)
+    typeNoOf-same r t s (ownIndex n) h = bind-same (itemNo-same types r (ownIndex n) h) (checked-same r t s)
 
     typeNo-same : (r : ℕ) (t : TypeUse P) → Every M (typeNames t) → typeNo Γ₁ r (mapTypeUse f t) ≡ typeNo Γ₂ r (mapTypeUse g t)
     unfolding typeNo typeNames
@@ -163,12 +165,12 @@ module _ {P I : Type 0} (eq : I → I → Bool) (f g : P → I) (M : Kind → P 
       localNo-same : (r : ℕ) (x : Index P) → Every M (indexNames (localOf q) x)
           → localNo Γ₁ (mapAll f locals) r (mapIndex f x) ≡ localNo Γ₂ (mapAll g locals) r (mapIndex g x)
       unfolding localNo
-      localNo-same r x h = bind-same (numberIn-same (localOf q) locals r x named-locals h) (λ n. refl)
+      localNo-same r x h = rw (length-map locals (mapId f), length-map locals (mapId g)) (bind-same (numberIn-same strict (localOf q) locals (length locals) r x named-locals h) (λ n. refl))
 
       depthOf-same : (blocks : Namespace P) → All M (labelOf q) blocks → (r : ℕ) (x : Index P) → Every M (indexNames (labelOf q) x)
           → depthOf Γ₁ (mapAll f blocks) r (mapIndex f x) ≡ depthOf Γ₂ (mapAll g blocks) r (mapIndex g x)
       unfolding depthOf
-      depthOf-same blocks w r x h = bind-same (numberIn-same (labelOf q) blocks r x w h) (λ n. refl)
+      depthOf-same blocks w r x h = rw (length-map blocks (mapId f), length-map blocks (mapId g)) (bind-same (numberIn-same strict (labelOf q) blocks (length blocks + 1) r x w h) (λ n. refl))
 
       immediate-same : (blocks : Namespace P) → All M (labelOf q) blocks → (r : ℕ) (o : Operand P) → Every M (operandNames q o)
           → immediate Γ₁ (mapAll f locals) (mapAll f blocks) r (mapOperand f o) ≡ immediate Γ₂ (mapAll g locals) (mapAll g blocks) r (mapOperand g o)
@@ -249,9 +251,7 @@ module _ {P I : Type 0} (eq : I → I → Bool) (f g : P → I) (M : Kind → P 
 
     tableNo-same : (r : ℕ) (x : Index P) → Every M (indexNames (inSpace tables) x) → tableNo Γ₁ r (mapIndex f x) ≡ tableNo Γ₂ r (mapIndex g x)
     unfolding tableNo
-    tableNo-same r absent h = refl
-    tableNo-same r (number n) h = refl
-    tableNo-same r (named p) h = bind-same (itemNo-same tables r (named p) h) (λ n. refl)
+    tableNo-same r x h = rw (isAbsent-map f x, isAbsent-map g x) (bind-same (itemNo-same tables r x h) (λ n. refl))
 
     modeOf-same : {X : Type 0} (k : Space) (u v : ℕ → Index I → Answer X)
         → ((r : ℕ) (x : Index P) → Every M (indexNames (inSpace k) x) → u r (mapIndex f x) ≡ v r (mapIndex g x))

@@ -108,27 +108,27 @@ module _ {P I : Type 0} (eq : I → I → Bool) (f g : P → I) (M : Kind → P 
 
   -- ## Resolution, and the whole
 
-  resolveAll-same : (xs : Items P) (ts : List FuncType) → Every M (itemsNames xs) → (fs : Numbered P) → Every M (numberedNames fs)
-      → resolveAll (record { eq = eq; names = λ k. space k (mapItems f xs); definers = λ k. definers k (mapItems f xs); allTypes = ts }) (mapNumbered f fs)
-      ≡ resolveAll (record { eq = eq; names = λ k. space k (mapItems g xs); definers = λ k. definers k (mapItems g xs); allTypes = ts }) (mapNumbered g fs)
+  resolveAll-same : (strict : Bool) (xs : Items P) (ts : List FuncType) → Every M (itemsNames xs) → (fs : Numbered P) → Every M (numberedNames fs)
+      → resolveAll (record { strict = strict; eq = eq; names = λ k. space k (mapItems f xs); definers = λ k. definers k (mapItems f xs); allTypes = ts }) (mapNumbered f fs)
+      ≡ resolveAll (record { strict = strict; eq = eq; names = λ k. space k (mapItems g xs); definers = λ k. definers k (mapItems g xs); allTypes = ts }) (mapNumbered g fs)
   unfolding resolveAll each numberedNames
-  resolveAll-same xs ts w [] h = refl
-  resolveAll-same xs ts w ((r, x) ∷ fs) h =
-      bind-same (resolve-same eq f g M same xs ts (λ k. space-all k xs w) r x (search parts)) λ y.
-      bind-same (resolveAll-same xs ts w fs (search parts)) λ ys. refl
+  resolveAll-same strict xs ts w [] h = refl
+  resolveAll-same strict xs ts w ((r, x) ∷ fs) h =
+      bind-same (resolve-same eq f g M same strict xs ts (λ k. space-all k xs w) r x (search parts)) λ y.
+      bind-same (resolveAll-same strict xs ts w fs (search parts)) λ ys. refl
 
-  items-same : (fs : Numbered P) → Every M (numberedNames fs) → items eq (mapNumbered f fs) ≡ items eq (mapNumbered g fs)
+  items-same : (strict : Bool) (fs : Numbered P) → Every M (numberedNames fs) → items strict eq (mapNumbered f fs) ≡ items strict eq (mapNumbered g fs)
   unfolding items itemsIn importOrder
-  items-same fs h =
-      rw (scope-then eq (mapNumbered f fs) (λ Γ. itemsIn Γ (mapNumbered f fs)), scope-then eq (mapNumbered g fs) (λ Γ. itemsIn Γ (mapNumbered g fs)))
+  items-same strict fs h =
+      rw (scope-then strict eq (mapNumbered f fs) (λ Γ. itemsIn Γ (mapNumbered f fs)), scope-then strict eq (mapNumbered g fs) (λ Γ. itemsIn Γ (mapNumbered g fs)))
       (bind-same (importsFrom-map f false fs ∙ sym (importsFrom-map g false fs)) λ _.
       bind-same (allTypes-map f fs ∙ sym (allTypes-map g fs)) λ ts.
       register-then fs [] nothing-said h _ _ λ xs w.
-      bind-same (resolveAll-same xs ts w fs h) λ is. rw (declared-map f fs, declared-map g fs))
+      bind-same (resolveAll-same strict xs ts w fs h) λ is. rw (declared-map f fs, declared-map g fs))
 
   -- Demand 3 on one list of places with two namings
-  pub resolved-same : (zs : List (Rec P)) → Every M (names zs) → resolved eq (map (mapRec f) zs) ≡ resolved eq (map (mapRec g) zs)
+  pub resolved-same : (strict : Bool) (zs : List (Rec P)) → Every M (names zs) → resolved strict eq (map (mapRec f) zs) ≡ resolved strict eq (map (mapRec g) zs)
   unfolding resolved deinline names
-  resolved-same zs h =
-      let e = items-same (deinlineFrom 0 [] zs) (of-fields 0 0 [] zs h) in
+  resolved-same strict zs h =
+      let e = items-same strict (deinlineFrom 0 [] zs) (of-fields 0 0 [] zs h) in
       rw (deinlineFrom-map f 0 [] zs, deinlineFrom-map g 0 [] zs, e)

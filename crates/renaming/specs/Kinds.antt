@@ -5,7 +5,7 @@ use mathlib.Core.List.{List, [], _∷_, _++_}
 use mathlib.Core.Option.{Option, none, some}
 use Rattle.definition.specs.Basic.{concatMap}
 use Rattle.definition.specs.Syntax.{Space, funcs, tables, mems, types, elems, datas, ExternType, func, table, mem, global, Mode, passive, active}
-use Rattle.definition.specs.Syntax.{Index, absent, number, named, Local, TypeUse, Own, ownFunc, ownTable, ownMem, ownGlobal}
+use Rattle.definition.specs.Syntax.{Index, absent, number, named, ownIndex, Local, TypeUse, Own, ownFunc, ownTable, ownMem, ownGlobal}
 use Rattle.definition.specs.Syntax.{Operand, nothing, label, labels, local, item, access, int32, int64, raw, Plain, Instr, opens, elses, ends, indirect, plain}
 use Rattle.definition.specs.Syntax.{Source, own, imported, tableOf, memOf, FieldRec, typeR, importR, itemR, exportR, startR, elemR, dataR, Rec, field, instr, bodyEnd}
 use Rattle.definition.specs.Spaces.{externSpace, sourceSpace}
@@ -28,6 +28,7 @@ module _ {I : Type 0} where
   indexNames k absent = []
   indexNames k (number n) = []
   indexNames k (named i) = (k, i) ∷ []
+  indexNames k (ownIndex n) = []
 
   unfoldable pub indicesNames : Kind → List (Index I) → Names I
   indicesNames k xs = concatMap (indexNames k) xs

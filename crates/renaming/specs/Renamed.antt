@@ -1,6 +1,7 @@
 -- Demand 3's premise, on two streams: they are free of refusals 1 to 9 and 19 (10 is about the work area) and differ only in identifiers. And
 -- what it says of two calls.
 use Prim.Native.Nat.{ℕ, _≤_}
+use mathlib.Core.Bool.{Bool}
 use mathlib.Core.Path.{_≡_}
 use mathlib.Core.Logic.{_↔_}
 use mathlib.Core.List.{List, [], _++_}
@@ -52,8 +53,8 @@ namesBy fs (ok Γ) = nameSection Γ fs
 namesBy fs (fails q) = []
 
 -- the name section of some records
-unfoldable pub namesOf : List (Rec Identifier) → Bytes
-namesOf rs = namesBy (deinline rs) (scope sameBytes (deinline rs))
+unfoldable pub namesOf : Bool → List (Rec Identifier) → Bytes
+namesOf strict rs = namesBy (deinline rs) (scope strict sameBytes (deinline rs))
 
 -- two calls that write the same bytes before their name sections
 pub record WritesBefore (section section′ : Bytes) (a b : Outcome) : Type 0 where

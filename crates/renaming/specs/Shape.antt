@@ -1,7 +1,7 @@
 -- `mapRec f` puts f of each identifier in its place. The shape of some records says of an identifier only that it is there.
 use mathlib.Core.List.{List, map}
 use mathlib.Core.Option.{Option, none, some}
-use Rattle.definition.specs.Syntax.{ExternType, func, table, mem, global, Mode, passive, active, Index, absent, number, named, Local, TypeUse}
+use Rattle.definition.specs.Syntax.{ExternType, func, table, mem, global, Mode, passive, active, Index, absent, number, named, ownIndex, Local, TypeUse}
 use Rattle.definition.specs.Syntax.{Operand, nothing, label, labels, local, item, access, int32, int64, raw, Plain, Instr, opens, elses, ends, indirect, plain}
 use Rattle.definition.specs.Syntax.{Own, ownFunc, ownTable, ownMem, ownGlobal, Source, own, imported, tableOf, memOf}
 use Rattle.definition.specs.Syntax.{FieldRec, typeR, importR, itemR, exportR, startR, elemR, dataR, Rec, field, instr, bodyEnd}
@@ -15,6 +15,7 @@ module _ {I J : Type 0} (f : I → J) where
   mapIndex absent = absent
   mapIndex (number n) = number n
   mapIndex (named i) = named (f i)
+  mapIndex (ownIndex n) = ownIndex n
 
   abbrev pub mapLocal : Local I → Local J
   mapLocal l = record { id = mapId (l .id); type = l .type }

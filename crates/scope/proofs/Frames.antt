@@ -9,7 +9,7 @@ use Rattle.definition.specs.Syntax.{Identifier, Space, FuncType, code}
 use Rattle.definition.specs.Types.{Uses}
 use Rattle.definition.specs.Names.{Namespace}
 use Rattle.definition.specs.Basic.{sameBytes}
-use Rattle.area.specs.Layout.{LABELS, LOCALS, NAMED, TOTAL, USES}
+use Rattle.area.specs.Layout.{LABELS, LOCALS, NAMED, TOTAL, USES, STRICT}
 use Rattle.syntax.specs.Tokens.{idOf}
 use Rattle.syntax.specs.declared.Part.{Part}
 use Rattle.name_table.specs.Area.{entryWords, labels}
@@ -24,6 +24,8 @@ use Rattle.name_table.proofs.Holders.{definers-low, definers-same}
 use Rattle.name_table.proofs.Tables.{base-low, code-small, words-kept, entry-kept, names-kept}
 use Rattle.scope.specs.Scope.{scopeIn, localsIn, labelsIn}
 use Rattle.scope.specs.declared.Locals.{Locals}
+use Rattle.area.specs.Strict.{strictIn}
+use Rattle.area.proofs.Strict.{strict-kept}
 
 -- ## Words that are kept
 
@@ -52,9 +54,9 @@ module _ (s w w′ : List ℕ) where
   pub scope-kept : Kept LOCALS w w′ → scopeIn s w′ ≡ scopeIn s w
   unfolding scopeIn
   scope-kept k =
-      rw (types-kept s w w′ LOCALS k (omega arith))
-      (ap (λ (f : Space → Namespace Identifier). record { eq = sameBytes; names = f; definers = λ j. definersOf j w′; allTypes = typesIn s w }) (fun-ext (table-kept s w w′ LOCALS k (omega arith)))
-      ∙ ap (λ (f : Space → List ℕ). record { eq = sameBytes; names = λ j. tableOf j s w; definers = f; allTypes = typesIn s w }) (fun-ext (definers-kept s w w′ LOCALS k (omega arith))))
+      rw (strict-kept k (omega arith), types-kept s w w′ LOCALS k (omega arith))
+      (ap (λ (f : Space → Namespace Identifier). record { strict = strictIn w; eq = sameBytes; names = f; definers = λ j. definersOf j w′; allTypes = typesIn s w }) (fun-ext (table-kept s w w′ LOCALS k (omega arith)))
+      ∙ ap (λ (f : Space → List ℕ). record { strict = strictIn w; eq = sameBytes; names = λ j. tableOf j s w; definers = f; allTypes = typesIn s w }) (fun-ext (definers-kept s w w′ LOCALS k (omega arith))))
 
   pub locals-kept : (l : Locals) → Kept LABELS w w′ → l .count ≤ 128 → localsIn s w′ l ≡ localsIn s w l
   unfolding localsIn

@@ -18,6 +18,8 @@ use Rattle.name_table.specs.Area.{entry, labels, resolved}
 use Rattle.name_table.specs.declared.table.Resolved.{Resolved}
 use Rattle.name_table.specs.declared.table.Resolved.the-variants as R
 use Rattle.scope.specs.Scope.{scopeIn, labelsIn}
+use Rattle.area.specs.Strict.{strictIn}
+use Rattle.name_table.proofs.Walk.{labels-length}
 
 -- the labels lie in the area
 pub label-table : (w : List ℕ) (k : ℕ) → WORDS ≤ length w → k ≤ 128 → LABELS + 3 * k ≤ length w
@@ -28,14 +30,14 @@ label-entry w k h l = omega arith
 
 -- ## Depths
 
-module _ (s w : List ℕ) (k r : ℕ) (x : Index Identifier) (q : Resolved) (told : numberIn sameBytes (labels k s w LABELS) r x ≡ resolved q) where
+module _ (s w : List ℕ) (k r : ℕ) (x : Index Identifier) (q : Resolved) (told : numberIn (strictIn w) sameBytes (labels k s w LABELS) (k + 1) r x ≡ resolved q) where
   pub depth-to : (n : ℕ) → q ≡ R.To n → depthOf (scopeIn s w) (labelsIn s w k) r x ≡ ok (record { depth = n })
   unfolding depthOf scopeIn labelsIn _>>=_
-  depth-to n e = rw (told, e)
+  depth-to n e = rw (labels-length k s w LABELS, told, e)
 
   pub depth-refused : (z : Refusal) → q ≡ R.Refused z → depthOf (scopeIn s w) (labelsIn s w k) r x ≡ refusedBy z
   unfolding depthOf scopeIn labelsIn _>>=_
-  depth-refused z e = rw (told, e)
+  depth-refused z e = rw (labels-length k s w LABELS, told, e)
 
 pub ruleset depths = (depth-to, depth-refused)
 

@@ -35,7 +35,7 @@ use Rattle.name_table.specs.declared.table.Resolved.the-variants as R
 use Rattle.type_table.specs.Table.{typesIn, agreeing, Recalled}
 use Rattle.type_table.specs.declared.table.Agreement.{Agreement}
 use Rattle.type_table.specs.declared.table.Agreement.the-variants as A
-use Rattle.scope.specs.Scope.{scopeIn}
+use Rattle.scope.specs.Scope.{scopeIn, indexedType}
 use Rattle.type_table.specs.Uses.{blockUses}
 use Rattle.scope.specs.Answers.{typeAnswer}
 use Rattle.scope.specs.declared.types.TypeAt.{TypeAt}
@@ -88,22 +88,26 @@ module _ (s w : List ℕ) (r : ℕ) (t : TypeUse) where
   unfolding typeNo Names.typeNoOf scopeIn Types.useOf Recalled signature
   use-absent n d h e = (let g : (r < 4096) × (getD w (USES + r) 0 ≡ Types.typeNumber (signature (useOf s t)) (typesIn s w)) × Unit {0} = rw d at h in rw (d, e, g .1))
 
-  pub use-number : (n : ℕ) (a : Answer Syntax.TypeNo) → t .index ≡ X.Number n → Names.checked (scopeIn s w) r (isInline (useOf s t)) (signature (useOf s t)) n ≡ a
-      → typeNo (scopeIn s w) r (useOf s t) ≡ a
-  unfolding typeNo Names.typeNoOf isInline signature
+  pub use-number : (n : ℕ) (a : Answer Syntax.TypeNo) → t .index ≡ X.Number n → indexedType (scopeIn s w) r (useOf s t) (indexOf s (X.Number n)) ≡ a → typeNo (scopeIn s w) r (useOf s t) ≡ a
+  unfolding typeNo Names.typeNoOf indexedType isInline signature
   use-number n a d h = rw d h
 
-  module _ (p : Part) (d : t .index ≡ X.Named p) (q : Resolved) (told : itemNo (scopeIn s w) types r (indexOf s (X.Named p)) ≡ resolved q) where
-    pub use-named : (n : ℕ) (a : Answer Syntax.TypeNo) → q ≡ R.To n → Names.checked (scopeIn s w) r (isInline (useOf s t)) (signature (useOf s t)) n ≡ a
-        → typeNo (scopeIn s w) r (useOf s t) ≡ a
-    unfolding typeNo Names.typeNoOf _>>=_ isInline signature
-    use-named n a e h = rw (d, told, e) h
+  pub use-named : (p : Part) (a : Answer Syntax.TypeNo) → t .index ≡ X.Named p → indexedType (scopeIn s w) r (useOf s t) (indexOf s (X.Named p)) ≡ a → typeNo (scopeIn s w) r (useOf s t) ≡ a
+  unfolding typeNo Names.typeNoOf indexedType isInline signature
+  use-named p a d h = rw d h
 
-    pub use-refused : (z : Refusal) → q ≡ R.Refused z → typeNo (scopeIn s w) r (useOf s t) ≡ refusedBy z
-    unfolding typeNo Names.typeNoOf _>>=_
-    use-refused z e = rw (d, told, e)
+  module _ (x : Index) (q : Resolved) (told : itemNo (scopeIn s w) types r (indexOf s x) ≡ resolved q) where
+    pub indexed-to : (n : ℕ) (a : Answer Syntax.TypeNo) → q ≡ R.To n → Names.checked (scopeIn s w) r (isInline (useOf s t)) (signature (useOf s t)) n ≡ a → indexedType (scopeIn s w) r (useOf s t) (indexOf s x) ≡ a
+    unfolding indexedType _>>=_
+    indexed-to n a e h = rw (told, e) h
 
-pub ruleset uses = (use-absent, use-number, use-named, use-refused)
+    pub indexed-not : (z : Refusal) → q ≡ R.Refused z → indexedType (scopeIn s w) r (useOf s t) (indexOf s x) ≡ refusedBy z
+    unfolding indexedType _>>=_
+    indexed-not z e = rw (told, e)
+
+pub ruleset uses = (use-absent, use-number, use-named)
+
+pub ruleset indexes = (indexed-to, indexed-not)
 
 -- ## The type of a block
 

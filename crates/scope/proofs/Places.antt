@@ -6,11 +6,11 @@ use mathlib.Core.List.{List, _++_}
 use mathlib.Core.Option.{Option, none, some}
 use mir.Syntax.{w32}
 use mir.Val.{Fits}
-use lib.ListN.{length, replicate}
+use lib.ListN.{length, replicate, length-append, length-replicate}
 use native.Mathlib.Omega.{arith}
-use Rattle.definition.specs.Basic.{if_then_else_, ok, _>>=_, sameBytes, firstAt, later}
-use Rattle.definition.specs.Syntax.{Identifier}
-use Rattle.definition.specs.Names.{Namespace, carries, find, numberIn, localNo}
+use Rattle.definition.specs.Basic.{if_then_else_, ok, _>>=_, sameBytes, firstAt, later, Answer}
+use Rattle.definition.specs.Syntax.{Identifier, LocalNo}
+use Rattle.definition.specs.Names.{Namespace, carries, find, numberIn, localNo, below}
 use Rattle.area.specs.Layout.{LOCALS, WORDS}
 use Rattle.syntax.specs.Refusals.{refusal, refusedBy}
 use Rattle.syntax.specs.Tokens.{partOf, indexOf}
@@ -18,12 +18,15 @@ use Rattle.syntax.specs.declared.Refusal.{Refusal}
 use Rattle.syntax.specs.declared.Part.{Part}
 use Rattle.syntax.specs.declared.Index.{Index}
 use Rattle.syntax.specs.declared.Index.the-variants as X
-use Rattle.name_table.specs.Area.{entry, names, found}
+use Rattle.name_table.specs.Area.{entry, names, found, resolved}
 use Rattle.name_table.specs.declared.table.Found.{Found}
 use Rattle.name_table.specs.declared.table.Found.the-variants as F
-use Rattle.name_table.proofs.Walk.{shifted}
-use Rattle.scope.specs.Scope.{scopeIn, localsIn, FewLocals}
+use Rattle.name_table.proofs.Walk.{shifted, names-length}
+use Rattle.scope.specs.Scope.{scopeIn, localsIn, FewLocals, toldLocal}
 use Rattle.scope.specs.declared.Locals.{Locals}
+use Rattle.area.specs.Strict.{strictIn}
+use Rattle.name_table.specs.declared.table.Resolved.{Resolved}
+use Rattle.name_table.specs.declared.table.Resolved.the-variants as R
 
 -- ## Nameless places carry no name
 
@@ -78,15 +81,22 @@ module _ (s w : List ℕ) (l : Locals) (few : FewLocals l) where
     local-place = record { fits = omega (arith, few .nameless, few .named, entry-low) }
 
 module _ (s w : List ℕ) (l : Locals) (r : ℕ) (x : Index) where
+  -- how many there are
+  limit-is : length (localsIn s w l) ≡ l .nameless + l .count
+  unfolding localsIn
+  limit-is = rw (length-append (replicate (l .nameless) none) (names (l .count) s w LOCALS), length-replicate {A = Option Identifier} (l .nameless) none, names-length (l .count) s w LOCALS)
+
   -- an absent index is 0
-  pub local-absent : x ≡ X.Absent → localNo (scopeIn s w) (localsIn s w l) r (indexOf s x) ≡ ok (record { local-no = 0 })
-  unfolding localNo numberIn _>>=_
-  local-absent d = rw d
+  pub local-absent : (a : Answer LocalNo) → x ≡ X.Absent → toldLocal w l r 0 ≡ a
+      → localNo (scopeIn s w) (localsIn s w l) r (indexOf s x) ≡ a
+  unfolding localNo numberIn scopeIn toldLocal
+  local-absent a d h = rw (limit-is, d) h
 
   -- a number is itself
-  pub local-number : (n : ℕ) → x ≡ X.Number n → localNo (scopeIn s w) (localsIn s w l) r (indexOf s x) ≡ ok (record { local-no = n })
-  unfolding localNo numberIn _>>=_
-  local-number n d = rw d
+  pub local-number : (n : ℕ) (a : Answer LocalNo) → x ≡ X.Number n → toldLocal w l r n ≡ a
+      → localNo (scopeIn s w) (localsIn s w l) r (indexOf s x) ≡ a
+  unfolding localNo numberIn scopeIn toldLocal
+  local-number n a d h = rw (limit-is, d) h
 
   module _ (p : Part) (d : x ≡ X.Named p) (name : List ℕ) (b : name ≡ partOf s p) (q : Found) (told : find sameBytes name (names (l .count) s w LOCALS) ≡ found q) where
     -- a name that is there
@@ -100,3 +110,19 @@ module _ (s w : List ℕ) (l : Locals) (r : ℕ) (x : Index) where
     local-none z e f = rw (d, ← b, find-after (l .nameless) name (names (l .count) s w LOCALS), told, e, f)
 
 pub ruleset locals = (local-absent, local-number, local-found, local-none)
+
+-- a number that was told
+module _ (w : List ℕ) (l : Locals) (r n : ℕ) (q : Resolved) (is : below (strictIn w) (l .nameless + l .count) r n ≡ resolved q) where
+  pub told-to : (m : ℕ) → q ≡ R.To m → toldLocal w l r n ≡ ok (record { local-no = m })
+  unfolding toldLocal _>>=_
+  told-to m e = rw (is, e)
+
+  pub told-not : (z : Refusal) → q ≡ R.Refused z → toldLocal w l r n ≡ refusedBy z
+  unfolding toldLocal _>>=_
+  told-not z e = rw (is, e)
+
+pub ruleset tolds = (told-to, told-not)
+
+-- how many locals there are goes into a word
+pub limit-fits : (l : Locals) → FewLocals l → Fits w32 (l .nameless + l .count)
+limit-fits l few = record { fits = omega (arith, few .nameless, few .named) }

@@ -18,9 +18,10 @@ ghost use Rattle.definition.specs.Token as Token;
 ghost use Rattle.definition.specs.Types as Types;
 ghost use Rattle.definition.specs.Names as Names;
 ghost use Rattle.syntax.specs.Resolved.{blockTypeOf};
+ghost use Rattle.syntax.specs.Tokens.{indexOf};
 ghost use Rattle.syntax.specs.TypeUses.{listOf, useOf};
 ghost use Rattle.type_table.specs.Table.{typesIn, Recalled};
-ghost use Rattle.scope.specs.Scope.{scopeIn};
+ghost use Rattle.scope.specs.Scope.{scopeIn, indexedType};
 ghost use Rattle.type_table.specs.Uses.{blockUses};
 ghost use Rattle.scope.specs.Answers.{typeAnswer, blockAnswer};
 
@@ -45,6 +46,17 @@ fn checked(s: &[u8], work: &[u32], n: u32, t: TypeUse, rec: u32) -> TypeAt
     TypeAt::To(TypeNo(n))
 }
 
+// The number of the type that an index says.
+fn indexed(s: &[u8], work: &[u32], x: Index, t: TypeUse, rec: u32) -> TypeAt
+    requires { ⌜ WORDS ≤ length (now work) ⌝ }
+    ensures { λ r. ⌜ indexedType (scopeIn (now (s .entry)) (now (work .entry))) rec (useOf (now (s .entry)) t) (indexOf (now (s .entry)) x) ≡ typeAnswer r ⌝ }
+{
+    match crate::item::item_no(s, work, Space::Types, x, rec) {
+        Resolved::To(n) => checked(s, work, n, t, rec),
+        Resolved::Refused(r) => TypeAt::Refused(r),
+    }
+}
+
 // The number of the type of a use. Without an index it is the one that interning gave it.
 pub fn type_no(s: &[u8], work: &[u32], t: TypeUse, rec: u32) -> TypeAt
     requires { ⌜ (WORDS ≤ length (now work)) × Recalled (now work) (typesIn (now s) (now work)) (Types.usedAt rec (Types.useOf (useOf (now s) t))) ⌝ }
@@ -53,11 +65,8 @@ pub fn type_no(s: &[u8], work: &[u32], t: TypeUse, rec: u32) -> TypeAt
     let index = t.index;
     match index {
         Index::Absent => TypeAt::To(TypeNo(area::word(work, area::USES + (rec as usize)))),
-        Index::Number(n) => checked(s, work, n, t, rec),
-        Index::Named(p) => match crate::item::item_no(s, work, Space::Types, Index::Named(p), rec) {
-            Resolved::To(n) => checked(s, work, n, t, rec),
-            Resolved::Refused(r) => TypeAt::Refused(r),
-        },
+        Index::Number(n) => indexed(s, work, Index::Number(n), t, rec),
+        Index::Named(p) => indexed(s, work, Index::Named(p), t, rec),
     }
 }
 

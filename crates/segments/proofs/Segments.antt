@@ -10,7 +10,7 @@ use Rattle.definition.specs.Basic.{if_then_else_, Answer, ok, _>>=_, each}
 use Rattle.definition.specs.Syntax as Syntax
 use Rattle.definition.specs.Syntax.{Bytes, Identifier, Op, Mode, passive, active, funcs, tables, mems}
 use Rattle.definition.specs.Deinline.{zeroOffset}
-use Rattle.definition.specs.Names.{Scope, itemNo, constOp, tableNo, resolve}
+use Rattle.definition.specs.Names.{Scope, itemNo, constOp, tableNo, resolve, isAbsent}
 use Rattle.definition.specs.Names as Names
 use Rattle.definition.specs.Binary.{u, vec, sized, expr, elem, data′, entries}
 use Rattle.syntax.specs.Refusals.{refusedBy}
@@ -57,22 +57,26 @@ module _ {A : Type 0} (f g : A → Bytes) (a : Answer A) (old : List ℕ) (at : 
 -- ## The table
 
 module _ (Γ : Scope Identifier) (s : Bytes) (rec : ℕ) (x : Index) where
-  pub table-absent : x ≡ X.Absent → tableNo Γ rec (indexOf s x) ≡ ok none
-  unfolding tableNo
-  table-absent d = rw d
-
-  pub table-number : (n : ℕ) → x ≡ X.Number n → tableNo Γ rec (indexOf s x) ≡ ok (some n)
-  unfolding tableNo
-  table-number n d = rw d
-
-  module _ (p : Part) (y : Resolved) (d : x ≡ X.Named p) (told : itemNo Γ tables rec (indexOf s (X.Named p)) ≡ resolved y) where
-    pub table-named : (n : ℕ) → y ≡ R.To n → tableNo Γ rec (indexOf s x) ≡ ok (some n)
+  module _ (y : Resolved) (told : itemNo Γ tables rec (indexOf s x) ≡ resolved y) where
+    table-is : (n : ℕ) → y ≡ R.To n → tableNo Γ rec (indexOf s x) ≡ ok (if isAbsent (indexOf s x) then none else some n)
     unfolding tableNo _>>=_
-    table-named n e = rw (d, told, e)
+    table-is n e = rw (told, e)
+
+    pub table-absent : (n : ℕ) → y ≡ R.To n → x ≡ X.Absent → tableNo Γ rec (indexOf s x) ≡ ok none
+    unfolding isAbsent
+    table-absent n e d = table-is n e ∙ rw d
+
+    pub table-number : (n m : ℕ) → y ≡ R.To n → x ≡ X.Number m → tableNo Γ rec (indexOf s x) ≡ ok (some n)
+    unfolding isAbsent
+    table-number n m e d = table-is n e ∙ rw d
+
+    pub table-named : (n : ℕ) (p : Part) → y ≡ R.To n → x ≡ X.Named p → tableNo Γ rec (indexOf s x) ≡ ok (some n)
+    unfolding isAbsent
+    table-named n p e d = table-is n e ∙ rw d
 
     pub table-not : (r : Refusal) → y ≡ R.Refused r → tableNo Γ rec (indexOf s x) ≡ refusedBy r
     unfolding tableNo _>>=_
-    table-not r e = rw (d, told, e)
+    table-not r e = rw (told, e)
 
 pub ruleset table-nos = (table-absent, table-number, table-named, table-not)
 
@@ -190,19 +194,19 @@ unfolding atTable constBytes
 put-table n o x y z = put-then (put-then x y) z
 
 module _ (Γ : Scope Identifier) (rec n : ℕ) where
-  zero-mode : (wide : Bool) → Names.modeOf Γ (tableNo Γ) rec (active (Syntax.number n) (zeroOffset wide)) ≡ ok (active (some n) (zeroOp wide))
-  unfolding Names.modeOf tableNo constOp Names.plainOp Names.immediate _>>=_ zeroOffset zeroOp
+  zero-mode : (wide : Bool) → Names.modeOf Γ (tableNo Γ) rec (active (Syntax.ownIndex n) (zeroOffset wide)) ≡ ok (active (some n) (zeroOp wide))
+  unfolding Names.modeOf tableNo constOp Names.plainOp Names.immediate _>>=_ zeroOffset zeroOp itemNo Names.numberIn isAbsent
   zero-mode true = refl
   zero-mode false = refl
 
   pub inline-elem : (wide : Bool) (xs : List (Syntax.Index Identifier)) (old : List ℕ) (at o : ℕ) (mid : List ℕ) (q : Emitted) (new : List ℕ) → Put old at (atTable (some n) (zeroOp wide)) o mid
-      → Emits (vec u) (each (itemNo Γ funcs rec) xs) mid o q new → Emits entryOf (resolve Γ rec (Syntax.elemF none (active (Syntax.number n) (zeroOffset wide)) xs)) old at q new
+      → Emits (vec u) (each (itemNo Γ funcs rec) xs) mid o q new → Emits entryOf (resolve Γ rec (Syntax.elemF none (active (Syntax.ownIndex n) (zeroOffset wide)) xs)) old at q new
   unfolding elemMode
   inline-elem wide xs old at o mid q new p w =
-      let first : Emits elemMode (Names.modeOf Γ (tableNo Γ) rec (active (Syntax.number n) (zeroOffset wide))) old at (E.To o) mid =
-      wrote elemMode (Names.modeOf Γ (tableNo Γ) rec (active (Syntax.number n) (zeroOffset wide))) old at mid (active (some n) (zeroOp wide)) o p (zero-mode wide)
+      let first : Emits elemMode (Names.modeOf Γ (tableNo Γ) rec (active (Syntax.ownIndex n) (zeroOffset wide))) old at (E.To o) mid =
+      wrote elemMode (Names.modeOf Γ (tableNo Γ) rec (active (Syntax.ownIndex n) (zeroOffset wide))) old at mid (active (some n) (zeroOp wide)) o p (zero-mode wide)
       in
-      elem-to Γ rec (active (Syntax.number n) (zeroOffset wide)) old at (E.To o) mid xs first o q new refl w
+      elem-to Γ rec (active (Syntax.ownIndex n) (zeroOffset wide)) old at (E.To o) mid xs first o q new refl w
 
 -- form 0 or form 2
 module _ (m : ℕ) (old : List ℕ) (at r : ℕ) (new : List ℕ) where

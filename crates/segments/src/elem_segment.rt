@@ -12,7 +12,7 @@ ghost use mathlib.Core.Option.{none, some};
 ghost use Prim.Native.Nat.{_≤_};
 ghost use lib.ListN.{length};
 ghost use Rattle.area.specs.Layout.{WORDS};
-ghost use Rattle.definition.specs.Syntax.{active, number, elemF};
+ghost use Rattle.definition.specs.Syntax.{active, ownIndex, elemF};
 ghost use Rattle.definition.specs.Token as Token;
 ghost use Rattle.definition.specs.Deinline as Deinline;
 ghost use Rattle.definition.specs.Names as Names;
@@ -39,13 +39,13 @@ fn table_no(s: &[u8], work: &[u32], x: Index, rec: u32) -> TableAt
     requires { ⌜ WORDS ≤ length (now work) ⌝ }
     ensures { λ r. ⌜ Names.tableNo (scopeIn (now (s .entry)) (now (work .entry))) rec (indexOf (now (s .entry)) x) ≡ tableAt r ⌝ }
 {
-    match x {
-        Index::Absent => TableAt::Absent,
-        Index::Number(n) => TableAt::To(n),
-        Index::Named(p) => match scope::item_no(s, work, Space::Tables, Index::Named(p), rec) {
-            Resolved::To(n) => TableAt::To(n),
-            Resolved::Refused(r) => TableAt::Refused(r),
+    match scope::item_no(s, work, Space::Tables, x, rec) {
+        Resolved::To(n) => match x {
+            Index::Absent => TableAt::Absent,
+            Index::Number(_) => TableAt::To(n),
+            Index::Named(_) => TableAt::To(n),
         },
+        Resolved::Refused(r) => TableAt::Refused(r),
     }
 }
 
@@ -177,7 +177,7 @@ pub fn emit_inline_elem(
     rec: u32,
 ) -> Emitted
     requires { ⌜ WORDS ≤ length (now work) ⌝ }
-    ensures { λ r. ⌜ Emits entryOf (Names.resolve (scopeIn (now (s .entry)) (now (work .entry))) rec (elemF none (active (number n) (Deinline.zeroOffset is64)) (listOf Token.present (now (s .entry)) funcs))) (now (out .entry)) at r (now (out .exit)) ⌝ }
+    ensures { λ r. ⌜ Emits entryOf (Names.resolve (scopeIn (now (s .entry)) (now (work .entry))) rec (elemF none (active (ownIndex n) (Deinline.zeroOffset is64)) (listOf Token.present (now (s .entry)) funcs))) (now (out .entry)) at r (now (out .exit)) ⌝ }
 {
     let a = put_inline_table(out, at, is64, n);
     operands::emit_funcs(s, work, out, a, funcs, rec)

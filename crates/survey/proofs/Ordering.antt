@@ -4,7 +4,7 @@ use mathlib.Core.Path.{_≡_, refl, _∙_}
 use mathlib.Core.Bool.{Bool, true, false}
 use mathlib.Core.List.{List, [], _∷_, _++_, map}
 use Rattle.definition.specs.Basic.{if_then_else_, Answer, ok, refused}
-use Rattle.definition.specs.Syntax.{Bytes, Identifier, Space, Field, exportF, number, Instr}
+use Rattle.definition.specs.Syntax.{Bytes, Identifier, Space, Field, exportF, ownIndex, Instr}
 use Rattle.definition.specs.Token as Token
 use Rattle.definition.specs.Read.{fieldBody}
 use Rattle.definition.specs.Spaces.{sourceSpace}
@@ -34,7 +34,7 @@ step r late x fs = if isLate late x then refused 11 r else importsFrom (lateAfte
 
 -- exports do not count
 exports-none : (r n : ℕ) (k : Space) (late : Bool) (es : List Bytes) (fs : List (Field Identifier)) (gs : Numbered Identifier)
-    → importsFrom late (map (λ x. (r, x)) (map (λ e. exportF e k (number n)) es ++ fs) ++ gs) ≡ importsFrom late (map (λ x. (r, x)) fs ++ gs)
+    → importsFrom late (map (λ x. (r, x)) (map (λ e. exportF e k (ownIndex n)) es ++ fs) ++ gs) ≡ importsFrom late (map (λ x. (r, x)) fs ++ gs)
 unfolding importsFrom
 exports-none r n k late [] fs gs = refl
 exports-none r n k late (e ∷ es) fs gs = exports-none r n k late es fs gs

@@ -10,7 +10,7 @@ use borrow.Author.Tests.{ltb-true}
 use native.Mathlib.Omega.{arith}
 use Rattle.definition.specs.Basic as Basic
 use Rattle.definition.specs.Basic.{Answer, ok, fails, _>>=_, sameBytes}
-use Rattle.definition.specs.Syntax.{Bytes, Identifier, Space, funcs, tables, mems, globals, types, elems, datas, code, Field, exportF, number, Instr}
+use Rattle.definition.specs.Syntax.{Bytes, Identifier, Space, funcs, tables, mems, globals, types, elems, datas, code, Field, exportF, ownIndex, Instr}
 use Rattle.definition.specs.Reader.{got}
 use Rattle.definition.specs.Records.{fieldRec}
 use Rattle.definition.specs.Spaces.{externSpace, ownSpace, sourceSpace, segments, brings}
@@ -63,7 +63,7 @@ partsThen s r xs ((k, p) ∷ ps) fs =
 
 -- exports bring no items
 exports-none : (r n : ℕ) (k : Space) (xs : Items Identifier) (es : List Bytes) (fs : List (Field Identifier)) (gs : Numbered Identifier)
-    → register sameBytes xs (map (λ x. (r, x)) (map (λ e. exportF e k (number n)) es ++ fs) ++ gs) ≡ register sameBytes xs (map (λ x. (r, x)) fs ++ gs)
+    → register sameBytes xs (map (λ x. (r, x)) (map (λ e. exportF e k (ownIndex n)) es ++ fs) ++ gs) ≡ register sameBytes xs (map (λ x. (r, x)) fs ++ gs)
 unfolding register itemOf _>>=_
 exports-none r n k xs [] fs gs = refl
 exports-none r n k xs (e ∷ es) fs gs = exports-none r n k xs es fs gs

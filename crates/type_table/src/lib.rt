@@ -17,3 +17,4 @@ pub use table::agrees;
 pub use table::find_type;
 pub use table::intern_use;
 pub use table::param_count;
+pub use table::total;

@@ -86,7 +86,7 @@ pub fn intern_use(s: &[u8], work: &mut [u32], count: u32, t: TypeUse, rec: u32) 
 }
 
 // How many types there are: 256 at most, whatever the word says.
-fn total(work: &[u32]) -> u32
+pub fn total(work: &[u32]) -> u32
     requires { ⌜ WORDS ≤ length (now work) ⌝ }
     ensures { λ r. ⌜ r ≡ min (getD (now (work .entry)) TOTAL 0) 256 ⌝ }
 {

@@ -18,7 +18,7 @@ use Rattle.definition.specs.Instructions.{begun, bodyRec}
 use Rattle.definition.specs.Records.{fieldRec}
 use Rattle.definition.specs.Spaces.{brings, sourceSpace, segments}
 use Rattle.definition.specs.Read.{fieldBody, sourceBody, ownBody, isStart}
-use Rattle.area.specs.Layout.{MARK, TYPES, endAt}
+use Rattle.area.specs.Layout.{MARK, STRICT, endAt}
 use Rattle.syntax.specs.Items.{roomOf, sourceOf, noneSeen}
 use Rattle.syntax.specs.declared.Seen.{Seen}
 use Rattle.syntax.specs.declared.Own.the-variants as O
@@ -135,12 +135,12 @@ begun-is = refl
 -- ## The two words of a body's end
 
 -- the first two words from a place on
-pub end-words : (w : List ℕ) (n a x : ℕ) (more : List ℕ) → drop (endAt n) (take TYPES w) ≡ a ∷ x ∷ more → (getD w (endAt n) 0 ≡ a) × (getD w (endAt n + 1) 0 ≡ x)
+pub end-words : (w : List ℕ) (n a x : ℕ) (more : List ℕ) → drop (endAt n) (take STRICT w) ≡ a ∷ x ∷ more → (getD w (endAt n) 0 ≡ a) × (getD w (endAt n + 1) 0 ≡ x)
 end-words w n a x more e =
-    let l : 2 ≤ length (drop (endAt n) (take TYPES w)) = rw e (omega arith) in
-    let m : endAt n + 1 < TYPES = omega (arith, length-drop (endAt n) (take TYPES w), length-take TYPES w) in (
-      sym (getD-take TYPES w (endAt n) 0 (omega arith)) ∙ rw add-zero at (sym (getD-drop (endAt n) (take TYPES w) 0 0)) ∙ ap (λ (l : List ℕ). getD l 0 0) e,
-      sym (getD-take TYPES w (endAt n + 1) 0 m) ∙ sym (getD-drop (endAt n) (take TYPES w) 1 0) ∙ ap (λ (l : List ℕ). getD l 1 0) e,
+    let l : 2 ≤ length (drop (endAt n) (take STRICT w)) = rw e (omega arith) in
+    let m : endAt n + 1 < STRICT = omega (arith, length-drop (endAt n) (take STRICT w), length-take STRICT w) in (
+      sym (getD-take STRICT w (endAt n) 0 (omega arith)) ∙ rw add-zero at (sym (getD-drop (endAt n) (take STRICT w) 0 0)) ∙ ap (λ (l : List ℕ). getD l 0 0) e,
+      sym (getD-take STRICT w (endAt n + 1) 0 m) ∙ sym (getD-drop (endAt n) (take STRICT w) 1 0) ∙ ap (λ (l : List ℕ). getD l 1 0) e,
     )
 
 -- the second word's record

@@ -19,7 +19,7 @@ use Rattle.definition.specs.Types.{isShort, instrUses, usedAt, bodyUses}
 use Rattle.definition.specs.Read.{fieldBody}
 use Rattle.definition.specs.Token.{string, param}
 use Rattle.token.specs.Known.{Gets}
-use Rattle.area.specs.Layout.{MARK, TYPES, endAt}
+use Rattle.area.specs.Layout.{MARK, TYPES, endAt, STRICT}
 use Rattle.syntax.specs.Tokens.{idOf}
 use Rattle.syntax.specs.declared.Part.{Part}
 use Rattle.syntax.specs.TypeUses.{listOf, useOf}
@@ -40,6 +40,7 @@ use Rattle.walk.specs.declared.Cursor.{Cursor}
 use Rattle.walk.specs.declared.Met.{Met}
 use Rattle.walk.specs.declared.What.the-variants as W
 use Rattle.walk.proofs.Cursors.{end-words}
+use Rattle.area.proofs.Kept.{kept-less}
 
 -- ## Backwards through a visit
 
@@ -248,7 +249,7 @@ module _ (s : Bytes) (c : Cursor) (r : Met) (told : visitIn (c .left) c s ≡ vi
         go none e o =
             let same : endAt (r .next .own) ≡ endAt (c .own) = omega arith in
             record {
-              ends = record { rest = v .ends .rest; is = ap (λ n. drop n (take TYPES w)) same ∙ v .ends .is ∙ ap (λ z. z ++ v .ends .rest) e };
+              ends = record { rest = v .ends .rest; is = ap (λ n. drop n (take STRICT w)) same ∙ v .ends .is ∙ ap (λ z. z ++ v .ends .rest) e };
               few = omega (arith, o, left-less, at-met .0, v .few);
               sound = sound-parts w v .1;
             }
@@ -257,7 +258,7 @@ module _ (s : Bytes) (c : Cursor) (r : Met) (told : visitIn (c .left) c s ≡ vi
             record {
               ends = record {
                 rest = v .ends .rest;
-                is = ap (λ n. drop n (take TYPES w)) two ∙ sym (drop-drop 2 (endAt (c .own)) (take TYPES w)) ∙ ap (drop 2) (v .ends .is ∙ ap (λ z. z ++ v .ends .rest) e);
+                is = ap (λ n. drop n (take STRICT w)) two ∙ sym (drop-drop 2 (endAt (c .own)) (take STRICT w)) ∙ ap (drop 2) (v .ends .is ∙ ap (λ z. z ++ v .ends .rest) e);
               };
               few = omega (arith, o, left-less, at-met .0, v .few);
               sound = sound-parts w v .1;
@@ -270,5 +271,8 @@ visit-readable s r f here is v = subst (ReadableMet s) is v
 -- ## The work area
 
 -- what is written beyond the ends of bodies leaves them
+pub ahead-below : (s : Bytes) (w w′ : List ℕ) (c : Cursor) → Kept STRICT w w′ → Ahead s w c → Ahead s w′ c
+ahead-below s w w′ c k v = let e = k .low in record { ends = record { rest = v .ends .rest; is = rw e (v .ends .is) }; few = v .few; sound = v .sound }
+
 pub ahead-kept : (s : Bytes) (w w′ : List ℕ) (c : Cursor) → Kept TYPES w w′ → Ahead s w c → Ahead s w′ c
-ahead-kept s w w′ c k v = let e = k .low in record { ends = record { rest = v .ends .rest; is = rw e (v .ends .is) }; few = v .few; sound = v .sound }
+ahead-kept s w w′ c k v = ahead-below s w w′ c (kept-less STRICT TYPES (omega arith) k) v

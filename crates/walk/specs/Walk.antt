@@ -15,7 +15,7 @@ use Rattle.definition.specs.Records.{fieldRec}
 use Rattle.definition.specs.Spaces.{brings}
 use Rattle.definition.specs.Read.{fieldBody, isStart}
 use Rattle.definition.specs.Deinline.{Numbered, fieldsOf}
-use Rattle.area.specs.Layout.{MARK, TYPES, endAt}
+use Rattle.area.specs.Layout.{MARK, STRICT, endAt}
 use Rattle.laws.specs.Depths.{deep, depthAfter}
 use Rattle.syntax.specs.Items.{countOf, roomOf, noneSeen}
 use Rattle.syntax.specs.declared.Seen.{Seen}
@@ -172,9 +172,9 @@ pub record Begins (xs ys : List ℕ) : Type 0 where
   pub rest : List ℕ
   pub is : ys ≡ xs ++ rest
 
--- the words from `ENDS` up to `TYPES` of the work area hold the ends that are still ahead, and nothing ahead is a fault
+-- the words from `ENDS` up to `STRICT` of the work area hold the ends that are still ahead, and nothing ahead is a fault
 pub record Ahead (s : Bytes) (w : List ℕ) (c : Cursor) : Type 0 where
-  pub ends : Begins (endsFrom (c .left) c s) (drop (endAt (c .own)) (take TYPES w))
+  pub ends : Begins (endsFrom (c .left) c s) (drop (endAt (c .own)) (take STRICT w))
   pub few : c .own + c .left ≤ 4096
   pub sound : sound (c .left) c s ≡ true
 

@@ -1,4 +1,4 @@
-use Rattle.passes.proofs.Whole.{declared-long, declared-ahead}
+use Rattle.passes.proofs.Whole.{declared-long, declared-ahead, declared-on}
 use borrow.Author.Needs.{needs}
 use Rattle.passes.proofs.declare.Statement.{statement}
 use Rattle.passes.proofs.declare.Tie as tie
@@ -16,7 +16,7 @@ same-length-2 : tie.Need-same-length-2
 same-length-2 c = search needs
 
 returns : tie.Need-returns
-returns c = search needs
+returns c = search declared-on
 
 pub declare-spec : {M : Type 1} → statement M
 declare-spec =

@@ -11,8 +11,8 @@ read-all-requires c κs = search needs
 enum-known-count : tie.Need-enum-known-count
 enum-known-count c = search needs
 
-declare-requires : tie.Need-declare-requires
-declare-requires c κs = (search (reads-short, reads-long), search reads-ahead, search reads-declared)
+with-strictness-requires : tie.Need-with-strictness-requires
+with-strictness-requires c κs = (search (reads-short, reads-long), search reads-ahead, search reads-declared)
 
 enum-known-q : tie.Need-enum-known-q
 enum-known-q c = search needs
@@ -41,7 +41,7 @@ prepare-spec =
     (tie.spec
     read-all-requires
     enum-known-count
-    declare-requires
+    with-strictness-requires
     enum-known-q
     refuse-requires
     same-length

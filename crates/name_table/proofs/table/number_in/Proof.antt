@@ -6,8 +6,14 @@ use Rattle.name_table.proofs.table.number_in.Tie as tie
 enum-told : tie.Need-enum-told
 enum-told c = search needs
 
+below-requires : tie.Need-below-requires
+below-requires c κs = search needs
+
 enum-known-x : tie.Need-enum-known-x
 enum-known-x c = search needs
+
+below-requires-2 : tie.Need-below-requires-2
+below-requires-2 c κs = search needs
 
 enum-known-x-2 : tie.Need-enum-known-x-2
 enum-known-x-2 c = search needs
@@ -21,8 +27,8 @@ find-name-requires c κs = search needs
 enum-known-k : tie.Need-enum-known-k
 enum-known-k c = search needs
 
-cast-t14 : tie.Need-cast-t14
-cast-t14 c = search names-fit
+cast-t13 : tie.Need-cast-t13
+cast-t13 c = search names-fit
 
 enum-told-2 : tie.Need-enum-told-2
 enum-told-2 c = search needs
@@ -47,12 +53,14 @@ number-in-spec =
     tie.close
     (tie.spec
     enum-told
+    below-requires
     enum-known-x
+    below-requires-2
     enum-known-x-2
     bytes-of-requires
     find-name-requires
     enum-known-k
-    cast-t14
+    cast-t13
     enum-told-2
     refusal-at-requires
     returns

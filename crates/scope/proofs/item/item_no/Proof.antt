@@ -9,6 +9,9 @@ table-base-requires c κs = search needs
 name-count-requires : tie.Need-name-count-requires
 name-count-requires c κs = search needs
 
+limit-of-requires : tie.Need-limit-of-requires
+limit-of-requires c κs = search needs
+
 number-in-requires : tie.Need-number-in-requires
 number-in-requires c κs = search (item-table, item-few, needs)
 
@@ -17,4 +20,5 @@ returns c = search item-is
 
 pub item-no-spec : {M : Type 1} → statement M
 item-no-spec =
-    tie.close (tie.spec table-base-requires name-count-requires number-in-requires returns)
+    tie.close
+    (tie.spec table-base-requires name-count-requires limit-of-requires number-in-requires returns)

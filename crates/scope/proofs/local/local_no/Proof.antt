@@ -6,8 +6,14 @@ use Rattle.scope.proofs.local.local_no.Tie as tie
 enum-told : tie.Need-enum-told
 enum-told c = search needs
 
+told-requires : tie.Need-told-requires
+told-requires c κs = search needs
+
 enum-known-x : tie.Need-enum-known-x
 enum-known-x c = search needs
+
+told-requires-2 : tie.Need-told-requires-2
+told-requires-2 c κs = search needs
 
 enum-known-x-2 : tie.Need-enum-known-x-2
 enum-known-x-2 c = search needs
@@ -24,11 +30,11 @@ find-name-requires c κs = search (local-table, needs)
 enum-known-k : tie.Need-enum-known-k
 enum-known-k c = search needs
 
-cast-t16 : tie.Need-cast-t16
-cast-t16 c = search local-entry
+cast-t14 : tie.Need-cast-t14
+cast-t14 c = search local-entry
 
-add-t17 : tie.Need-add-t17
-add-t17 c = search local-place
+add-t15 : tie.Need-add-t15
+add-t15 c = search local-place
 
 enum-told-2 : tie.Need-enum-told-2
 enum-told-2 c = search needs
@@ -53,14 +59,16 @@ local-no-spec =
     tie.close
     (tie.spec
     enum-told
+    told-requires
     enum-known-x
+    told-requires-2
     enum-known-x-2
     bytes-of-requires
     cast-find-name
     find-name-requires
     enum-known-k
-    cast-t16
-    add-t17
+    cast-t14
+    add-t15
     enum-told-2
     refusal-at-requires
     returns

@@ -3,20 +3,20 @@ use borrow.Author.Needs.{needs}
 use Rattle.segments.proofs.elem_segment.table_no.Statement.{statement}
 use Rattle.segments.proofs.elem_segment.table_no.Tie as tie
 
-enum-told : tie.Need-enum-told
-enum-told c = search needs
-
-enum-known-x : tie.Need-enum-known-x
-enum-known-x c = search needs
-
-enum-known-x-2 : tie.Need-enum-known-x-2
-enum-known-x-2 c = search needs
-
 item-no-requires : tie.Need-item-no-requires
 item-no-requires c κs = search needs
 
 enum-known-n : tie.Need-enum-known-n
 enum-known-n c = search needs
+
+enum-told : tie.Need-enum-told
+enum-told c = search needs
+
+enum-told-2 : tie.Need-enum-told-2
+enum-told-2 c = search needs
+
+enum-told-3 : tie.Need-enum-told-3
+enum-told-3 c = search needs
 
 enum-known-r : tie.Need-enum-known-r
 enum-known-r c = search needs
@@ -37,11 +37,11 @@ pub table-no-spec : {M : Type 1} → statement M
 table-no-spec =
     tie.close
     (tie.spec
-    enum-told
-    enum-known-x
-    enum-known-x-2
     item-no-requires
     enum-known-n
+    enum-told
+    enum-told-2
+    enum-told-3
     enum-known-r
     returns
     returns-2

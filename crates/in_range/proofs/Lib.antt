@@ -1,0 +1,13 @@
+pub mod Accepted
+pub mod Brings
+pub mod Counts
+pub mod Examples
+pub mod FaultNumbers
+pub mod Gives
+pub mod InRange
+pub mod ModuleNumbers
+pub mod RefusalNumbers
+pub mod SortedFields
+pub mod Sorts
+pub mod StrictBodies
+pub mod StrictCalls
