@@ -1,7 +1,7 @@
 #!/usr/bin/env python3
 """Holds the assembler to the crate's own code and to a plain model.
 
-usage: compare.py [--names] [--streams N] [--seed S] [--without-library] [...]
+usage: compare.py [--strict] [--names] [--streams N] [--seed S] [--without-library] [...]
 
 Makes N streams (generate.py), in pieces, and asks three judges of each:
   library   the assembler, through tools/driver
@@ -17,6 +17,11 @@ With --names it is the call that also writes the name section (document 02, §1)
 and the streams are rich in names. There the crate has one known difference
 (docs/DIFFERENCES.md): it must then say, byte for byte, what the model says with
 that difference. Such streams are counted, and one is shown.
+
+With --strict it is the strict call (document 02, §8), with or without --names, and
+the streams are rich in numbers. The crate has no such call: library and model
+are compared, what the model says other than 20 must be what it says of the plain
+call, and that is what the oracle judges.
 """
 import argparse
 import os
@@ -39,8 +44,11 @@ PATIENCE = 60           # seconds for a program's answer to one piece
 SHARES = (('rich', 34), ('faulty', 36), ('damaged', 26), ('edges', 4))
 NAME_SHARES = (('names', 60), ('rich', 14), ('faulty', 10), ('damaged', 10), ('edges', 6))
 
-# The model with the crate's known difference.
+STRICT_SHARES = (('numbers', 60), ('rich', 10), ('faulty', 12), ('damaged', 14), ('edges', 4))
+
+# The model with the crate's known difference; of the plain call, where it is the strict one.
 AS_CRATE = 'as crate'
+PLAIN = 'plain'
 
 # (words, bytes) lent; the first to nearly all pieces.
 LENDINGS = ((16384, 65536),) * 12 + ((16383, 65536), (0, 65536), (16384, 60), (16384, 0), (16384, 200),
@@ -68,37 +76,45 @@ def run(command, streams):
 class Judges:
     """Those who are asked; the model always is."""
 
-    def __init__(self, oracle, driver, names=False):
+    def __init__(self, oracle, driver, names=False, strict=False):
         self.oracle = oracle
         self.driver = driver                    # None without the library
         self.names = names                      # whether it is the call with names
+        self.strict = strict                    # whether it is the strict call
 
     def ask(self, streams, work, room):
         """For each stream the judges' answers, as {judge: line}."""
-        option = ['--names'] if self.names else []
-        told = {'model': [model.line(model.assemble(stream, work, room, self.names)) for stream in streams]}
+        modelled = lambda **call: [model.line(model.assemble(stream, work, room, self.names, **call))
+                                   for stream in streams]
+        named, strictly = ['--names'] * self.names, ['--strict'] * self.strict
+        told = {'model': modelled(strict=self.strict)}
+        if self.strict:
+            told[PLAIN] = modelled()
         if self.oracle and work >= model.WORK:
             if self.names:
-                told[AS_CRATE] = [model.line(model.assemble(stream, work, room, True, True)) for stream in streams]
-            told['oracle'] = run([self.oracle, '--batch', '--room', str(room), *option], streams)
+                told[AS_CRATE] = modelled(as_crate=True)
+            told['oracle'] = run([self.oracle, '--batch', '--room', str(room), *named], streams)
         if self.driver:
-            told['library'] = run([self.driver, '--work', str(work), '--room', str(room), *option], streams)
+            told['library'] = run([self.driver, '--work', str(work), '--room', str(room), *named, *strictly], streams)
         return [dict(zip(told, lines)) for lines in zip(*told.values())]
 
 
 def differ(answers):
     """Whether the judges disagree; 'ours' is the oracle's word for a refusal
-    that the crate does not have. The oracle is held to the model with the known
-    difference, where there is one."""
+    that the crate does not have. The oracle is held to the model of the plain call,
+    with the known difference, where there is one."""
     right = answers['model']
-    of_crate = answers.get(AS_CRATE, right)
+    plain = answers.get(PLAIN, right)
+    of_crate = answers.get(AS_CRATE, plain)
     return (answers.get('library', right) != right
+            or right != plain and not right.startswith('refused 20 at ')
             or answers.get('oracle', of_crate).replace('ours', 'refused') != of_crate)
 
 
 def known(answers):
     """Whether the crate says something else because of the known difference."""
-    return not differ(answers) and answers.get(AS_CRATE, answers['model']) != answers['model']
+    plain = answers.get(PLAIN, answers['model'])
+    return not differ(answers) and answers.get(AS_CRATE, plain) != plain
 
 
 def sort_of(line):
@@ -133,6 +149,7 @@ def show(judges, is_like, stream, work, room):
 def main():
     parser = argparse.ArgumentParser(description=__doc__, formatter_class=argparse.RawDescriptionHelpFormatter)
     parser.add_argument('--names', action='store_true', help='the call that also writes the name section')
+    parser.add_argument('--strict', action='store_true', help='the strict call')
     parser.add_argument('--streams', type=int, default=20000, metavar='N')
     parser.add_argument('--seed', type=int, default=1)
     parser.add_argument('--oracle', default=paths.ORACLE, metavar='PROGRAM')
@@ -142,8 +159,8 @@ def main():
     parser.add_argument('--findings', type=int, default=5, metavar='N', help='disagreements to shrink for each sort')
     options = parser.parse_args()
     judges = Judges(None if options.without_oracle else options.oracle,
-                    None if options.without_library else options.driver, options.names)
-    shares = NAME_SHARES if options.names else SHARES
+                    None if options.without_library else options.driver, options.names, options.strict)
+    shares = STRICT_SHARES if options.strict else NAME_SHARES if options.names else SHARES
     for program in (judges.oracle, judges.driver):
         if program and not os.path.exists(program):
             parser.error('%s is not there; see docs/TESTING.md' % program)

@@ -14,6 +14,9 @@ Sorts:
   names     rich in names: functions, parameters and locals with and without
             identifiers, after imports, and every form of a type use; some
             faulty, with records moved, or at an end of the name section's form
+  numbers   rich in numbers, for the strict call: below, at and above the count of
+            what they point to, in every sort of use; absences where there is an
+            item and where there is none; some with names that nothing has
 
 A stream is known by its sort, seed and number alone. Writes the batch form
 (batch.py), or with --hex a line for each stream.
@@ -27,9 +30,10 @@ from collections import namedtuple
 sys.path.insert(0, os.path.join(os.path.dirname(os.path.abspath(__file__)), '..'))
 import paths
 import batch
+import model
 from reading_model import IDCHARS, OPCODES, groups, record_starts
 
-SORTS = ('rich', 'faulty', 'edges', 'damaged', 'names')
+SORTS = ('rich', 'faulty', 'edges', 'damaged', 'names', 'numbers')
 
 I32, I64, F32, F64, FUNCREF, EXTERNREF = 0x7F, 0x7E, 0x7D, 0x7C, 0x70, 0x6F
 VALUE_TYPES = (I32, I64, F32, F64, FUNCREF, EXTERNREF)
@@ -72,6 +76,7 @@ class Maker:
 
     unnamed = {13: 0.35, 'local': 0.35}
     pool = NAMES
+    local_counts = (0, 0, 1, 2, 4)
     reach = 1                           # how much of `instruction` there is; blocks come first
 
     def __init__(self, chance, faults=None):
@@ -288,7 +293,7 @@ class Maker:
                 self.out.append(b'\1' + self.identifier(name) + self.number(len(parameters)) + parameters
                                 + self.number(len(results)) + results)
             else:
-                WRITERS[what](self, space, name)
+                getattr(self, WRITERS[what])(space, name)
         return b''.join(self.out)
 
     def exports(self):
@@ -357,7 +362,7 @@ class Maker:
         """An own function with its body."""
         names = []
         head = self.head(kind, name, 0) + self.use(names)
-        count = self.pick((0, 0, 1, 2, 4)) if self.random() < 0.99 else self.chance.randint(0, 64)
+        count = self.pick(self.local_counts) if self.random() < 0.99 else self.chance.randint(0, 64)
         parts = [head, self.number(count)]
         last = I32
         for _ in range(count):
@@ -440,9 +445,9 @@ class Maker:
         return bytes([self.pick(WITHOUT_OPERAND)])
 
 
-WRITERS = {'import': Maker.imported, 'func': Maker.func, 'table': Maker.table, 'memory': Maker.memory,
-           'global': Maker.global_item, 'export': Maker.export, 'start': Maker.start, 'elem': Maker.elem,
-           'data': Maker.data_segment}
+# The method that writes a field.
+WRITERS = {'import': 'imported', 'func': 'func', 'table': 'table', 'memory': 'memory', 'global': 'global_item',
+           'export': 'export', 'start': 'start', 'elem': 'elem', 'data': 'data_segment'}
 
 
 class Brancher(Maker):
@@ -844,6 +849,127 @@ def names(chance):
 
 
 # ---------------------------------------------------------------------------
+# Numbers, for the strict call
+
+class Number(int):
+    """A number in an index, with the place of its groups in the stream."""
+
+
+class Placing(model.Parser):
+    """The model's fields, in which each number of an index has its place."""
+
+    def index(self):
+        """As it is read, with its place."""
+        index = super().index()
+        if not isinstance(index, int):
+            return index
+        number = Number(index)
+        number.place = slice(self.at - len(groups(index)), self.at)
+        return number
+
+
+class Counting(model.Assembler):
+    """The model's passes, with what each index of the stream is resolved among."""
+
+    def __init__(self, stream):
+        super().__init__(Placing(stream).whole())
+        self.resolutions = []           # (record, index, count), in order
+        self.of_types = []              # the indices of type uses
+        self.inline = []                # those that stand beside an inline type
+
+    def type_number(self, record, use):
+        """Remembers what sort of index it is."""
+        self.of_types.append(use.index)
+        if use.parameters or use.results:
+            self.inline.append(use.index)
+        return super().type_number(record, use)
+
+    def resolved(self, record, index, names, count):
+        """Remembers the count, and goes on where no such name is."""
+        self.resolutions.append((record, index, count))
+        try:
+            return super().resolved(record, index, names, count)
+        except model.Refused:
+            return 0
+
+    def run(self):
+        """As far as another fault lets it."""
+        try:
+            super().run()
+        except model.Refused:
+            pass
+        return self
+
+
+class Pointer(Maker):
+    """Numbers above all, and mostly something of each sort that they can point
+    to. Nothing else in it keeps an engine from looking at them."""
+
+    unnamed = {13: 0.7, 'local': 0.7}
+    local_counts = (1, 2, 4)
+
+    def planned_fields(self):
+        """One of each sort, seldom without one, and some more."""
+        sorts = ['type', 'func', 'table', 'memory', 'global', 'data']
+        more = ['func', 'func', 'func', 'export', 'export', 'elem']
+        if self.random() < 0.3:
+            sorts.remove(self.pick(sorts + ['memory', 'memory']))
+        own = sorts + self.chance.choices(sorts + more, k=self.pick((1, 3, 6)))
+        if self.random() < 0.4:
+            own.append('start')
+        self.chance.shuffle(own)
+        return ['import'] * self.pick((0, 0, 1, 2, 5)) + own
+
+    def limits(self):
+        """Small ones."""
+        low = self.chance.randrange(20)
+        return self.pick((b'\0' + groups(low), b'\1' + groups(low) + groups(low + self.chance.randrange(20))))
+
+    def table(self, kind, name):
+        """Own or inline, of 32 bits."""
+        if self.random() < 0.5:
+            self.out.append(self.head(kind, name, 0) + bytes([FUNCREF]) + self.limits())
+        else:
+            self.out.append(self.head(kind, name, 2) + b'\0' + self.indices(self.names[FUNC], self.pick((0, 1, 3))))
+
+    def segment(self, first, space, name):
+        """Often passive."""
+        if self.random() < 0.4:
+            return bytes([first]) + self.identifier(name) + b'\0'
+        return super().segment(first, space, name)
+
+
+def pointed(chance, stream, often, types):
+    """The stream with its type numbers, or its others, so often beyond the count
+    of what they point to, and else below it. Those beside an inline type stay, or
+    are beyond."""
+    counting = Counting(stream).run()
+    is_one = lambda index, some: any(index is one for one in some)
+    for _, index, count in reversed(sorted((one for one in counting.resolutions if isinstance(one[1], Number)),
+                                           key=lambda one: one[1].place.start)):
+        if is_one(index, counting.of_types) != types:
+            continue
+        beyond = count + chance.choice((0, 0, 0, 1, 2, 63, 2**14, 2**31)), 2**32 - 1
+        below = count - 1, count - 1, 0, chance.randrange(max(count, 1))
+        if count == 0 or chance.random() < often:
+            number = chance.choice(beyond)
+        elif not is_one(index, counting.inline):
+            number = chance.choice(below)
+        else:
+            continue
+        stream = stream[:index.place.start] + groups(number) + stream[index.place.stop:]
+    return stream
+
+
+def numbers(chance):
+    """Rich in numbers."""
+    faults = {14: chance.choice((0.01, 0.05))} if chance.random() < 0.2 else {}
+    stream = Pointer(chance, faults).stream()
+    types_often, often = (chance.choice((0, 0, 0, 0.02, 0.1, 0.5)) for _ in range(2))
+    return pointed(chance, pointed(chance, stream, types_often, True), often, False)
+
+
+# ---------------------------------------------------------------------------
 
 def damaged(chance):
     """Bytes changed, mostly refused while reading; numbers in too many groups;
@@ -908,7 +1034,7 @@ def moved(chance, stream):
     return b''.join(records)
 
 
-MAKERS = {'rich': rich, 'faulty': faulty, 'edges': edges, 'damaged': damaged, 'names': names}
+MAKERS = {'rich': rich, 'faulty': faulty, 'edges': edges, 'damaged': damaged, 'names': names, 'numbers': numbers}
 
 
 def stream(sort, seed, number):

@@ -1,7 +1,7 @@
 #!/usr/bin/env python3
 """A plain model of the whole of document 01, and of document 02's call with
-names (§1), rule of else (§3), one spelling (§5) and first holder of a name (§6): what
-a call says of a stream.
+names (§1), rule of else (§3), one spelling (§5), first holder of a name (§6) and
+strict call (§8): what a call says of a stream.
 
 It says what the documents and the standard's chapter 5 and appendix (the name
 section) say, in their order, and shares nothing with the definition, the proved
@@ -13,7 +13,8 @@ As a module:   assemble(stream) -> ('ok', module)
                                or ('refused', number, record, first)
 As a program:  reads streams in the batch form (batch.py) from standard input and
 prints a line for each, `ok HEX`, `refused N at R` or `refused 13 at R, first at F`.
-With --names each module has its name section.
+With --names each module has its name section, and with --strict it is the strict
+call.
 """
 import sys
 from collections import namedtuple
@@ -319,11 +320,13 @@ def signature(use):
 class Assembler:
     """The passes over the fields of one stream."""
 
-    def __init__(self, fields):
+    def __init__(self, fields, strict=False):
         self.fields = fields
+        self.strict = strict                    # must each number point to something?
         self.types = []                         # signatures, by number
         self.first_of = {}                      # a signature's first number
         self.names = [{} for _ in range(7)]
+        self.counts = [0] * 7                   # items of each space, but for the types
         self.holders = [{} for _ in range(7)]   # the record that defined each name
         self.imported_functions = 0
         self.locals = []                        # of each own function: names to numbers, and is_beyond
@@ -376,7 +379,6 @@ class Assembler:
 
     def register(self):
         """13: names of items, over the whole stream."""
-        counts = [0] * 7
         for record, field in self.fields:
             space = field.kind if type(field) is Import else SPACE_OF.get(type(field))
             if space is None:
@@ -384,22 +386,29 @@ class Assembler:
             if field.identifier is not None:
                 if field.identifier in self.names[space]:
                     raise Refused(13, record, self.holders[space][field.identifier])
-                self.names[space][field.identifier] = counts[space]
+                self.names[space][field.identifier] = self.counts[space]
                 self.holders[space][field.identifier] = record
-            counts[space] += 1
+            self.counts[space] += 1
 
-    def number(self, record, space, index, absent=None):
-        """The number that an index stands for."""
-        if index is None:
-            return absent
-        if isinstance(index, int):
-            return index
-        if index not in self.names[space]:
-            raise Refused(14, record)
-        return self.names[space][index]
+    def resolved(self, record, index, names, count):
+        """The number that an index stands for, among so many; absent means 0.
+        14: no such name. 20, in a strict call alone: no such number."""
+        if isinstance(index, bytes):
+            if index not in names:
+                raise Refused(14, record)
+            return names[index]
+        number = index or 0
+        if self.strict and number >= count:
+            raise Refused(20, record)
+        return number
+
+    def number(self, record, space, index):
+        """An item's number. Added types count too, wherever they are added."""
+        count = len(self.types) if space == TYPE else self.counts[space]
+        return self.resolved(record, index, self.names[space], count)
 
     def type_number(self, record, use):
-        """Index (14), then 15, then 16."""
+        """Index (14 or 20), then 15, then 16; without one the type is interned."""
         if use.index is None:
             return self.first_of[signature(use)]
         number = self.number(record, TYPE, use.index)
@@ -437,9 +446,10 @@ class Assembler:
             sections[2].append(self.imported(record, field))
         elif sort is Func:
             number = self.type_number(record, field.use)
-            names = self.local_names(record, field, number)
+            variables = self.variables(field, number)
+            names = self.local_names(record, variables)
             self.locals.append((names, self.is_beyond(field.use, number)))
-            code = locals_in_runs(field.locals) + Body(self, names).code(field.body) + b'\x0B'
+            code = locals_in_runs(field.locals) + Body(self, names, len(variables)).code(field.body) + b'\x0B'
             sections[3].append(groups(number))
             sections[10].append(sized(code))
         elif sort is Table:
@@ -477,10 +487,11 @@ class Assembler:
         """Form 1 passive, 0 without a table index, 2 with one, 0 included."""
         if field.place is None:
             return b'\x01\x00' + self.functions(record, field.functions)
-        table = self.number(record, TABLE, field.place[0])
-        offset = self.constant(record, field.place[1])
+        index, constant = field.place
+        table = self.number(record, TABLE, index)
+        offset = self.constant(record, constant)
         functions = self.functions(record, field.functions)
-        if table is None:
+        if index is None:
             return b'\x00' + offset + functions
         return b'\x02' + groups(table) + offset + b'\x00' + functions
 
@@ -488,14 +499,15 @@ class Assembler:
         """Form 1 passive, 0 on memory 0, 2 on another."""
         if field.place is None:
             return b'\x01' + sized(field.data)
-        memory = self.number(record, MEMORY, field.place[0], 0)
+        memory = self.number(record, MEMORY, field.place[0])
         offset = self.constant(record, field.place[1])
         form = b'\x00' if memory == 0 else b'\x02' + groups(memory)
         return form + offset + sized(field.data)
 
-    def local_names(self, record, field, number):
-        """Each name's local. With an inline type the parameters bring their
-        identifiers; else the named type's parameters take nameless places."""
+    def variables(self, field, number):
+        """A function's parameters and locals, each by its identifier or None.
+        With an inline type the parameters bring their identifiers; else the named
+        type's parameters take nameless places."""
         use = field.use
         if use.parameters or use.results:
             parameters = [identifier for identifier, _ in use.parameters]
@@ -503,8 +515,12 @@ class Assembler:
             parameters = [None] * len(self.types[number][0])
         else:
             parameters = []
+        return parameters + [identifier for identifier, _ in field.locals]
+
+    def local_names(self, record, variables):
+        """Each name's local; 13 if two have it."""
         names = {}
-        for place, name in enumerate(parameters + [identifier for identifier, _ in field.locals]):
+        for place, name in enumerate(variables):
             if name is not None:
                 if name in names:
                     raise Refused(13, record)
@@ -540,11 +556,13 @@ class Assembler:
 
 
 class Body:
-    """One function's instructions: its locals, and its open blocks' labels."""
+    """One function's instructions: its parameters and locals, by name and how many
+    they are, and its open blocks' labels."""
 
-    def __init__(self, assembler, names):
+    def __init__(self, assembler, names, variables):
         self.assembler = assembler
         self.names = names
+        self.variables = variables
         self.labels = []
 
     def code(self, body):
@@ -553,21 +571,16 @@ class Body:
                         for record, opcode, operands in body)
 
     def depth(self, record, index):
-        """From the innermost block outward, the first that carries the name."""
-        if isinstance(index, int):
-            return groups(index)
+        """From the innermost block outward, the first that carries the name. The
+        body itself is the outermost, and has none."""
+        depths = {}
         for depth, label in enumerate(reversed(self.labels)):
-            if label == index:
-                return groups(depth)
-        raise Refused(14, record)
+            depths.setdefault(label, depth)
+        return groups(self.assembler.resolved(record, index, depths, len(self.labels) + 1))
 
     def local(self, record, index):
         """A local's number."""
-        if isinstance(index, int):
-            return groups(index)
-        if index not in self.names:
-            raise Refused(14, record)
-        return groups(self.names[index])
+        return groups(self.assembler.resolved(record, index, self.names, self.variables))
 
     def block_type(self, record, use):
         """Short, or a type number."""
@@ -599,7 +612,7 @@ class Body:
         if opcode == 0x10 or opcode == 0xD2:
             return groups(number(record, FUNC, given))
         if opcode == 0x11:
-            table = number(record, TABLE, given[0], 0)
+            table = number(record, TABLE, given[0])
             return groups(self.assembler.type_number(record, given[1])) + groups(table)
         if 0x20 <= opcode <= 0x22:
             return self.local(record, given)
@@ -607,12 +620,12 @@ class Body:
             return groups(number(record, GLOBAL, given))
         if 0x28 <= opcode <= 0x3E:
             exponent, offset, index = given
-            memory = number(record, MEMORY, index, 0)
+            memory = number(record, MEMORY, index)
             if memory == 0:
                 return groups(exponent) + groups(offset)
             return groups(exponent + 64) + groups(memory) + groups(offset)
         if opcode == 0x3F or opcode == 0x40:
-            return groups(number(record, MEMORY, given, 0))
+            return groups(number(record, MEMORY, given))
         if opcode == 0x41:
             return signed(given, 32)
         if opcode == 0x42:
@@ -627,12 +640,13 @@ def refused(number, record):
     return 'refused', number, record, record
 
 
-def assemble(stream, work=WORK, room=ROOM, names=False, as_crate=False):
+def assemble(stream, work=WORK, room=ROOM, names=False, as_crate=False, strict=False):
     """What a call says, with this much work area (words) and output (bytes). A
     refusal other than 13 tells its record twice.
     With `names` it is the call that also writes the name section; `as_crate`
     gives it the one known difference of the crate's (docs/DIFFERENCES.md): no
-    locals of a function whose type number is out of range."""
+    locals of a function whose type number is out of range. With `strict` it is
+    the strict call (document 02, §8)."""
     if len(stream) > reading_model.STREAM:
         return refused(1, 0)
     if work < WORK:
@@ -640,7 +654,7 @@ def assemble(stream, work=WORK, room=ROOM, names=False, as_crate=False):
     read = reading_model.read(stream)
     if read[0] == 'refused':
         return refused(*read[1:])
-    assembler = Assembler(Parser(stream).whole())
+    assembler = Assembler(Parser(stream).whole(), strict)
     try:
         assembler.run()
     except Refused as fault:
@@ -660,11 +674,11 @@ def line(answer):
 
 
 def main():
-    names = sys.argv[1:] == ['--names']
-    if sys.argv[1:] and not names:
-        sys.exit('usage: model.py [--names]')
+    options = sys.argv[1:]
+    if not set(options) <= {'--names', '--strict'}:
+        sys.exit('usage: model.py [--strict] [--names]')
     for stream in batch.unpack(sys.stdin.buffer.read()):
-        print(line(assemble(stream, names=names)))
+        print(line(assemble(stream, names='--names' in options, strict='--strict' in options)))
 
 
 if __name__ == '__main__':
