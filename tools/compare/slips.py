@@ -6,7 +6,8 @@ usage: slips.py [--streams N] [--seed S] [--shrink]
 Each slip is one edit of the model's text (model.py or reading_model.py), such
 as an assembler might have it. For each, the streams are gone through until one
 has another answer. A slip that no stream shows is a hole in the generator:
-exit status 1. With --shrink the smallest stream that shows it is printed.
+exit status 1. The slips of the strict call (document 02, §8) are looked for in its
+answers. With --shrink the smallest stream that shows it is printed.
 """
 import argparse
 import os
@@ -20,6 +21,7 @@ import model
 import shrink
 
 SHARES = (('rich', 0.25), ('faulty', 0.4), ('damaged', 0.2), ('edges', 0.15))
+STRICT_SHARES = (('numbers', 0.7), ('rich', 0.1), ('faulty', 0.2))
 ROOMS = (65536, 65536, 65536, 60, 200)
 
 # (what, old text, new text), once in model.py
@@ -202,6 +204,77 @@ for ceiling in CEILINGS:
     for other in (int(value) - 1, int(value) + 1):
         READING.append(('%s %d' % (name.lower().replace('_', ' '), other), '\n' + ceiling, '\n%s = %d' % (name, other)))
 
+# Of the strict call, in model.py.
+COUNT = 'count = len(self.types) if space == TYPE else self.counts[space]'
+NUMBER_20 = 'if self.strict and number >= count:'
+STRICT = [
+    ('at most the count', NUMBER_20, 'if self.strict and number > count:'),
+    ('one below the count refused', NUMBER_20, 'if self.strict and number + 1 >= count:'),
+    ('absent indices unchecked', NUMBER_20, 'if self.strict and index is not None and number >= count:'),
+    ('numbers checked as 31 bits', NUMBER_20, 'if self.strict and number % 2**31 >= count:'),
+    ('numbers checked as a byte', NUMBER_20, 'if self.strict and number % 256 >= count:'),
+    ('names checked alone', NUMBER_20, 'if False:'),
+    ('20 told as 14', 'raise Refused(20, record)', 'raise Refused(14, record)'),
+    ('20 told as 15', 'raise Refused(20, record)', 'raise Refused(15, record)'),
+    ('20 at the record after', 'raise Refused(20, record)', 'raise Refused(20, record + 1)'),
+    ('a label equal to the open blocks refused', 'len(self.labels) + 1)', 'len(self.labels))'),
+    ('a label one beyond', 'len(self.labels) + 1)', 'len(self.labels) + 2)'),
+    ('only named blocks checked', 'len(self.labels) + 1)', 'len(depths) + 1)'),
+    ('locals alone', 'Body(self, names, len(variables))', 'Body(self, names, len(field.locals))'),
+    ('parameters alone', 'Body(self, names, len(variables))',
+     'Body(self, names, len(variables) - len(field.locals))'),
+    ('named locals alone', 'Body(self, names, len(variables))', 'Body(self, names, len(names))'),
+    ('inline parameters alone', 'Body(self, names, len(variables))',
+     'Body(self, names, len(field.use.parameters) + len(field.locals))'),
+    ('declared types alone', COUNT, 'count = self.counts[space]'),
+    ('own items alone', COUNT,
+     COUNT + ' - sum(type(one) is Import and one.kind == space for _, one in self.fields)'),
+    ('imported items alone', COUNT, COUNT.replace(
+        'self.counts[space]', '(sum(type(one) is Import and one.kind == space for _, one in self.fields)\n'
+        '                                                             if space < TYPE else self.counts[space])')),
+    ('named items alone', COUNT, COUNT.replace('self.counts[space]', 'len(self.names[space])')),
+    ('items so far', COUNT, 'count = len(self.types) if space == TYPE else sum(\n'
+     '            at <= record and space == (one.kind if type(one) is Import else SPACE_OF.get(type(one)))\n'
+     '            for at, one in self.fields)'),
+    ('15 before 20', 'number = self.number(record, TYPE, use.index)',
+     'number = (use.index if isinstance(use.index, int) and (use.parameters or use.results)\n'
+     '                  else self.number(record, TYPE, use.index))'),
+    ('an index without an inline type unchecked', 'number = self.number(record, TYPE, use.index)',
+     'number = (use.index if isinstance(use.index, int) and not use.parameters and not use.results\n'
+     '                  else self.number(record, TYPE, use.index))'),
+    ("br_table's default first", "groups(len(given) - 1) + b''.join(",
+     "self.depth(record, given[-1])[:0] + groups(len(given) - 1) + b''.join("),
+    ('the type before the table, strictly', 'table = number(record, TABLE, given[0])',
+     'table = (self.assembler.type_number(record, given[1]), number(record, TABLE, given[0]))[1]'),
+    ('13 of locals before 20 of the type use', 'number = self.type_number(record, field.use)\n            variables',
+     'self.local_names(record, self.variables(field, 0))\n'
+     '            number = self.type_number(record, field.use)\n            variables'),
+]
+# One sort of use unchecked: (what, the call, its index).
+for what, call, index in (
+        ('exports', 'self.number(record, field.kind, field.index)', 'field.index'),
+        ('start', 'self.number(record, FUNC, field.index)', 'field.index'),
+        ('constants', 'self.number(record, GLOBAL if kind == 4 else FUNC, value)', 'value'),
+        ("a segment's functions", 'self.number(record, FUNC, index)', 'index'),
+        ("an element segment's table", 'self.number(record, TABLE, index)', 'index'),
+        ("a data segment's memory", 'self.number(record, MEMORY, field.place[0])', 'field.place[0]'),
+        ('call and ref.func', 'number(record, FUNC, given)', 'given'),
+        ('the table of call_indirect', 'number(record, TABLE, given[0])', 'given[0]'),
+        ('global.get and global.set', 'number(record, GLOBAL, given)', 'given'),
+        ('loads and stores', 'number(record, MEMORY, index)', 'index'),
+        ('memory.size and memory.grow', 'number(record, MEMORY, given)', 'given'),
+        ('labels', 'self.assembler.resolved(record, index, depths, len(self.labels) + 1)', 'index'),
+        ('locals', 'self.assembler.resolved(record, index, self.names, self.variables)', 'index')):
+    STRICT.append((what + ' unchecked', call, '(%s if isinstance(%s, int) else %s)' % (index, index, call)))
+for what, call, index in (
+        ("an element segment's absent table", 'self.number(record, TABLE, index)', 'index'),
+        ("a data segment's absent memory", 'self.number(record, MEMORY, field.place[0])', 'field.place[0]'),
+        ('the absent table of call_indirect', 'number(record, TABLE, given[0])', 'given[0]'),
+        ('the absent memory of loads and stores', 'number(record, MEMORY, index)', 'index'),
+        ('the absent memory of memory.size and memory.grow', 'number(record, MEMORY, given)', 'given')):
+    STRICT.append((what + ' unchecked', call, '(0 if %s is None else %s)' % (index, call)))
+STRICT_SLIPS = [('model.py',) + slip for slip in STRICT]
+
 SLIPS = [('model.py',) + slip for slip in MODEL] + [('reading_model.py',) + slip for slip in READING]
 
 
@@ -238,28 +311,28 @@ def with_slip(file, old, new):
         sys.modules['reading_model'] = right
 
 
-def answer(module, stream, work, room):
+def answer(module, stream, work, room, **call):
     """What the model says, or that it stumbled."""
     try:
-        return module.assemble(stream, work, room)
+        return module.assemble(stream, work, room, **call)
     except Exception as error:          # a slip may also make it stumble
         return 'stumbled', repr(error)
 
 
-def cases(seed, count):
+def cases(seed, count, shares=SHARES, **call):
     """(stream, words, bytes, the right answer), sorts mixed; lent a little
     less than is needed, or just enough, now and then."""
     numbers = dict.fromkeys(generate.SORTS, 0)
     chance = generate.random.Random(seed)
-    names, weights = zip(*SHARES)
+    names, weights = zip(*shares)
     for sort in chance.choices(names, weights, k=count):
         stream = generate.stream(sort, seed, numbers[sort])
         numbers[sort] += 1
         work, room = chance.choice((16384,) * 30 + (16383,)), chance.choice(ROOMS)
-        right = model.assemble(stream, work, room)
+        right = model.assemble(stream, work, room, **call)
         if right[0] == 'ok' and chance.random() < 0.1:
             room = len(right[1]) - chance.randrange(2)
-            right = model.assemble(stream, work, room)
+            right = model.assemble(stream, work, room, **call)
         yield stream, work, room, right
 
 
@@ -269,12 +342,21 @@ def main():
     parser.add_argument('--seed', type=int, default=1)
     parser.add_argument('--shrink', action='store_true')
     options = parser.parse_args()
-    known = list(cases(options.seed, options.streams))
+    unseen = (gone_through(SLIPS, list(cases(options.seed, options.streams)), options)
+              + gone_through(STRICT_SLIPS, list(cases(options.seed, options.streams, STRICT_SHARES, strict=True)),
+                             options, strict=True))
+    print('%d slips, %d not seen in %d streams, seed %d'
+          % (len(SLIPS) + len(STRICT_SLIPS), unseen, options.streams, options.seed))
+    sys.exit(1 if unseen else 0)
+
+
+def gone_through(some, known, options, **call):
+    """A line for each slip; how many the streams do not show."""
     unseen = 0
-    for file, what, old, new in SLIPS:
+    for file, what, old, new in some:
         slipped = with_slip(file, old, new)
         for number, (stream, work, room, right) in enumerate(known, 1):
-            if answer(slipped, stream, work, room) != right:
+            if answer(slipped, stream, work, room, **call) != right:
                 break
         else:
             unseen += 1
@@ -282,12 +364,11 @@ def main():
             continue
         shown = ''
         if options.shrink:
-            wrong = lambda some: [one for one in some
-                                  if answer(slipped, one, work, room) != model.assemble(one, work, room)]
+            wrong = lambda some: [one for one in some if answer(slipped, one, work, room, **call)
+                                  != model.assemble(one, work, room, **call)]
             shown = ': ' + (shrink.smaller(stream, wrong).hex(' ').upper()[:300] or '-')
         print('%6d  %s%s' % (number, what, shown), flush=True)
-    print('%d slips, %d not seen in %d streams, seed %d' % (len(SLIPS), unseen, len(known), options.seed))
-    sys.exit(1 if unseen else 0)
+    return unseen
 
 
 if __name__ == '__main__':

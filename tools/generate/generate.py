@@ -961,9 +961,33 @@ def pointed(chance, stream, often, types):
     return stream
 
 
+def several_indices(chance):
+    """One record with several indices, by a name that is there or not, a number
+    that is there or not, or absent; and some of what they may mean."""
+    there = lambda record: record if chance.random() < 0.8 else b''
+    index = lambda: chance.choice((b'\1' + groups(chance.choice((0, 0, 1, 5))), b'\2\1a', b'\2\1z'))
+    optional = lambda: index() if chance.random() < 0.7 else b'\0'
+    offset = chance.choice((b'\0\0', b'\4' + index(), b'\6' + index()))
+    items = [there(type_record(b'a', b'\x7F')), there(b'\4\1a\0\0\x70\0\1'), there(b'\5\1a\0\0\0\1'),
+             there(b'\6\1a\0\0\x7F\0\0\0'), there(b'\3\1a' + FUNCTION[2:] + b'\xFF')]
+    chance.shuffle(items)
+    field = chance.choice((
+        in_function(b'\2\1a' + use() + b'\x0E\2' + index() + index() + index() + ENDED),
+        in_function(b'\x11' + optional() + use(chance.choice((b'', b'\x7F')), b'', index())),
+        b'\x09\0\1' + optional() + offset + b'\2' + index() + index(),
+        b'\x0A\0\1' + optional() + offset + b'\0',
+        b'\3\0\0\0' + use(b'', b'', index()) + b'\2\1l\x7F\1' + chance.choice((b'l', b'm')) + b'\x7F\x20'
+        + index() + b'\xFF'))
+    at = chance.randint(0, len(items))
+    return b''.join(items[:at]) + field + b''.join(items[at:])
+
+
 def numbers(chance):
     """Rich in numbers."""
-    faults = {14: chance.choice((0.01, 0.05))} if chance.random() < 0.2 else {}
+    if chance.random() < 0.1:
+        return several_indices(chance)
+    sorts = (14, 14, 14, 'local', 16, 17)
+    faults = {chance.choice(sorts): chance.choice((0.02, 0.1, 0.4))} if chance.random() < 0.2 else {}
     stream = Pointer(chance, faults).stream()
     types_often, often = (chance.choice((0, 0, 0, 0.02, 0.1, 0.5)) for _ in range(2))
     return pointed(chance, pointed(chance, stream, types_often, True), often, False)
