@@ -9,7 +9,7 @@
  * several threads at a time, each with buffers of its own. A call takes less
  * than 96 KB of stack.
  *
- * What is promised here are the proved contracts of the two calls in
+ * What is promised here are the proved contracts of the four calls in
  * crates/assembler/src/export.rt, in words. That these declarations have the
  * shape of those functions is not proved.
  */
@@ -62,7 +62,8 @@ enum barrizuppa_number {
     BARRIZUPPA_REFUSED_TYPE = 16,         /* an inline type differs from the type it names */
     BARRIZUPPA_REFUSED_LABEL = 17,        /* the label on else or end is not its block's */
     BARRIZUPPA_REFUSED_ROOM = 18,         /* the output is too short */
-    BARRIZUPPA_REFUSED_PADDING = 19       /* a number is longer than needed */
+    BARRIZUPPA_REFUSED_PADDING = 19,      /* a number is longer than needed */
+    BARRIZUPPA_REFUSED_NOWHERE = 20       /* in a strict call: a number points to nothing */
 };
 
 /*
@@ -76,9 +77,9 @@ enum barrizuppa_number {
  *
  * Returns the number, the same as the answer's first word.
  *
- * Number: 0 where the stream is assembled, else the refusal's number, 1 to 19
- * (enum barrizuppa_number). docs/REFUSALS.md says when each is given, and what
- * to do.
+ * Number: 0 where the stream is assembled, else the refusal's number, 1 to 19,
+ * and in a strict call 20 (enum barrizuppa_number). docs/REFUSALS.md says when each
+ * is given, and what to do.
  *
  * Record: the count of records where the stream is assembled. On a refusal the
  * record, counted from 0, that holds the fault; 0 with 1 and 10; the count of
@@ -120,6 +121,26 @@ uint32_t barrizuppa_assemble_names(const uint8_t *stream, size_t stream_len,
                                    uint32_t *work, size_t work_len,
                                    uint8_t *out, size_t out_len,
                                    uint32_t answer[4]);
+
+/*
+ * The strict calls: the same two, and every number in an index must point to
+ * something that is there. It must lie below the count of its index space, added
+ * types included; a local below the parameters and locals of its function; a label
+ * may at most equal the number of open blocks. An absent index that means 0 is
+ * checked as 0. A number that does not is refused 20, where an identifier that
+ * nothing has is refused 14, so in an inline type use 15 is never given. In every
+ * other answer, a module or another refusal, a strict call and its plain one are
+ * the same.
+ */
+uint32_t barrizuppa_assemble_strict(const uint8_t *stream, size_t stream_len,
+                                    uint32_t *work, size_t work_len,
+                                    uint8_t *out, size_t out_len,
+                                    uint32_t answer[4]);
+
+uint32_t barrizuppa_assemble_strict_names(const uint8_t *stream, size_t stream_len,
+                                          uint32_t *work, size_t work_len,
+                                          uint8_t *out, size_t out_len,
+                                          uint32_t answer[4]);
 
 #ifdef __cplusplus
 }

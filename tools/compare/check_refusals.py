@@ -10,9 +10,9 @@ The document has a heading `## N: ...` for each refusal, and under it lines
 A stream is in hex; `3 × (01 02)` stands for three copies, `empty` for nothing.
 `lent 7 bytes:` or `lent 9 words:` before it says that a call is lent so much
 output or work area: such a line needs the library and is asked of tools/driver,
-built as docs/TESTING.md says. With --smallest the first stream of each heading
-is compared with shorter ones, by tools/models/model.py. Exit status 1 if anything is
-wrong or was not asked.
+built as docs/TESTING.md says. `strict:` says that the strict call is meant. With
+--smallest the first stream of each heading is compared with shorter ones, by
+tools/models/model.py. Exit status 1 if anything is wrong or was not asked.
 """
 import argparse
 import itertools
@@ -29,17 +29,19 @@ import model
 import reading_model
 
 DOCUMENT = os.path.join(paths.ROOT, 'docs', 'REFUSALS.md')
-NUMBERS = range(1, 20)
+NUMBERS = range(1, 21)
 
 TRIED = 3               # bytes: every stream up to this length is tried
 STRUCK = 17             # bytes: up to this length every part is tried
 
 HEADING = re.compile(r'## (\d+): ')
-LINE = re.compile(r'    (?:lent ([\d,]+) (bytes|words): )?(\S.*?)  +(refused (\d+) at \d+(?:, first at \d+)?)  +\S')
+LINE = re.compile(r'    (?:lent ([\d,]+) (bytes|words): )?(strict: )?(\S.*?)'
+                  r'  +(refused (\d+) at \d+(?:, first at \d+)?)  +\S')
 COPIES = re.compile(r'([\d,]+) × \(([^)]*)\)')
 
-# lent: the driver's option and its value, or nothing. answer: the line that the program prints.
-Case = namedtuple('Case', 'number lent stream answer')
+# lent: the driver's option and its value, or nothing. strict: whether it is the strict call. answer: the line that
+# the program prints.
+Case = namedtuple('Case', 'number lent strict stream answer')
 
 
 def amount(text):
@@ -63,29 +65,31 @@ def cases(document):
             number = int(heading.group(1))
         found = LINE.match(row)
         if found:
-            count, what, stream, answer, answered = found.groups()
+            count, what, strict, stream, answer, answered = found.groups()
             if int(answered) != number:
                 sys.exit('check_refusals.py: under %d: %s' % (number, row.strip()))
             lent = ('--room' if what == 'bytes' else '--work', str(amount(count))) if count else ()
-            yield Case(number, lent, bytes_of(stream), answer)
+            yield Case(number, lent, bool(strict), bytes_of(stream), answer)
         elif number and row.startswith('    ') and 'refused' in row:
             sys.exit('check_refusals.py: not understood: ' + row.strip())
 
 
 def said(case, program, driver):
     """What the program or the library says, as a line; None if it cannot be asked."""
+    strictly = ['--strict'] * case.strict
     if not case.lent:
-        out = subprocess.run([program], input=case.stream, stdout=subprocess.PIPE, check=True).stdout
+        out = subprocess.run([program, *strictly], input=case.stream, stdout=subprocess.PIPE, check=True).stdout
         return out.decode(errors='replace').rstrip('\n')
     if not os.path.exists(driver):
         return None
-    asked = subprocess.run([driver, *case.lent], input=batch.pack([case.stream]), stdout=subprocess.PIPE, check=True)
+    asked = subprocess.run([driver, *case.lent, *strictly], input=batch.pack([case.stream]),
+                           stdout=subprocess.PIPE, check=True)
     return asked.stdout.decode().rstrip('\n')
 
 
-def number_of(stream):
+def number_of(stream, strict=False):
     """The refusal that the model gives, 0 for none."""
-    answer = model.assemble(stream)
+    answer = model.assemble(stream, strict=strict)
     return answer[1] if answer[0] == 'refused' else 0
 
 
@@ -116,8 +120,9 @@ def shorter(first):
     smallest = {number: len(case.stream) for number, case in first.items() if not case.lent}
     tried = [short_streams()] + [parts(first[number].stream) for number in smallest if smallest[number] <= STRUCK]
     for stream in itertools.chain(*tried):
-        number = number_of(stream)
-        if len(stream) < smallest.get(number, 0):
+        for number in {number_of(stream), number_of(stream, True)}:
+            if len(stream) >= smallest.get(number, 0):
+                continue
             smallest[number] = len(stream)
             yield '%d: %s is shorter' % (number, stream.hex(' ').upper())
 

@@ -9,7 +9,7 @@ pub const WORK_WORDS: usize = 16_384;
 const FIRST_ROOM: usize = STREAM_BYTES;
 
 mod library {
-    /// Both calls have this shape. include/barrizuppa.h says what they promise;
+    /// All calls have this shape. include/barrizuppa.h says what they promise;
     /// nothing checks these declarations against the proved source.
     pub type Call = unsafe extern "C" fn(
         stream: *const u8,
@@ -21,26 +21,27 @@ mod library {
         answer: *mut [u32; 4],
     ) -> u32;
 
-    extern "C" {
-        pub fn barrizuppa_assemble(
-            stream: *const u8,
-            stream_len: usize,
-            work: *mut u32,
-            work_len: usize,
-            out: *mut u8,
-            out_len: usize,
-            answer: *mut [u32; 4],
-        ) -> u32;
+    macro_rules! calls {
+        ($($name:ident)*) => {
+            extern "C" {$(
+                pub fn $name(
+                    stream: *const u8,
+                    stream_len: usize,
+                    work: *mut u32,
+                    work_len: usize,
+                    out: *mut u8,
+                    out_len: usize,
+                    answer: *mut [u32; 4],
+                ) -> u32;
+            )*}
+        };
+    }
 
-        pub fn barrizuppa_assemble_names(
-            stream: *const u8,
-            stream_len: usize,
-            work: *mut u32,
-            work_len: usize,
-            out: *mut u8,
-            out_len: usize,
-            answer: *mut [u32; 4],
-        ) -> u32;
+    calls! {
+        barrizuppa_assemble
+        barrizuppa_assemble_names
+        barrizuppa_assemble_strict
+        barrizuppa_assemble_strict_names
     }
 }
 
@@ -56,6 +57,25 @@ pub fn assemble(stream: &[u8]) -> Result<Vec<u8>, Refusal> {
 pub fn assemble_names(stream: &[u8]) -> Result<Vec<u8>, Refusal> {
     let mut assembler = Assembler::new();
     let len = assembler.with_room(stream, assemble_names_into)?;
+    Ok(assembler.into_module(len))
+}
+
+/// The same as [`assemble`], and every number must point to something that is
+/// there, else the stream is refused 20: below the count of its index space, added
+/// types included; a local below its function's parameters and locals; a label at
+/// most the number of open blocks. An absent index that means 0 is checked as 0.
+///
+/// What is not refused 20 has the answer of [`assemble`].
+pub fn assemble_strict(stream: &[u8]) -> Result<Vec<u8>, Refusal> {
+    let mut assembler = Assembler::new();
+    let len = assembler.with_room(stream, assemble_strict_into)?;
+    Ok(assembler.into_module(len))
+}
+
+/// The same as [`assemble_strict`], with the name section of [`assemble_names`].
+pub fn assemble_strict_names(stream: &[u8]) -> Result<Vec<u8>, Refusal> {
+    let mut assembler = Assembler::new();
+    let len = assembler.with_room(stream, assemble_strict_names_into)?;
     Ok(assembler.into_module(len))
 }
 
@@ -85,6 +105,18 @@ impl Assembler {
     /// The same as [`assemble_names`].
     pub fn assemble_names(&mut self, stream: &[u8]) -> Result<&[u8], Refusal> {
         let len = self.with_room(stream, assemble_names_into)?;
+        Ok(&self.out[..len])
+    }
+
+    /// The same as [`assemble_strict`].
+    pub fn assemble_strict(&mut self, stream: &[u8]) -> Result<&[u8], Refusal> {
+        let len = self.with_room(stream, assemble_strict_into)?;
+        Ok(&self.out[..len])
+    }
+
+    /// The same as [`assemble_strict_names`].
+    pub fn assemble_strict_names(&mut self, stream: &[u8]) -> Result<&[u8], Refusal> {
+        let len = self.with_room(stream, assemble_strict_names_into)?;
         Ok(&self.out[..len])
     }
 
@@ -133,7 +165,30 @@ pub fn assemble_names_into(
     result(call(library::barrizuppa_assemble_names, stream, work, out))
 }
 
-/// [`assemble_into`] or [`assemble_names_into`].
+/// [`assemble_into`], with every number checked as in [`assemble_strict`].
+pub fn assemble_strict_into(
+    stream: &[u8],
+    work: &mut [u32],
+    out: &mut [u8],
+) -> Result<usize, Refusal> {
+    result(call(library::barrizuppa_assemble_strict, stream, work, out))
+}
+
+/// [`assemble_names_into`], with every number checked as in [`assemble_strict`].
+pub fn assemble_strict_names_into(
+    stream: &[u8],
+    work: &mut [u32],
+    out: &mut [u8],
+) -> Result<usize, Refusal> {
+    result(call(
+        library::barrizuppa_assemble_strict_names,
+        stream,
+        work,
+        out,
+    ))
+}
+
+/// [`assemble_into`] or one of those beside it.
 type AssembleInto = fn(&[u8], &mut [u32], &mut [u8]) -> Result<usize, Refusal>;
 
 /// A call's answer as a length, or as a refusal.
@@ -181,15 +236,24 @@ mod tests {
         let mut work = vec![0; WORK_WORDS];
         let mut out = [0; 64];
         let start_and_memory = b"\x08\x01\0\x05\0\0\0\0\x01";
+        let memory = b"\x05\0\0\0\0\x01";
         let no_such_record = b"\x08\x01\0\x0B";
         let two_types = b"\x08\x01\0\x01\x01a\0\0\x01\x01a\0\0";
-        for assemble in [barrizuppa_assemble as Call, barrizuppa_assemble_names] {
+        let started = (0, [0, 2, 16, 2]);
+        let nowhere = (20, [20, 0, 0, 0]);
+        for (assemble, of_a_start) in [
+            (barrizuppa_assemble as Call, started),
+            (barrizuppa_assemble_names, started),
+            (barrizuppa_assemble_strict, nowhere),
+            (barrizuppa_assemble_strict_names, nowhere),
+        ] {
             let mut answer =
                 |stream: &[u8], room| call(assemble, stream, &mut work, &mut out[..room]);
-            assert_eq!(answer(start_and_memory, 64), (0, [0, 2, 16, 2]));
+            assert_eq!(answer(start_and_memory, 64), of_a_start);
+            assert_eq!(answer(memory, 64), (0, [0, 1, 13, 1]));
             assert_eq!(answer(no_such_record, 64), (4, [4, 1, 0, 1]));
             assert_eq!(answer(two_types, 64), (13, [13, 2, 0, 1]));
-            assert_eq!(answer(start_and_memory, 15), (18, [18, 2, 0, 2]));
+            assert_eq!(answer(memory, 12), (18, [18, 1, 0, 1]));
         }
     }
 

@@ -31,7 +31,8 @@ pub mod stream;
 
 #[cfg(feature = "library")]
 pub use assembler::{
-    assemble, assemble_into, assemble_names, assemble_names_into, Assembler, WORK_WORDS,
+    assemble, assemble_into, assemble_names, assemble_names_into, assemble_strict,
+    assemble_strict_into, assemble_strict_names, assemble_strict_names_into, Assembler, WORK_WORDS,
 };
 pub use refusal::Refusal;
 pub use stream::STREAM_BYTES;

@@ -78,6 +78,7 @@ impl Refusal {
             17 => "the label on an else or end is not that of its block",
             18 => "the output is too short for the module",
             19 => "a number is longer than needed",
+            20 => "in a strict call, a number points to nothing that is there",
             _ => "unknown",
         }
     }

@@ -267,10 +267,10 @@ fn a_refusal_in_words() {
         .to_string()
         .starts_with("refused 13 at 2, first at 1: "));
     // Every number has words of its own.
-    let meanings: std::collections::HashSet<_> = (0..=19)
+    let meanings: std::collections::HashSet<_> = (0..=20)
         .map(|number| Refusal::new(number, 0).meaning())
         .collect();
-    assert_eq!(meanings.len(), 20);
+    assert_eq!(meanings.len(), 21);
 }
 
 #[test]

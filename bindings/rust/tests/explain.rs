@@ -90,6 +90,61 @@ fn a_refusal_by_other_rules() {
 }
 
 #[test]
+fn numbers_that_point_nowhere() {
+    let mut stream = Writer::new();
+    stream.type_("unary", &[I32], &[]);
+    stream.memory(
+        Head::new(),
+        Memory::Data {
+            is64: false,
+            data: b"Delft",
+        },
+    );
+    stream.func(
+        Head::new(),
+        TypeUse::of("unary"),
+        &[("l", I64).into()],
+        |body| {
+            body.local_get(1).local_get(2);
+            body.block(None, TypeUse::new()).br(1).br(2).end(None);
+            body.memory_size(None).memory_grow(Index::Number(0));
+            body.call_indirect(None, TypeUse::of(0));
+            body.call(7);
+        },
+    );
+    stream.data(
+        None,
+        Some(Place {
+            index: Some(1.into()),
+            offset: Const::I32(0),
+        }),
+        b"",
+    );
+    let stream = stream.finish().unwrap();
+    for (record, expected) in [
+        (
+            4,
+            "^ there are 2 parameters and locals of this function, 0 to 1",
+        ),
+        (7, "^ one block is open, 0, and 1 is the function itself"),
+        (11, "^ it means table 0, and there is no table"),
+        (12, "^ there is one function, 0"),
+        (14, "^ there is one memory, 0"),
+    ] {
+        let lines = lines(&stream, 20, record);
+        assert!(
+            lines.iter().any(|line| line.ends_with(expected)),
+            "{expected}: {lines:#?}"
+        );
+    }
+    // Of a record whose numbers all point somewhere nothing is said.
+    for record in [3, 6, 9, 10] {
+        let text = explain(&stream, Refusal::new(20, record)).to_string();
+        assert!(!text.contains("there "), "{text}");
+    }
+}
+
+#[test]
 fn a_label_of_a_block_that_has_ended() {
     let mut stream = Writer::new();
     stream.func(Head::new(), TypeUse::new(), &[], |body| {
@@ -355,11 +410,14 @@ fn a_page() {
 #[cfg(feature = "library")]
 #[test]
 fn the_streams_that_are_refused() {
-    for (stream, refusal) in common::refused() {
+    for (stream, refusal, strict) in common::refused() {
         let mut work = vec![0; barrizuppa::WORK_WORDS];
         let mut out = vec![0; STREAM_BYTES];
-        let answer = barrizuppa::assemble_into(&stream, &mut work, &mut out);
-        assert_eq!(answer, Err(refusal));
+        let assemble = match strict {
+            true => barrizuppa::assemble_strict_into,
+            false => barrizuppa::assemble_into,
+        };
+        assert_eq!(assemble(&stream, &mut work, &mut out), Err(refusal));
         let text = explain(&stream, refusal).to_string();
         let marked = text.contains("^ ");
         assert_eq!(marked, !matches!(refusal.number, 1 | 18), "{text}");

@@ -106,6 +106,7 @@ pub(super) fn find(account: &Account<'_>, refusal: Refusal) -> Finding {
         14 => missing(rows, at, content),
         15 | 16 => differing(rows, content, refusal.number),
         17 => other_label(rows, at, content),
+        20 => nowhere(rows, at, content),
         _ => Finding::default(),
     }
 }
@@ -309,8 +310,11 @@ fn taken(rows: &[Row<'_>], refusal: Refusal, content: &Content<'_>) -> Finding {
     Finding::default()
 }
 
+/// A use of an item, a variable or a label; one without an index means number 0.
+type Use<'a> = (Space, Option<Index<'a>>);
+
 /// What a record refers to, in the order in which it is resolved.
-fn uses<'a>(content: &Content<'a>) -> Vec<(Space, Index<'a>)> {
+fn uses<'a>(content: &Content<'a>) -> Vec<Use<'a>> {
     match content {
         Content::Field(field) => field_uses(field),
         Content::Instruction(instruction) => instruction_uses(instruction),
@@ -318,8 +322,8 @@ fn uses<'a>(content: &Content<'a>) -> Vec<(Space, Index<'a>)> {
     }
 }
 
-fn field_uses<'a>(field: &Field<'a>) -> Vec<(Space, Index<'a>)> {
-    let func = |index: &Index<'a>| (Space::Func, *index);
+fn field_uses<'a>(field: &Field<'a>) -> Vec<Use<'a>> {
+    let func = |index: &Index<'a>| (Space::Func, Some(*index));
     match field {
         Field::Type { .. } => Vec::new(),
         Field::Import { ty, .. } => match ty {
@@ -331,7 +335,7 @@ fn field_uses<'a>(field: &Field<'a>) -> Vec<(Space, Index<'a>)> {
         Field::Table(..) | Field::Memory(..) => Vec::new(),
         Field::Global(_, Global::Own(_, init)) => constant_uses(init),
         Field::Global(..) => Vec::new(),
-        Field::Export { kind, index, .. } => vec![(Space::of(*kind), *index)],
+        Field::Export { kind, index, .. } => vec![(Space::of(*kind), Some(*index))],
         Field::Start(index) => vec![func(index)],
         Field::Elem { place, funcs, .. } => {
             let mut uses = place_uses(Space::Table, place);
@@ -342,59 +346,55 @@ fn field_uses<'a>(field: &Field<'a>) -> Vec<(Space, Index<'a>)> {
     }
 }
 
-fn type_of<'a>(ty: &TypeUse<'a>) -> Vec<(Space, Index<'a>)> {
+/// Without an index the type is found or added.
+fn type_of<'a>(ty: &TypeUse<'a>) -> Vec<Use<'a>> {
     ty.index
-        .map(|index| (Space::Type, index))
+        .map(|index| (Space::Type, Some(index)))
         .into_iter()
         .collect()
 }
 
-fn constant_uses<'a>(constant: &Const<'a>) -> Vec<(Space, Index<'a>)> {
+fn constant_uses<'a>(constant: &Const<'a>) -> Vec<Use<'a>> {
     match constant {
-        Const::GlobalGet(index) => vec![(Space::Global, *index)],
-        Const::RefFunc(index) => vec![(Space::Func, *index)],
+        Const::GlobalGet(index) => vec![(Space::Global, Some(*index))],
+        Const::RefFunc(index) => vec![(Space::Func, Some(*index))],
         _ => Vec::new(),
     }
 }
 
-fn place_uses<'a>(space: Space, place: &Option<Place<'a>>) -> Vec<(Space, Index<'a>)> {
+fn place_uses<'a>(space: Space, place: &Option<Place<'a>>) -> Vec<Use<'a>> {
     let Some(place) = place else {
         return Vec::new();
     };
-    let mut uses: Vec<_> = place
-        .index
-        .map(|index| (space, index))
-        .into_iter()
-        .collect();
+    let mut uses = vec![(space, place.index)];
     uses.extend(constant_uses(&place.offset));
     uses
 }
 
-fn instruction_uses<'a>(instruction: &Instruction<'a>) -> Vec<(Space, Index<'a>)> {
-    let optional = |space, index: &Option<Index<'a>>| index.map(|index| (space, index));
+fn instruction_uses<'a>(instruction: &Instruction<'a>) -> Vec<Use<'a>> {
     match instruction {
         Instruction::Open(_, _, ty) => type_of(ty),
-        Instruction::Br(index) | Instruction::BrIf(index) => vec![(Space::Label, *index)],
+        Instruction::Br(index) | Instruction::BrIf(index) => vec![(Space::Label, Some(*index))],
         Instruction::BrTable(labels, default) => labels
             .iter()
             .chain([default])
-            .map(|index| (Space::Label, *index))
+            .map(|index| (Space::Label, Some(*index)))
             .collect(),
-        Instruction::Call(index) | Instruction::RefFunc(index) => vec![(Space::Func, *index)],
+        Instruction::Call(index) | Instruction::RefFunc(index) => vec![(Space::Func, Some(*index))],
         Instruction::CallIndirect(table, ty) => {
-            let mut uses: Vec<_> = optional(Space::Table, table).into_iter().collect();
+            let mut uses = vec![(Space::Table, *table)];
             uses.extend(type_of(ty));
             uses
         }
         Instruction::LocalGet(index)
         | Instruction::LocalSet(index)
-        | Instruction::LocalTee(index) => vec![(Space::Local, *index)],
+        | Instruction::LocalTee(index) => vec![(Space::Local, Some(*index))],
         Instruction::GlobalGet(index) | Instruction::GlobalSet(index) => {
-            vec![(Space::Global, *index)]
+            vec![(Space::Global, Some(*index))]
         }
-        Instruction::Access(_, arg) => optional(Space::Memory, &arg.memory).into_iter().collect(),
+        Instruction::Access(_, arg) => vec![(Space::Memory, arg.memory)],
         Instruction::MemorySize(memory) | Instruction::MemoryGrow(memory) => {
-            optional(Space::Memory, memory).into_iter().collect()
+            vec![(Space::Memory, *memory)]
         }
         Instruction::Op(_)
         | Instruction::Else(_)
@@ -430,7 +430,7 @@ fn known<'a>(rows: &[Row<'a>], at: usize, space: Space) -> Vec<(&'a str, usize)>
 /// 14: the first name that nothing has, and one that may be meant.
 fn missing(rows: &[Row<'_>], at: usize, content: &Content<'_>) -> Finding {
     for (space, index) in uses(content) {
-        let Index::Name(name) = index else {
+        let Some(Index::Name(name)) = index else {
             continue;
         };
         let known = known(rows, at, space);
@@ -572,11 +572,7 @@ fn differing(rows: &[Row<'_>], content: &Content<'_>, number: u32) -> Finding {
     };
     match found {
         None if number == 15 => Finding {
-            note: match types.len() {
-                0 => "there is no type".to_string(),
-                1 => "there is one type, 0".to_string(),
-                count => format!("there are {count} types, 0 to {}", count - 1),
-            },
+            note: how_many(types.len(), "type", "types"),
             marked: Some(marked),
             ..Finding::default()
         },
@@ -588,6 +584,88 @@ fn differing(rows: &[Row<'_>], content: &Content<'_>, number: u32) -> Finding {
         },
         _ => Finding::default(),
     }
+}
+
+/// Which numbers there are.
+fn how_many(count: usize, one: &str, several: &str) -> String {
+    match count {
+        0 => format!("there is no {one}"),
+        1 => format!("there is one {one}, 0"),
+        _ => format!("there are {count} {several}, 0 to {}", count - 1),
+    }
+}
+
+/// How many parameters and locals the function of a row has. Where its type use
+/// has an index only, the parameters are that type's.
+fn variables(rows: &[Row<'_>], at: usize) -> usize {
+    let Some((row, variables)) = function(rows, at) else {
+        return 0;
+    };
+    let Some((ty, _)) = type_use(&rows[row].record.content) else {
+        return 0;
+    };
+    let types = types(rows);
+    let named = match ty.index {
+        _ if ty.is_inline() => None,
+        Some(Index::Number(number)) => types.get(number as usize),
+        Some(Index::Name(name)) => types.iter().find(|one| one.name == Some(name)),
+        None => None,
+    };
+    variables.len() + named.map_or(0, |one| one.params.len())
+}
+
+/// How many numbers an index of a space has at a row to choose from.
+fn count(rows: &[Row<'_>], at: usize, space: Space) -> usize {
+    let fields = rows.iter().filter_map(|row| match &row.record.content {
+        Content::Field(field) => Some(field),
+        _ => None,
+    });
+    match space {
+        Space::Type => types(rows).len(),
+        Space::Local => variables(rows, at),
+        Space::Label => open_blocks(rows, at).len() + 1,
+        _ => fields
+            .filter(|field| item(field).is_some_and(|(of, ..)| of == space))
+            .count(),
+    }
+}
+
+/// 20: the first number that points to nothing, and which there are.
+fn nowhere(rows: &[Row<'_>], at: usize, content: &Content<'_>) -> Finding {
+    for (space, index) in uses(content) {
+        let number = match index {
+            Some(Index::Number(number)) => number as usize,
+            Some(Index::Name(_)) => continue,
+            None => 0,
+        };
+        let count = count(rows, at, space);
+        if number < count {
+            continue;
+        }
+        let one = space.one();
+        let there = match space {
+            Space::Local => how_many(count, one, "parameters and locals of this function"),
+            Space::Label => match count - 1 {
+                0 => "no block is open, and 0 is the function itself".to_string(),
+                1 => "one block is open, 0, and 1 is the function itself".to_string(),
+                open => format!(
+                    "{open} blocks are open, 0 to {}, and {open} is the function itself",
+                    open - 1
+                ),
+            },
+            Space::Memory => how_many(count, one, "memories"),
+            _ => how_many(count, one, &format!("{one}s")),
+        };
+        return Finding {
+            note: match index {
+                Some(_) => there,
+                None => format!("it means {one} 0, and {there}"),
+            },
+            marked: index.map(|_| number.to_string()),
+            ..Finding::default()
+        };
+    }
+    Finding::default()
 }
 
 /// 17: the block that is meant by its place.

@@ -63,7 +63,7 @@ mod tests {
 
     #[test]
     fn every_number_has_words() {
-        for number in 1..=19 {
+        for number in 1..=20 {
             let words = words(number).unwrap();
             assert!(!words.title.is_empty(), "{number}");
             assert!(

@@ -14,8 +14,9 @@ pub fn bytes_at_head(text: &str) -> Vec<u8> {
         .collect()
 }
 
-/// The streams of docs/REFUSALS.md for which nothing special is lent.
-pub fn refused() -> Vec<(Vec<u8>, Refusal)> {
+/// The streams of docs/REFUSALS.md for which nothing special is lent, and whether
+/// the strict call is meant.
+pub fn refused() -> Vec<(Vec<u8>, Refusal, bool)> {
     let mut streams = Vec::new();
     for line in REFUSALS
         .lines()
@@ -40,7 +41,9 @@ pub fn refused() -> Vec<(Vec<u8>, Refusal)> {
             (Refusal::TAKEN, record) => Refusal::taken(record, next()),
             (number, record) => Refusal::new(number, record),
         };
-        streams.push((bytes(stream.trim()), refusal));
+        let strictly = stream.strip_prefix("strict: ");
+        let stream = bytes(strictly.unwrap_or(stream).trim());
+        streams.push((stream, refusal, strictly.is_some()));
     }
     streams
 }

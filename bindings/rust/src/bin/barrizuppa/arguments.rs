@@ -27,10 +27,11 @@ Messages go to standard error. The stream is described in docs/STREAM.md.
 const ASSEMBLE: &str = "\
 A stream to its module.
 
-Usage: barrizuppa assemble [--names] [-o MODULE] [FILE]
-       barrizuppa assemble --all [--names] [-j THREADS] -o FOLDER FOLDER
+Usage: barrizuppa assemble [--strict] [--names] [-o MODULE] [FILE]
+       barrizuppa assemble --all [--strict] [--names] [-j THREADS] -o FOLDER FOLDER
 
 Options:
+      --strict        also refuse numbers that point to nothing (refusal 20)
       --names         also write the names of functions, parameters and locals, for a debugger
   -o, --output PATH   where the module goes; without it, standard output
       --all           every file *.stream of the one folder, to *.wasm in the other
@@ -58,10 +59,11 @@ const EXPLAIN: &str = "\
 Why a stream is refused: the record as a line of the template with the lines around it, what the
 refusal means, and what to do.
 
-Usage: barrizuppa explain [--html] [-o PATH] [FILE]
+Usage: barrizuppa explain [--strict] [--html] [-o PATH] [FILE]
        barrizuppa explain --number N
 
 Options:
+      --strict        as `barrizuppa assemble --strict` refuses it
       --html          a page for a browser, the whole template with the record at fault marked
       --number N      what a refusal's number means, without a stream
   -o, --output PATH   where it goes; without it, standard output
@@ -77,6 +79,8 @@ pub struct Arguments {
     pub input: Option<PathBuf>,
     /// Standard output if there is none.
     pub output: Option<PathBuf>,
+    /// The strict call.
+    pub strict: bool,
     pub names: bool,
     pub all: bool,
     /// As many as there are cores if nothing is said.
@@ -101,12 +105,16 @@ pub fn parse(given: Vec<OsString>) -> Result<Command, Trouble> {
         return Err(Trouble(format!("no command\n\n{HELP}")));
     };
     match first.to_str() {
-        Some("assemble") => options(given, ASSEMBLE, &["--names", "--all", "-o", "-j"])
-            .map(|asked| asked.command(Command::Assemble)),
+        Some("assemble") => options(
+            given,
+            ASSEMBLE,
+            &["--strict", "--names", "--all", "-o", "-j"],
+        )
+        .map(|asked| asked.command(Command::Assemble)),
         Some("account") => {
             options(given, ACCOUNT, &["-o"]).map(|asked| asked.command(Command::Account))
         }
-        Some("explain") => options(given, EXPLAIN, &["--html", "--number", "-o"])
+        Some("explain") => options(given, EXPLAIN, &["--strict", "--html", "--number", "-o"])
             .map(|asked| asked.command(Command::Explain)),
         Some("help") => help(given.next()),
         Some("-h" | "--help") => Ok(Command::Say(HELP.to_string())),
@@ -199,6 +207,7 @@ fn options(
                 .ok_or_else(|| usage(format!("{option} needs a value")))
         };
         match short {
+            "--strict" => arguments.strict = true,
             "--names" => arguments.names = true,
             "--all" => arguments.all = true,
             "--html" => arguments.html = true,

@@ -11,9 +11,11 @@ pub fn module<'a>(
     arguments: &Arguments,
     stream: &[u8],
 ) -> Result<&'a [u8], Refusal> {
-    match arguments.names {
-        true => assembler.assemble_names(stream),
-        false => assembler.assemble(stream),
+    match (arguments.strict, arguments.names) {
+        (false, false) => assembler.assemble(stream),
+        (false, true) => assembler.assemble_names(stream),
+        (true, false) => assembler.assemble_strict(stream),
+        (true, true) => assembler.assemble_strict_names(stream),
     }
 }
 
@@ -29,8 +31,9 @@ pub fn assemble(arguments: &Arguments) -> Run {
         Err(refusal) => {
             eprintln!("barrizuppa: {}: {refusal}", files::name(arguments));
             if let Some(path) = &arguments.input {
+                let strictly = if arguments.strict { "--strict " } else { "" };
                 eprintln!(
-                    "barrizuppa: `barrizuppa explain {}` says more",
+                    "barrizuppa: `barrizuppa explain {strictly}{}` says more",
                     path.display()
                 );
             }
@@ -43,7 +46,7 @@ pub fn assemble(arguments: &Arguments) -> Run {
 pub fn explain(arguments: &Arguments) -> Run {
     let stream = files::read(arguments)?;
     let name = files::name(arguments);
-    match barrizuppa::assemble(&stream) {
+    match module(&mut Assembler::new(), arguments, &stream) {
         Ok(module) => {
             let records = barrizuppa::stream::Reader::new(&stream).count();
             eprintln!(
