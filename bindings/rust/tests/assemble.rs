@@ -2,7 +2,9 @@
 mod common;
 
 use barrizuppa::{
-    assemble, assemble_into, assemble_names, assemble_names_into, Refusal, STREAM_BYTES, WORK_WORDS,
+    assemble, assemble_into, assemble_names, assemble_names_into, assemble_strict,
+    assemble_strict_into, assemble_strict_names, assemble_strict_names_into, Refusal, STREAM_BYTES,
+    WORK_WORDS,
 };
 
 /// S1: the empty module.
@@ -251,6 +253,10 @@ fn one_assembler_for_many_streams() {
         assert_eq!(module, assemble(stream));
         let module = assembler.assemble_names(stream).map(<[u8]>::to_vec);
         assert_eq!(module, assemble_names(stream));
+        let module = assembler.assemble_strict(stream).map(<[u8]>::to_vec);
+        assert_eq!(module, assemble_strict(stream));
+        let module = assembler.assemble_strict_names(stream).map(<[u8]>::to_vec);
+        assert_eq!(module, assemble_strict_names(stream));
     }
 }
 
@@ -271,6 +277,58 @@ fn a_refusal_in_words() {
         .map(|number| Refusal::new(number, 0).meaning())
         .collect();
     assert_eq!(meanings.len(), 21);
+}
+
+#[test]
+fn numbers_that_point_nowhere() {
+    let bare = &signature(0, 0);
+    let unary = &signature(1, 0);
+    let memory = &b"\x05\0\0\0\0\x01"[..];
+    let with_memory = |body: &[u8]| [memory, &function(bare, body)].concat();
+    for (stream, strictly) in [
+        // A start, a local, a label, each one too far and not.
+        (b"\x08\x01\0".to_vec(), Some(0)),
+        (function(unary, b"\x20\x01\x01"), Some(1)),
+        (function(unary, b"\x20\x01\0"), None),
+        (function(bare, b"\x0C\x01\x01"), Some(1)),
+        (function(bare, b"\x0C\x01\0"), None),
+        // The size of memory 0, told or not.
+        (function(bare, b"\x3F\0"), Some(1)),
+        (with_memory(b"\x3F\0"), None),
+        (with_memory(b"\x3F\x01\x01"), Some(2)),
+        // The type that the function itself adds.
+        (function(bare, b"\x02\0\x01\0\0\0\x0B\0"), None),
+        (function(bare, b"\x02\0\x01\x01\0\0\x0B\0"), Some(1)),
+    ] {
+        let plain = assemble(&stream);
+        assert!(plain.is_ok(), "{stream:02X?}");
+        let expected = strictly.map_or(plain, |record| refused(20, record));
+        assert_eq!(assemble_strict(&stream), expected, "{stream:02X?}");
+        let named = strictly.map_or(assemble_names(&stream), |record| refused(20, record));
+        assert_eq!(assemble_strict_names(&stream), named, "{stream:02X?}");
+    }
+    // Where it is a name the plain call's refusal stands, and 15 is never given.
+    assert_eq!(assemble_strict(S7_WITH_Y), refused(14, 1));
+    let inline = b"\x02\0\0\0\0\x01\0\0\x01\x7F";
+    assert_eq!(assemble(inline), refused(15, 0));
+    assert_eq!(assemble_strict(inline), refused(20, 0));
+}
+
+#[test]
+fn a_strict_call_leaves_zeros_and_the_output() {
+    let mut out = [0xAA; 64];
+    for assemble in [assemble_strict_into, assemble_strict_names_into] {
+        let mut work = vec![u32::MAX; WORK_WORDS];
+        let answer = assemble(b"\x08\x01\0", &mut work, &mut out);
+        assert_eq!(answer, Err(Refusal::new(20, 0)));
+        assert!(work.iter().all(|word| *word == 0));
+        assert_eq!(out, [0xAA; 64]);
+        // It is not strict for the next call.
+        assert_eq!(
+            assemble_into(b"\x08\x01\0", &mut work, &mut [0; 64]),
+            Ok(11)
+        );
+    }
 }
 
 #[test]

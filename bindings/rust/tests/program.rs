@@ -72,6 +72,8 @@ fn wrong_use() {
         (&["assemble", "a", "b"], "one file at a time"),
         (&["assemble", "-o"], "-o needs a value"),
         (&["assemble", "--names=yes"], "--names takes no value"),
+        (&["assemble", "--strict=yes"], "--strict takes no value"),
+        (&["account", "--strict"], "no such option: --strict"),
         (&["assemble", "--all", "in"], "--all needs two folders"),
         (&["assemble", "-j", "2"], "--jobs goes with --all"),
         (&["assemble", "-j0", "--all"], "-j needs a number from 1 on"),
@@ -192,6 +194,33 @@ mod with_library {
             assert_eq!(fs::read(module).unwrap(), MODULE);
             fs::remove_file(module).unwrap();
         }
+    }
+
+    #[test]
+    fn strictly() {
+        for arguments in [
+            &["assemble", "--strict"][..],
+            &["assemble", "--strict", "--names"],
+            &["assemble", "--names", "--strict"],
+        ] {
+            let (status, out, error) = told(arguments, NOTICE);
+            assert_eq!((status, error), (0, String::new()));
+            assert_eq!(out == MODULE, arguments.len() == 2);
+            assert!(out.starts_with(MODULE));
+            // A start of function 0, and there is none.
+            let (status, out, error) = told(arguments, b"\x08\x01\0");
+            assert_eq!((status, out), (1, Vec::new()));
+            assert!(
+                error.contains("refused 20 at 0: in a strict call"),
+                "{error}"
+            );
+        }
+        assert_eq!(told(&["assemble"], b"\x08\x01\0").0, 0);
+        assert_eq!(told(&["explain"], b"\x08\x01\0").0, 0);
+        let (status, out, _) = told(&["explain", "--strict"], b"\x08\x01\0");
+        let out = String::from_utf8(out).unwrap();
+        assert_eq!(status, 1);
+        assert!(out.contains("^ there is no function"), "{out}");
     }
 
     #[test]
