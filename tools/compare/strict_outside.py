@@ -10,7 +10,8 @@ must agree, and has wasm-validate (wabt 1.0.32) look at what the plain call writ
     has no message of an index that is out of range; others, such as of types that
     do not fit, it may have;
   - what the strict call refuses 20 and the plain call writes, wasm-validate
-    refuses, by such a message;
+    refuses, by such a message, or seldom by another fault of the same body alone;
+    these are counted, and more than one in a hundred is wrong;
   - any other answer of the strict call is the plain call's.
 A line for each sort of use shows how often it was accepted and how often it was
 the one that was refused 20, by a number and where the index is absent. One
@@ -131,6 +132,7 @@ class Tally:
         self.beyond = Counter()         # of each, where it is the one refused 20
         self.messages = Counter()
         self.later = 0
+        self.other = 0                  # refused 20, and by wasm-validate for another fault
         self.wrong = []
 
 
@@ -151,8 +153,9 @@ def judge(tally, stream, plain, strict, messages):
     if refused:
         tally.messages.update(set(map(kind_of, named)))
         tally.beyond[first] += 1
-        if messages is None or not named:
-            wrong('wasm-validate has no index out of range')
+        if messages is None:
+            wrong('wasm-validate takes it')
+        tally.other += not named
     else:
         tally.within.update(use for use, _ in uses.seen)
         if named:
@@ -196,6 +199,9 @@ def report(tally, options):
             tally.wrong.append('not seen on both sides: %s %s%s' % (use, space, ' absent' if absent else ''))
     print("wasm-validate's words: " + '; '.join('%s (%d)' % one for one in tally.messages.most_common()))
     print('a global that comes later, in a constant: %d' % tally.later)
+    print('refused 20, and by wasm-validate by another message: %d' % tally.other)
+    if 100 * tally.other > sum(tally.beyond.values()):
+        tally.wrong.append('too many without a message of an index')
     print('answers: ' + ', '.join('%s and strictly %s: %d' % (*pair, count)
                                   for pair, count in sorted(tally.answers.items())))
     for what in tally.wrong[:10]:
