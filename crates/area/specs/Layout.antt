@@ -33,33 +33,47 @@ STRICT = 520
 abbrev pub TYPES : ℕ
 TYPES = 521
 
+-- the index over them: for each bucket of hashes the chain's first type, for each type the next in its chain, and its hash in two words
+abbrev pub HEADS : ℕ
+HEADS = 1801
+
+abbrev pub LINKS : ℕ
+LINKS = 2057
+
+abbrev pub HASHES : ℕ
+HASHES = 2313
+
+-- the byte size of the type section's content: not used yet
+abbrev pub SIZE : ℕ
+SIZE = 2825
+
 -- for each record the number of the type of its use
 abbrev pub USES : ℕ
-USES = 1801
+USES = 2826
 
 -- how many types there are
 abbrev pub TOTAL : ℕ
-TOTAL = 5897
+TOTAL = 6922
 
 -- how many names the table of each index space has
 abbrev pub NAMED : ℕ
-NAMED = 5898
+NAMED = 6923
 
 -- the tables of names
 abbrev pub NAMES : ℕ
-NAMES = 5905
+NAMES = 6930
 
 -- for each name the record that defined its item
 abbrev pub DEFINERS : ℕ
-DEFINERS = 11281
+DEFINERS = 12306
 
 -- the function's parameters and locals
 abbrev pub LOCALS : ℕ
-LOCALS = 13073
+LOCALS = 14098
 
 -- the labels of its open blocks, the outermost first
 abbrev pub LABELS : ℕ
-LABELS = 13457
+LABELS = 14482
 
 -- the words of one table of names
 abbrev pub TABLE : ℕ

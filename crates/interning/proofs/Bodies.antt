@@ -23,6 +23,7 @@ use Rattle.syntax.specs.declared.BodyAt.{BodyAt}
 use Rattle.syntax.specs.declared.BodyAt.the-variants as B
 use Rattle.walk.specs.Walk.{afterBody, usesIn}
 use Rattle.instr.specs.Bodies.{onBody, bodyFrom}
+use Rattle.type_table.specs.Table.{Indexed}
 use Rattle.interning.specs.Uses.{nested, Nests, Skips, Handled, Handles}
 use Rattle.interning.specs.declared.uses.Used.{Used}
 use Rattle.interning.specs.declared.uses.Used.the-variants as U
@@ -109,11 +110,11 @@ pub record Going (s : Bytes) (w₀ : List ℕ) (k₀ at rec : ℕ) (w : List ℕ
   pub same : done ++ bodyUses r (bodyFrom (4096 - r) depth s here) ≡ bodyUses rec (bodyFrom (4096 - rec) 0 s at)
   pub ends : afterBody (4096 - r) depth r s here ≡ afterBody (4096 - rec) 0 rec s at
   pub low : rec ≤ r
-  pub few : k ≤ 256
+  pub indexed : Indexed s w k
   pub long : length w ≡ length w₀
 
-pub body-begin : (s w : List ℕ) (k at rec : ℕ) → k ≤ 256 → Going s w k at rec w k at rec 0
-body-begin s w k at rec h = record { done = []; so-far = handled-none rec rec s w k h; same = refl; ends = refl; low = omega arith; few = h; long = refl }
+pub body-begin : (s w : List ℕ) (k at rec : ℕ) → Indexed s w k → Going s w k at rec w k at rec 0
+body-begin s w k at rec h = record { done = []; so-far = handled-none rec rec s w k h; same = refl; ends = refl; low = omega arith; indexed = h; long = refl }
 
 module _ (s : Bytes) (w₀ : List ℕ) (k₀ at rec : ℕ) (w : List ℕ) (k here r depth : ℕ) (v : Going s w₀ k₀ at rec w k here r depth) where
   -- nothing is ahead
@@ -167,7 +168,7 @@ module _ (s : Bytes) (w₀ : List ℕ) (k₀ at rec : ℕ) (w : List ℕ) (k her
             same = rw (← o) all-uses;
             ends = sym (after-is s r depth here h ∙ rw (told, d, o)) ∙ v .ends;
             low = omega (arith, v .low);
-            few = u .few;
+            indexed = u .indexed;
             long = u .kept .long ∙ v .long;
           }
 

@@ -14,7 +14,7 @@ use Rattle.definition.specs.Records.{fieldRec}
 use Rattle.definition.specs.Spaces.{externSpace, ownSpace, sourceSpace, segments, brings}
 use Rattle.definition.specs.Deinline.{Numbered, fieldsOf}
 use Rattle.definition.specs.Types.{declaredBy, declared}
-use Rattle.area.specs.Layout.{DECLARED, TYPES}
+use Rattle.area.specs.Layout.{DECLARED, HEADS, TYPES}
 use Rattle.syntax.specs.TypeUses.{listOf}
 use Rattle.syntax.specs.declared.List as Code
 use Rattle.syntax.specs.Tokens.{idOf}
@@ -25,8 +25,10 @@ use Rattle.syntax.specs.declared.Field.{Field}
 use Rattle.syntax.specs.declared.Field.the-variants as F
 use Rattle.counting.specs.Counting.{up, oneMore}
 use Rattle.area.specs.Kept.{Kept}
-use Rattle.area.proofs.Kept.{kept-same, kept-then, kept-less}
-use Rattle.type_table.specs.Table.{typesOf, signatureOf, typeTable, Adds}
+use Rattle.area.specs.Lent.{Lent}
+use Rattle.area.proofs.Kept.{kept-same, kept-then, kept-less, kept-word}
+use Rattle.type_table.specs.Table.{typesOf, signatureOf, typeTable, Indexed, Emptied, Adds}
+use Rattle.type_table.proofs.Chains.{index-none}
 use Rattle.type_table.proofs.Types.{table-length}
 use Rattle.walk.specs.Walk.{counting, seenWith, begin, cursorAfter, visitIn, visitOf, fieldsHere, fieldsAhead, fieldsIn, Ahead}
 use Rattle.walk.specs.declared.Cursor.{Cursor}
@@ -39,15 +41,15 @@ use Rattle.interning.proofs.Room.{type-room}
 
 -- ## One field
 
-module _ (s w : List ℕ) (count : ℕ) (f : Field) where
+module _ (s w : List ℕ) (count : ℕ) (f : Field) (v : Indexed s w count) where
   pub room-type : (i : _) (ps rs : Code.List) → HasRoom count f → f ≡ F.Type i ps rs → count < 256
   room-type i ps rs h e = rw e at h
 
   pub declare-type : (i : _) (ps rs : Code.List) (w′ : List ℕ) → f ≡ F.Type i ps rs → Adds s w count (listed ps rs) w′ → Declares s w count f (count + 1) w′
-  declare-type i ps rs w′ e a = record { types = rw e (a .types); kept = kept-less TYPES (TYPES + 5 * count) (omega arith) (a .inside .kept) }
+  declare-type i ps rs w′ e a = record { types = rw e (a .types); indexed = a .indexed; kept = kept-less TYPES (TYPES + 5 * count) (omega arith) (a .inside .kept) }
 
   nothing : declaredIn s f ≡ [] → Declares s w count f count w
-  nothing e = record { types = rw (e, append-nil (typeTable count s w TYPES)); kept = kept-same TYPES w }
+  nothing e = record { indexed = v; types = rw (e, append-nil (typeTable count s w TYPES)); kept = kept-same TYPES w }
 
   pub declare-import : (n : _) (i : _) (x : _) → f ≡ F.Import n i x → Declares s w count f count w
   declare-import n i x e = nothing (ap (declaredIn s) e)
@@ -125,15 +127,6 @@ field-count s seen (F.Start x) l h = omega arith
 field-count s seen (F.Elem i m xs) l h = other-space seen elems (λ e. omega arith) ∙ omega arith
 field-count s seen (F.Data i m d) l h = other-space seen datas (λ e. omega arith) ∙ omega arith
 
-few-after : (s : Bytes) (count : ℕ) (f : Field) → HasRoom count f → count ≤ 256 → count + length (declaredIn s f) ≤ 256
-few-after s count (F.Type i ps rs) h l = omega arith
-few-after s count (F.Import n i x) h l = omega arith
-few-after s count (F.Item i es x) h l = omega arith
-few-after s count (F.Export n k x) h l = omega arith
-few-after s count (F.Start x) h l = omega arith
-few-after s count (F.Elem i m xs) h l = omega arith
-few-after s count (F.Data i m d) h l = omega arith
-
 -- ## The loop
 
 -- the types so far, and those that are ahead
@@ -141,21 +134,21 @@ pub record Declaring (s : Bytes) (w₀ w : List ℕ) (c : Cursor) (count : ℕ) 
   pub same : typeTable count s w TYPES ++ declared (fieldsAhead c s) ≡ declared (fieldsIn s)
   pub number : count ≡ countOf (c .seen) types
   pub seven : length (c .seen .counts) ≡ 7
-  pub few : count ≤ 256
+  pub indexed : Indexed s w count
   pub kept : Kept TYPES w₀ w
   pub ahead : Ahead s w c
   pub long : length w ≡ length w₀
 
-pub declaring-begin : (s w : List ℕ) (c : Cursor) → c ≡ begin → Ahead s w begin → Declaring s w w c 0
+pub declaring-begin : (s w : List ℕ) (c : Cursor) → c ≡ begin → Indexed s w 0 → Ahead s w begin → Declaring s w w c 0
 unfolding typeTable fieldsIn begin
-declaring-begin s w c e a = record { same = rw e; number = rw e; seven = rw e; few = omega arith; kept = kept-same TYPES w; ahead = rw e a; long = refl }
+declaring-begin s w c e i a = record { same = rw e; number = rw e; seven = rw e; indexed = i; kept = kept-same TYPES w; ahead = rw e a; long = refl }
 
 module _ (s : Bytes) (w₀ w : List ℕ) (c : Cursor) (count : ℕ) (v : Declaring s w₀ w c count) where
   -- nothing that is ahead declares a type
   done : declared (fieldsAhead c s) ≡ [] → DeclaredAll s w₀ count w
   done e = record {
     types = sym (append-nil (typeTable count s w TYPES)) ∙ ap (λ (l : List FuncType). typeTable count s w TYPES ++ l) (sym e) ∙ v .same;
-    few = v .few;
+    indexed = v .indexed;
     kept = v .kept;
   }
 
@@ -208,8 +201,30 @@ module _ (s : Bytes) (w₀ w : List ℕ) (c : Cursor) (count : ℕ) (v : Declari
                 ∙ ap (λ (l : List FuncType). typeTable count s w TYPES ++ l) (sym split) ∙ v .same;
             number = long ∙ ap (λ z. z + length (declaredIn s f)) num ∙ sym (field-count s (c .seen) f (v .seven) (rw num at room)) ∙ ap (λ (z : Cursor). countOf (z .seen) types) (sym next);
             seven = ap (λ (z : Cursor). length (z .seen .counts)) next ∙ counting-long (c .seen) (brings (fieldOf s f)) ∙ v .seven;
-            few = let l = few-after s count f room (v .few) in omega arith;
+            indexed = a .indexed;
             kept = kept-then (v .kept) (a .kept);
             ahead = ahead-kept s w w′ (m .next) (a .kept) (visit-ahead s c m told f here is w (v .ahead));
             long = a .kept .long ∙ v .long;
           }
+
+-- ## All of them
+
+-- the index is emptied first
+module _ (s w w₁ : List ℕ) (e : Emptied w w₁) where
+  emptied-kept : Kept TYPES w w₁
+  emptied-kept = kept-less TYPES HEADS (omega arith) (e .inside .kept)
+
+  pub emptied-lent : Lent s w → Lent s w₁
+  emptied-lent l = record { stream = l .stream; area = omega (arith, l .area, emptied-kept .long) }
+
+  pub emptied-indexed : Indexed s w₁ 0
+  emptied-indexed = index-none s w w₁ e
+
+  pub emptied-ahead : Ahead s w begin → Ahead s w₁ begin
+  emptied-ahead a = ahead-kept s w w₁ begin emptied-kept a
+
+  pub emptied-count : (n : ℕ) → getD w DECLARED 0 ≡ n → getD w₁ DECLARED 0 ≡ n
+  emptied-count n d = kept-word emptied-kept 4 (omega arith) ∙ d
+
+  pub emptied-declared : (n : ℕ) (w′ : List ℕ) → DeclaredAll s w₁ n w′ → DeclaredAll s w n w′
+  emptied-declared n w′ a = record { types = a .types; indexed = a .indexed; kept = kept-then emptied-kept (a .kept) }

@@ -24,6 +24,7 @@ use Rattle.syntax.specs.declared.Field.{Field}
 use Rattle.syntax.specs.declared.Field.the-variants as F
 use Rattle.walk.specs.Walk.{bodyIn, afterBody}
 use Rattle.instr.specs.Bodies.{bodyFrom}
+use Rattle.type_table.specs.Table.{Indexed}
 use Rattle.interning.specs.Uses.{Skips, usesOwn, usesSource, usesField, endAfter, Handles}
 use Rattle.interning.specs.declared.uses.Used.{Used}
 use Rattle.interning.specs.declared.uses.Used.the-variants as U
@@ -38,7 +39,7 @@ module _ (rec : ℕ) (s : Bytes) (w : List ℕ) (k : ℕ) where
     unfolding externUses
     extern-func t r w′ d h = rw d h
 
-    module _ (h : k ≤ 256) where
+    module _ (h : Indexed s w k) where
       pub extern-table : (t : _) → x ≡ E.Table t → Handles rec (rec + 1) s (usedAt rec (externUses (externIs s x))) w k (U.Types k) w
       unfolding externUses
       extern-table t d = rw d (handles-none rec (rec + 1) s w k h)
@@ -60,7 +61,7 @@ module _ (rec : ℕ) (s : Bytes) (w : List ℕ) (k : ℕ) where
     unfolding usesOwn ownBody ownUses
     own-func t ls r w′ d h = rw d h
 
-    module _ (h : k ≤ 256) where
+    module _ (h : Indexed s w k) where
       pub own-table : (t : _) → o ≡ O.Table t → Handles rec (endAfter (ownBody (ownOf s o)) rec s at) s (usesOwn rec (ownOf s o) s at) w k (U.Types k) w
       unfolding usesOwn ownBody ownUses bodyUses
       own-table t d = rw d (handles-none rec (rec + 1) s w k h)
@@ -87,7 +88,7 @@ module _ (rec : ℕ) (s : Bytes) (w : List ℕ) (k : ℕ) where
       unfolding usesSource sourceBody
       source-imported n e d h = rw d h
 
-    module _ (h : k ≤ 256) where
+    module _ (h : Indexed s w k) where
       pub source-table : (b : _) (xs : _) → x ≡ S.TableOf b xs → Handles rec (endAfter (sourceBody (sourceOf s x)) rec s at) s (usesSource rec (sourceOf s x) s at) w k (U.Types k) w
       unfolding usesSource sourceBody
       source-table b xs d = rw d (handles-none rec (rec + 1) s w k h)
@@ -110,7 +111,7 @@ module _ (rec : ℕ) (s : Bytes) (w : List ℕ) (k : ℕ) where
       unfolding usesField fieldBody
       field-item i es x d h = rw d h
 
-    module _ (h : k ≤ 256) where
+    module _ (h : Indexed s w k) where
       pub field-type : (i : _) (ps rs : _) → f ≡ F.Type i ps rs → Handles rec (endAfter (fieldBody (fieldOf s f)) rec s at) s (usesField rec (fieldOf s f) s at) w k (U.Types k) w
       unfolding usesField fieldBody
       field-type i ps rs d = rw d (handles-none rec (rec + 1) s w k h)

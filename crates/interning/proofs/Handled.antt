@@ -12,7 +12,7 @@ use Rattle.laws.proofs.Interning.{first-kept, Keeps, intern-keeps}
 use Rattle.syntax.specs.declared.Refusal.{Refusal}
 use Rattle.area.specs.Layout.{TYPES, USES}
 use Rattle.area.proofs.Kept.{kept-same, kept-then}
-use Rattle.type_table.specs.Table.{typeTable}
+use Rattle.type_table.specs.Table.{typeTable, Indexed}
 use Rattle.interning.specs.Uses.{Known, Handled, Stopped, Handles}
 use Rattle.interning.specs.declared.uses.Used.{Used}
 use Rattle.interning.specs.declared.uses.Used.the-variants as U
@@ -69,11 +69,11 @@ known-wide m high w ts us h x = known-kept m high w w ts ts us h (keeps-same ts)
 
 -- ## None, and one after the other
 
-pub handled-none : (low high : ℕ) (s w : List ℕ) (k : ℕ) → k ≤ 256 → Handled low high s [] w k w k
+pub handled-none : (low high : ℕ) (s w : List ℕ) (k : ℕ) → Indexed s w k → Handled low high s [] w k w k
 unfolding intern Known
-handled-none low high s w k h = record { types = refl; few = h; known = tt; kept = kept-same TYPES w; before = λ i l. refl; above = λ i l. refl }
+handled-none low high s w k h = record { types = refl; indexed = h; known = tt; kept = kept-same TYPES w; before = λ i l. refl; above = λ i l. refl }
 
-pub handles-none : (low high : ℕ) (s w : List ℕ) (k : ℕ) → k ≤ 256 → Handles low high s [] w k (U.Types k) w
+pub handles-none : (low high : ℕ) (s w : List ℕ) (k : ℕ) → Indexed s w k → Handles low high s [] w k (U.Types k) w
 unfolding Handles
 handles-none low high s w k h = handled-none low high s w k h
 
@@ -81,7 +81,7 @@ module _ (low high m m′ : ℕ) (s : Bytes) (us vs : Uses) (w : List ℕ) (k : 
   pub handled-then : (w₂ : List ℕ) (k₂ : ℕ) → m ≤ m′ → low ≤ m′ → m ≤ high → Handled m′ high s vs w₁ k₁ w₂ k₂ → Handled low high s (us ++ vs) w k w₂ k₂
   handled-then w₂ k₂ l g h b = record {
     types = intern-on _ _ us vs (a .types) ∙ b .types;
-    few = b .few;
+    indexed = b .indexed;
     known = known-append high w₂ (typeTable k₂ s w₂ TYPES) us vs
         (known-kept m high w₁ w₂ (typeTable k₁ s w₁ TYPES) (typeTable k₂ s w₂ TYPES) us h (intern-keeps _ vs _ (b .types)) (λ i e. b .before i (omega arith)) (a .known)) (b .known);
     kept = kept-then (a .kept) (b .kept);
@@ -95,7 +95,7 @@ module _ (low high m m′ : ℕ) (s : Bytes) (us vs : Uses) (w : List ℕ) (k : 
   pub handled-wide : m ≤ high → Handled low high s us w k w₁ k₁
   handled-wide h = record {
     types = a .types;
-    few = a .few;
+    indexed = a .indexed;
     known = known-wide m high w₁ (typeTable k₁ s w₁ TYPES) us h (a .known);
     kept = a .kept;
     before = a .before;
@@ -113,8 +113,8 @@ module _ (low high : ℕ) (s : Bytes) (us : Uses) (w : List ℕ) (k : ℕ) (q : 
   unfolding Handles
   handles-types m d = rw d at told
 
-  pub handles-few : (m : ℕ) → q ≡ U.Types m → m ≤ 256
-  handles-few m d = handles-types m d .few
+  pub handles-indexed : (m : ℕ) → q ≡ U.Types m → Indexed s w′ m
+  handles-indexed m d = handles-types m d .indexed
 
   pub handles-stopped : (r : Refusal) → q ≡ U.Refused r → Stopped s us w k r w′
   unfolding Handles

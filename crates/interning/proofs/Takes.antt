@@ -1,10 +1,10 @@
 -- Laws of one type use at its record.
 use Prim.Native.Nat.{ℕ, _+_, _-_, _*_, _≤_, _<_}
-use mathlib.Core.Path.{_≡_, sym, _∙_, ap}
+use mathlib.Core.Path.{_≡_, _∙_, ap}
 use mathlib.Core.Bool.{Bool, true, false}
 use mathlib.Core.List.{List, [], _∷_}
-use lib.ListN.{length, getD, set, drop}
-use lib.Seq.{getD-set-same, getD-set-other, getD-drop}
+use lib.ListN.{length, getD, set}
+use lib.Seq.{getD-set-same, getD-set-other}
 use native.Mathlib.Omega.{arith}
 use Rattle.definition.specs.Basic.{Answer, ok, _>>=_}
 use Rattle.definition.specs.Syntax.{Bytes, FuncType}
@@ -20,9 +20,11 @@ use Rattle.syntax.specs.declared.Instr.{Instr}
 use Rattle.syntax.specs.declared.Instr.the-variants as N
 use Rattle.area.specs.Kept.{Kept}
 use Rattle.area.proofs.Kept.{kept-same, kept-set, kept-then, kept-less}
-use Rattle.type_table.specs.Table.{typeTable, Taken, Denied, Interns}
+use Rattle.type_table.specs.Table.{typeTable, Indexed, Taken, Denied, Interns}
 use Rattle.type_table.specs.declared.table.Interned.{Interned}
 use Rattle.type_table.specs.declared.table.Interned.the-variants as I
+use Rattle.type_table.proofs.Chains.{index-kept}
+use Rattle.type_table.proofs.Entries.{inside-above}
 use Rattle.type_table.proofs.Types.{table-kept}
 use Rattle.interning.specs.Uses.{Known, Handles}
 use Rattle.type_table.specs.Uses.{blockUses}
@@ -44,22 +46,16 @@ module _ (s w : List ℕ) (count : ℕ) (t : TypeUse) (rec : ℕ) (q : Interned)
       let a = took n k d in
       let long : length w₁ ≡ length w = a .inside .kept .long in
       let below : Kept USES w₁ (set w₁ (USES + rec) n) = kept-set USES (USES + rec) n w₁ (omega arith) in
-      let same : typeTable k s (set w₁ (USES + rec) n) TYPES ≡ typeTable k s w₁ TYPES = table-kept k s TYPES USES (omega (arith, a .few)) below in
+      let same : typeTable k s (set w₁ (USES + rec) n) TYPES ≡ typeTable k s w₁ TYPES = table-kept k s TYPES USES (omega (arith, a .indexed .few)) below in
       let word : getD (set w₁ (USES + rec) n) (USES + rec) 0 ≡ n = getD-set-same w₁ (USES + rec) n 0 (omega arith) in
       record {
         types = rw (e, same) (ap (λ (z : Answer (List FuncType)). z >>= λ all. ok all) (a .types));
-        few = a .few;
+        indexed = rw e (index-kept USES s k (omega arith) below (a .indexed));
         known = (omega arith, rw (e, same, word) (a .number), tt);
         kept = rw e (kept-then (kept-less TYPES (TYPES + 5 * count) (omega arith) (a .inside .kept)) (kept-less TYPES USES (omega arith) below));
-        before = λ i g. rw e (getD-set-other w₁ (USES + rec) (USES + i) n 0 (λ z. omega arith) ∙ above (a .inside .above) i);
-        above = λ i g. rw e (getD-set-other w₁ (USES + rec) i n 0 (λ z. omega arith) ∙ names (a .inside .above) i g);
+        before = λ i g. rw e (getD-set-other w₁ (USES + rec) (USES + i) n 0 (λ z. omega arith) ∙ inside-above (a .inside) (USES + i) (omega arith));
+        above = λ i g. rw e (getD-set-other w₁ (USES + rec) i n 0 (λ z. omega arith) ∙ inside-above (a .inside) i (omega arith));
       }
-    where
-      above : drop USES w₁ ≡ drop USES w → (i : ℕ) → getD w₁ (USES + i) 0 ≡ getD w (USES + i) 0
-      above z i = sym (getD-drop USES w₁ i 0) ∙ ap (λ (v : List ℕ). getD v i 0) z ∙ getD-drop USES w i 0
-
-      names : drop USES w₁ ≡ drop USES w → (i : ℕ) → NAMED ≤ i → getD w₁ i 0 ≡ getD w i 0
-      names z i g = let j : USES + (i - USES) ≡ i = omega arith in rw j at (above z (i - USES))
 
   denied : (r : Refusal) → q ≡ I.Refused r → Denied s w count t rec r w₁
   unfolding Interns
@@ -81,17 +77,17 @@ module _ (rec : ℕ) (s : Bytes) (t : TypeUse) (w : List ℕ) (k : ℕ) where
   unfolding Types.useOf signature
   use-absent r w′ d h = rw d h
 
-  pub use-number : (n : ℕ) → t .index ≡ X.Number n → k ≤ 256 → Handles rec (rec + 1) s (usedAt rec (Types.useOf (useOf s t))) w k (U.Types k) w
+  pub use-number : (n : ℕ) → t .index ≡ X.Number n → Indexed s w k → Handles rec (rec + 1) s (usedAt rec (Types.useOf (useOf s t))) w k (U.Types k) w
   unfolding Types.useOf
   use-number n d h = rw d (handles-none rec (rec + 1) s w k h)
 
-  pub use-named : (p : _) → t .index ≡ X.Named p → k ≤ 256 → Handles rec (rec + 1) s (usedAt rec (Types.useOf (useOf s t))) w k (U.Types k) w
+  pub use-named : (p : _) → t .index ≡ X.Named p → Indexed s w k → Handles rec (rec + 1) s (usedAt rec (Types.useOf (useOf s t))) w k (U.Types k) w
   unfolding Types.useOf
   use-named p d h = rw d (handles-none rec (rec + 1) s w k h)
 
   -- a block
   module _ (b : Bool) (e : b ≡ isShort (useOf s t)) where
-    pub block-short : b ≡ true → k ≤ 256 → Handles rec (rec + 1) s (usedAt rec (blockUses (useOf s t))) w k (U.Types k) w
+    pub block-short : b ≡ true → Indexed s w k → Handles rec (rec + 1) s (usedAt rec (blockUses (useOf s t))) w k (U.Types k) w
     block-short d h = rw (← e, d) (handles-none rec (rec + 1) s w k h)
 
     pub block-long : (r : Used) (w′ : List ℕ) → b ≡ false → Handles rec (rec + 1) s (usedAt rec (Types.useOf (useOf s t))) w k r w′
@@ -114,7 +110,7 @@ module _ (rec : ℕ) (s : Bytes) (i : Instr) (w : List ℕ) (k : ℕ) where
     unfolding instrUses
     instr-indirect x d h = rw d h
 
-  module _ (h : k ≤ 256) where
+  module _ (h : Indexed s w k) where
     pub instr-else : (l : _) → i ≡ N.Elses l → Handles rec (rec + 1) s (usedAt rec (instrUses (instrIs s i))) w k (U.Types k) w
     unfolding instrUses
     instr-else l d = rw d (handles-none rec (rec + 1) s w k h)

@@ -10,7 +10,7 @@ use Rattle.syntax.specs.declared.List as Code
 use Rattle.syntax.specs.declared.Field.{Field}
 use Rattle.syntax.specs.declared.Field.the-variants as F
 use Rattle.area.specs.Kept.{Kept}
-use Rattle.type_table.specs.Table.{signatureOf, typeTable}
+use Rattle.type_table.specs.Table.{signatureOf, typeTable, Indexed}
 use Rattle.type_table.specs.declared.entry.Signature.{Signature}
 use Rattle.walk.specs.Walk.{fieldsIn}
 
@@ -41,10 +41,11 @@ HasRoom count (F.Data i m d) = Unit {0}
 -- the types of a field were added to `count`
 pub record Declares (s : Bytes) (w : List ℕ) (count : ℕ) (f : Field) (n : ℕ) (w′ : List ℕ) : Type 0 where
   pub types : typeTable n s w′ TYPES ≡ typeTable count s w TYPES ++ declaredIn s f
+  pub indexed : Indexed s w′ n
   pub kept : Kept TYPES w w′
 
 -- all declared types are in the table
 pub record DeclaredAll (s : Bytes) (w : List ℕ) (n : ℕ) (w′ : List ℕ) : Type 0 where
   pub types : typeTable n s w′ TYPES ≡ declared (fieldsIn s)
-  pub few : n ≤ 256
+  pub indexed : Indexed s w′ n
   pub kept : Kept TYPES w w′

@@ -17,7 +17,7 @@ use Rattle.area.specs.Layout.{NAMED, TYPES, USES}
 use Rattle.syntax.specs.declared.Instr.{Instr}
 use Rattle.syntax.specs.declared.Instr.the-variants as I
 use Rattle.area.specs.Kept.{Kept}
-use Rattle.type_table.specs.Table.{typeTable}
+use Rattle.type_table.specs.Table.{typeTable, Indexed}
 use Rattle.walk.specs.Walk.{bodyIn, afterField, usesIn}
 use Rattle.interning.specs.declared.uses.Used.{Used}
 use Rattle.interning.specs.declared.uses.Used.the-variants as U
@@ -78,7 +78,7 @@ Known high w ts ((r, t) ∷ us) = (r < high) × (typeAt t ts ≡ some (getD w (U
 -- `us` were taken or added: `k` types became `k′`. The words of records before `low` are as they were, and so are those of the names
 pub record Handled (low high : ℕ) (s : Bytes) (us : Uses) (w : List ℕ) (k : ℕ) (w′ : List ℕ) (k′ : ℕ) : Type 0 where
   pub types : intern (typeTable k s w TYPES) us ≡ ok (typeTable k′ s w′ TYPES)
-  pub few : k′ ≤ 256
+  pub indexed : Indexed s w′ k′
   pub known : Known high w′ (typeTable k′ s w′ TYPES) us
   pub kept : Kept TYPES w w′
   pub before : (i : ℕ) → i < low → getD w′ (USES + i) 0 ≡ getD w (USES + i) 0

@@ -13,6 +13,7 @@ ghost use Rattle.definition.specs.Types as Types;
 ghost use Rattle.syntax.specs.TypeUses.{useOf};
 ghost use Rattle.walk.specs.Walk.{afterBody};
 ghost use Rattle.instr.specs.Bodies.{bodyFrom};
+ghost use Rattle.type_table.specs.Table.{Indexed};
 ghost use Rattle.interning.specs.Uses.{Handles, Nests, nested, Skips};
 
 // How many blocks are open after an instruction.
@@ -31,7 +32,7 @@ fn depth_after(i: Instr, depth: u32) -> u32
 
 // The uses of a body, whose first instruction has the record `rec`.
 fn use_body(s: &[u8], work: &mut [u32], count: u32, at: usize, rec: u32) -> Used
-    requires { ⌜ Lent (now s) (now work) × (count ≤ 256) × (rec ≤ 4096) ⌝ }
+    requires { ⌜ Lent (now s) (now work) × Indexed (now s) (now work) count × (rec ≤ 4096) ⌝ }
     ensures { λ r. ⌜ Handles rec (afterBody (4096 - rec) 0 rec (now (s .entry)) at .rec) (now (s .entry)) (Types.bodyUses rec (bodyFrom (4096 - rec) 0 (now (s .entry)) at)) (now (work .entry)) count r (now (work .exit)) ⌝ }
 {
     let mut k = count;
@@ -74,7 +75,7 @@ pub fn use_func(
     at: usize,
     rec: u32,
 ) -> Used
-    requires { ⌜ Lent (now s) (now work) × (count ≤ 256) × (rec < 4096) × Skips (now work) own (Types.bodyUses (rec + 1) (bodyFrom (4096 - (rec + 1)) 0 (now s) at)) ⌝ }
+    requires { ⌜ Lent (now s) (now work) × Indexed (now s) (now work) count × (rec < 4096) × Skips (now work) own (Types.bodyUses (rec + 1) (bodyFrom (4096 - (rec + 1)) 0 (now s) at)) ⌝ }
     ensures { λ r. ⌜ Handles rec (afterBody (4096 - (rec + 1)) 0 (rec + 1) (now (s .entry)) at .rec) (now (s .entry)) (Types.usedAt rec (Types.useOf (useOf (now (s .entry)) t)) ++ Types.bodyUses (rec + 1) (bodyFrom (4096 - (rec + 1)) 0 (now (s .entry)) at)) (now (work .entry)) count r (now (work .exit)) ⌝ }
 {
     let looks = walk::body_uses(work, own);

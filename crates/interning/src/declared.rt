@@ -9,13 +9,13 @@ ghost use lib.ListN.{length, getD};
 ghost use Rattle.area.specs.Layout.{DECLARED};
 ghost use Rattle.area.specs.Lent.{Lent};
 ghost use Rattle.definition.specs.Types as Types;
-ghost use Rattle.type_table.specs.Table.{Adds};
+ghost use Rattle.type_table.specs.Table.{Adds, Indexed};
 ghost use Rattle.walk.specs.Walk.{Ahead, begin, fieldsIn};
 ghost use Rattle.interning.specs.Declaring.{HasRoom, Declares, DeclaredAll, listed};
 
 // A type stands after the others.
 fn add_declared(s: &[u8], work: &mut [u32], count: u32, params: List, results: List)
-    requires { ⌜ Lent (now s) (now work) × (count < 256) ⌝ }
+    requires { ⌜ Lent (now s) (now work) × (count < 256) × Indexed (now s) (now work) count ⌝ }
     ensures { λ _. ⌜ Adds (now (s .entry)) (now (work .entry)) count (listed params results) (now (work .exit)) ⌝ }
 {
     let x = Signature {
@@ -23,12 +23,12 @@ fn add_declared(s: &[u8], work: &mut [u32], count: u32, params: List, results: L
         params,
         results,
     };
-    type_table::add_type(s, work, count, x);
+    type_table::declare_type(s, work, count, x);
 }
 
 // A field that declares a type adds it.
 fn declare(s: &[u8], work: &mut [u32], count: u32, f: Field) -> u32
-    requires { ⌜ Lent (now s) (now work) × (count ≤ 256) × HasRoom count f ⌝ }
+    requires { ⌜ Lent (now s) (now work) × Indexed (now s) (now work) count × HasRoom count f ⌝ }
     ensures { λ r. ⌜ Declares (now (s .entry)) (now (work .entry)) count f r (now (work .exit)) ⌝ }
 {
     match f {
@@ -70,8 +70,8 @@ fn declare(s: &[u8], work: &mut [u32], count: u32, f: Field) -> u32
 }
 
 // All of them, in their order. Reading has left how many there are, and the walk ends with the last of them.
-pub fn declare_all(s: &[u8], work: &mut [u32]) -> u32
-    requires { ⌜ Lent (now s) (now work) × Ahead (now s) (now work) begin × (getD (now work) DECLARED 0 ≡ length (Types.declared (fieldsIn (now s)))) ⌝ }
+fn declare_fields(s: &[u8], work: &mut [u32]) -> u32
+    requires { ⌜ Lent (now s) (now work) × Indexed (now s) (now work) 0 × Ahead (now s) (now work) begin × (getD (now work) DECLARED 0 ≡ length (Types.declared (fieldsIn (now s)))) ⌝ }
     ensures { λ r. ⌜ DeclaredAll (now (s .entry)) (now (work .entry)) r (now (work .exit)) ⌝ }
 {
     let total = area::word(work, area::DECLARED);
@@ -91,4 +91,13 @@ pub fn declare_all(s: &[u8], work: &mut [u32]) -> u32
         }
     }
     count
+}
+
+// All of them, and the index over them.
+pub fn declare_all(s: &[u8], work: &mut [u32]) -> u32
+    requires { ⌜ Lent (now s) (now work) × Ahead (now s) (now work) begin × (getD (now work) DECLARED 0 ≡ length (Types.declared (fieldsIn (now s)))) ⌝ }
+    ensures { λ r. ⌜ DeclaredAll (now (s .entry)) (now (work .entry)) r (now (work .exit)) ⌝ }
+{
+    type_table::clear_index(work);
+    declare_fields(s, work)
 }

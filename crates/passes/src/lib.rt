@@ -11,7 +11,7 @@ ghost use Rattle.area.specs.Layout.{DECLARED, TYPES};
 ghost use Rattle.area.specs.Lent.{Lent};
 ghost use Rattle.area.specs.Strict.{strictIn};
 ghost use Rattle.definition.specs.Types as Types;
-ghost use Rattle.type_table.specs.Table.{typeTable, typesIn, Recalled};
+ghost use Rattle.type_table.specs.Table.{typeTable, typesIn, Indexed, Recalled};
 ghost use Rattle.walk.specs.Walk.{Ahead, begin, fieldsIn};
 ghost use Rattle.scope.specs.Scope.{scopeIn};
 ghost use Rattle.passes.specs.Passes.{Passes, Prepares, fromNames, fromFields};
@@ -63,7 +63,7 @@ fn resolve(s: &[u8], work: &mut [u32], kept: &mut [u8], count: u32, declared: u3
 
 // The order of imports, the types of uses and the names, in one walk; then the fields.
 fn intern(s: &[u8], work: &mut [u32], kept: &mut [u8], count: u32, declared: u32) -> Passed
-    requires { ⌜ Lent (now s) (now work) × (declared ≤ 256) × Ahead (now s) (now work) begin × (typeTable declared (now s) (now work) TYPES ≡ Types.declared (fieldsIn (now s))) ⌝ }
+    requires { ⌜ Lent (now s) (now work) × Indexed (now s) (now work) declared × Ahead (now s) (now work) begin × (typeTable declared (now s) (now work) TYPES ≡ Types.declared (fieldsIn (now s))) ⌝ }
     ensures { λ r. ⌜ Passes (fromFields (strictIn (now (work .entry))) (fieldsIn (now (s .entry)))) count (now (s .entry)) (now (work .entry)) r (now (work .exit)) (now (kept .exit)) ⌝ }
 {
     match survey::survey_all(s, work, declared) {

@@ -20,7 +20,7 @@ use Rattle.syntax.specs.Fields.{fieldOf}
 use Rattle.syntax.specs.declared.Field.{Field}
 use Rattle.area.specs.Kept.{Kept}
 use Rattle.area.proofs.Kept.{kept-word}
-use Rattle.type_table.specs.Table.{typeTable}
+use Rattle.type_table.specs.Table.{typeTable, Indexed}
 use Rattle.type_table.proofs.Types.{table-kept}
 use Rattle.walk.specs.Walk.{bodyIn, begin, cursorAfter, visitIn, visitOf, fieldsHere, fieldsAhead, fieldsIn, Ahead}
 use Rattle.walk.specs.declared.Cursor.{Cursor}
@@ -127,8 +127,8 @@ module _ (s : Bytes) (c : Cursor) (m : Met) (told : visitIn (c .left) c s ≡ vi
         abbrev u : Handled (c .rec) (endAfter (fieldBody (fieldOf s f)) (c .rec) s here) s here-uses w k w′ k′
         u = handles-types _ _ s here-uses w k q w′ used k′ e
 
-        pub used-few : k′ ≤ 256
-        used-few = u .few
+        pub used-indexed : Indexed s w′ k′
+        used-indexed = u .indexed
 
         pub used-kept : Kept TYPES w w′
         used-kept = u .kept

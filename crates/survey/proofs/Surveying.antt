@@ -22,7 +22,8 @@ use Rattle.syntax.specs.Fields.{fieldOf}
 use Rattle.syntax.specs.declared.Field.{Field}
 use Rattle.area.specs.Kept.{Kept}
 use Rattle.area.proofs.Kept.{kept-same, kept-set, kept-then, kept-less, kept-word}
-use Rattle.type_table.specs.Table.{typeTable, typesIn}
+use Rattle.type_table.specs.Table.{typeTable, typesIn, Indexed}
+use Rattle.type_table.proofs.Chains.{index-kept}
 use Rattle.type_table.proofs.Types.{table-kept}
 use Rattle.walk.specs.Walk.{bodyIn, begin, visitIn, visitOf, fieldsAhead, fieldsIn, Ahead}
 use Rattle.walk.specs.declared.Cursor.{Cursor}
@@ -49,7 +50,7 @@ use Rattle.survey.specs.declared.Took.{Took}
 use Rattle.survey.specs.declared.Took.the-variants as T
 use Rattle.survey.specs.declared.Surveyed.{Surveyed}
 use Rattle.survey.specs.declared.Surveyed.the-variants as Y
-use Rattle.survey.proofs.Interning.{Interning, Knowing, interning-begin, interning-kept, interning-done, interning-refused, interning-again, knowing-begin, knowing-kept, knowing-done, knowing-again, field-skips, refused-kept, used-few, used-kept, used-above}
+use Rattle.survey.proofs.Interning.{Interning, Knowing, interning-begin, interning-kept, interning-done, interning-refused, interning-again, knowing-begin, knowing-kept, knowing-done, knowing-again, field-skips, refused-kept, used-indexed, used-kept, used-above}
 use Rattle.survey.proofs.Recalls.{known-recalled, recalled-kept}
 
 -- ## What is refused
@@ -137,12 +138,12 @@ module _ (s w : List ℕ) (c : Cursor) (late : Bool) (v : Passing s w c late) (m
 pub record Using (s w₀ w : List ℕ) (c : Cursor) (k : ℕ) : Type 0 where
   pub interning : Interning s w c k
   pub ahead : Ahead s w c
-  pub few : k ≤ 256
+  pub indexed : Indexed s w k
   pub kept : Kept TYPES w₀ w
   pub long : length w ≡ length w₀
 
-pub using-begin : (s w : List ℕ) (c : Cursor) (k : ℕ) → Ahead s w c → k ≤ 256 → allTypes (fieldsIn s) ≡ intern (typeTable k s w TYPES) (uses (fieldsAhead c s)) → Using s w w c k
-using-begin s w c k a h e = record { interning = record { same = e }; ahead = a; few = h; kept = kept-same TYPES w; long = refl }
+pub using-begin : (s w : List ℕ) (c : Cursor) (k : ℕ) → Ahead s w c → Indexed s w k → allTypes (fieldsIn s) ≡ intern (typeTable k s w TYPES) (uses (fieldsAhead c s)) → Using s w w c k
+using-begin s w c k a h e = record { interning = record { same = e }; ahead = a; indexed = h; kept = kept-same TYPES w; long = refl }
 
 module _ (s w₀ w : List ℕ) (c : Cursor) (k : ℕ) (v : Using s w₀ w c k) (m : Met) (told : visitIn (c .left) c s ≡ visitOf s m) where
   pub using-done : m .what ≡ W.Done → Interns s w₀ (U.Types k) w
@@ -162,7 +163,7 @@ module _ (s w₀ w : List ℕ) (c : Cursor) (k : ℕ) (v : Using s w₀ w c k) (
           record {
             interning = interning-again s c m told f here is w k q w′ used k′ e (v .interning);
             ahead = ahead-kept s w w′ (m .next) h (visit-ahead s c m told f here is w (v .ahead));
-            few = used-few s c m told f here is w k q w′ used k′ e;
+            indexed = used-indexed s c m told f here is w k q w′ used k′ e;
             kept = kept-then (v .kept) h;
             long = h .long ∙ v .long;
           }
@@ -218,12 +219,12 @@ Shut s w₀ w c late k = Found s w₀ w c late k
 pub record Surveying (s w₀ w : List ℕ) (c : Cursor) (late : Bool) (k : ℕ) : Type 0 where
   pub found : Shut s w₀ w c late k
   pub ahead : Ahead s w c
-  pub few : k ≤ 256
+  pub indexed : Indexed s w k
   pub long : length w ≡ length w₀
   pub room : WORDS ≤ length w
   pub stream : length s ≤ BYTES
 
-pub surveying-begin : (s w : List ℕ) (c : Cursor) (k : ℕ) → c ≡ begin → length s ≤ BYTES → WORDS ≤ length w → k ≤ 256 → Ahead s w begin → typeTable k s w TYPES ≡ declared (fieldsIn s) → Surveying s w w c false k
+pub surveying-begin : (s w : List ℕ) (c : Cursor) (k : ℕ) → c ≡ begin → length s ≤ BYTES → WORDS ≤ length w → Indexed s w k → Ahead s w begin → typeTable k s w TYPES ≡ declared (fieldsIn s) → Surveying s w w c false k
 unfolding Shut
 surveying-begin s w c k e b r h a t = record {
   found = record {
@@ -234,7 +235,7 @@ surveying-begin s w c k e b r h a t = record {
     kept = kept-same TYPES w;
   };
   ahead = rw e a;
-  few = h;
+  indexed = h;
   long = refl;
   room = r;
   stream = b;
@@ -257,13 +258,13 @@ module _ (s w₀ w : List ℕ) (c : Cursor) (late : Bool) (k : ℕ) (v : Surveyi
       let b : Kept NAMED w₁ w₂ = counted-kept s w₁ c g far w₂ e in
       let both : Kept TOTAL w w₂ = kept-then a (kept-less TOTAL NAMED (omega arith) b) in
       let word : getD w₂ TOTAL 0 ≡ k = kept-word b TOTAL (omega arith) ∙ rw d (getD-set-same w TOTAL k 0 (omega (arith, v .room))) in
-      let few : min k 256 ≡ k = omega (arith, v .few) in
-      let table : typeTable k s w₂ TYPES ≡ typeTable k s w TYPES = table-kept k s TYPES TOTAL (omega (arith, v .few)) both in
+      let few : min k 256 ≡ k = omega (arith, v .indexed .few) in
+      let table : typeTable k s w₂ TYPES ≡ typeTable k s w TYPES = table-kept k s TYPES TOTAL (omega (arith, v .indexed .few)) both in
       record {
         all = rw (o, word, few, table) all;
         recalled = rw (word, few, table) (recalled-kept TOTAL (typeTable k s w TYPES) (uses (fieldsIn s)) (omega arith) both
             (known-recalled w (typeTable k s w TYPES) (uses (fieldsIn s)) (knowing-done s c m told w k is (opened v .knowing))));
-        few = rw word (v .few);
+        few = rw word (v .indexed .few);
         items = g .items;
         says = registering-done s w₁ c g m told is;
         tables = counted-tables s w₁ c g far w₂ e;
@@ -305,7 +306,10 @@ module _ (s w₀ w : List ℕ) (c : Cursor) (late : Bool) (k : ℕ) (v : Surveyi
       goes-ahead = ahead-kept s w w₂ (m .next) both (visit-ahead s c m told f here is w (v .ahead))
 
       interns : Interning s w₂ (m .next) k′
-      interns = interning-kept s w₁ w₂ (m .next) k′ (y .used .few) (y .put .kept) (interning-again s c m told f here is w k (U.Types k′) w₁ handled k′ refl (opened v .interning))
+      interns = interning-kept s w₁ w₂ (m .next) k′ (y .used .indexed .few) (y .put .kept) (interning-again s c m told f here is w k (U.Types k′) w₁ handled k′ refl (opened v .interning))
+
+      still : Indexed s w₂ k′
+      still = index-kept NAMES s k′ (omega arith) (y .put .kept) (y .used .indexed)
 
       stops : (p : Refusal) → b ≡ R.Refused p → register sameBytes [] (fieldsIn s) ≡ refusedBy p
       stops p e = registering-stops s c m told f here is w₁ registers b w₂ (y .put) far p e
@@ -316,12 +320,12 @@ module _ (s w₀ w : List ℕ) (c : Cursor) (late : Bool) (k : ℕ) (v : Surveyi
         found = record {
           order = o;
           interning = interns;
-          knowing = knowing-kept s w₁ w₂ (m .next) k′ (y .used .few) (y .put .kept) (knowing-again s c m told f here is w k (U.Types k′) w₁ handled k′ refl (opened v .knowing));
+          knowing = knowing-kept s w₁ w₂ (m .next) k′ (y .used .indexed .few) (y .put .kept) (knowing-again s c m told f here is w k (U.Types k′) w₁ handled k′ refl (opened v .knowing));
           registering = registering-again s c m told f here is w₁ registers b w₂ (y .put) far e;
           kept = kept-then (opened v .kept) both;
         };
         ahead = goes-ahead;
-        few = y .used .few;
+        indexed = still;
         long = both .long ∙ v .long;
         room = omega (arith, both .long, v .room);
         stream = v .stream;
@@ -367,7 +371,7 @@ module _ (q : Took) (p : Refusal) (k′ : ℕ) (e : q ≡ T.Name p k′) (s w : 
     record {
       ahead = goes-ahead s w₀ w c late k v m told f here is k′ (R.Refused p) w₁ named;
       order = o .same;
-      few = named .used .few;
+      indexed = still s w₀ w c late k v m told f here is k′ (R.Refused p) w₁ named;
       types = interns s w₀ w c late k v m told f here is k′ (R.Refused p) w₁ named .same;
       says = stops s w₀ w c late k v m told f here is k′ (R.Refused p) w₁ named p refl;
     },

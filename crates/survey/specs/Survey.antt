@@ -17,7 +17,7 @@ use Rattle.area.specs.Layout.{TOTAL, TYPES}
 use Rattle.syntax.specs.Fields.{fieldOf}
 use Rattle.syntax.specs.declared.Field.{Field}
 use Rattle.area.specs.Kept.{Kept}
-use Rattle.type_table.specs.Table.{typeTable, typesIn, Recalled}
+use Rattle.type_table.specs.Table.{typeTable, typesIn, Indexed, Recalled}
 use Rattle.walk.specs.Walk.{fieldsAhead, fieldsIn, Ahead}
 use Rattle.walk.specs.declared.Cursor.{Cursor}
 use Rattle.import_order.specs.Order.{isLate, lateAfter}
@@ -99,7 +99,7 @@ pub record UseRefused (s w : List ℕ) (c : Cursor) (late : Bool) (q : Refusal) 
 pub record NameRefused (s w : List ℕ) (c : Cursor) (late : Bool) (k : ℕ) (q : Refusal) : Type 0 where
   pub ahead : Ahead s w c
   pub order : importOrder (fieldsIn s) ≡ importsFrom late (fieldsAhead c s)
-  pub few : k ≤ 256
+  pub indexed : Indexed s w k
   pub types : allTypes (fieldsIn s) ≡ intern (typeTable k s w TYPES) (uses (fieldsAhead c s))
   pub says : register sameBytes [] (fieldsIn s) ≡ refusedBy q
 

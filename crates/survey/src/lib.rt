@@ -20,7 +20,7 @@ ghost use Rattle.area.specs.Lent.{Lent};
 ghost use Rattle.definition.specs.Read as Read;
 ghost use Rattle.definition.specs.Types as Types;
 ghost use Rattle.syntax.specs.Fields.{fieldOf};
-ghost use Rattle.type_table.specs.Table.{typeTable};
+ghost use Rattle.type_table.specs.Table.{typeTable, Indexed};
 ghost use Rattle.walk.specs.Walk.{bodyIn, Ahead, begin, fieldsIn};
 ghost use Rattle.interning.specs.Uses.{Skips};
 ghost use Rattle.registration.specs.Register.{brought, Fit};
@@ -50,7 +50,7 @@ struct Ended {
 
 // The uses of a field, and then its items.
 fn take_field(s: &[u8], work: &mut [u32], c: Cursor, f: Field, here: usize, count: u32) -> Took
-    requires { ⌜ Lent (now s) (now work) × (count ≤ 256) × (c .rec < 4096) × Skips (now work) (c .own) (Types.bodyUses (c .rec + 1) (bodyIn (Read.fieldBody (fieldOf (now s) f)) (c .rec + 1) (now s) here)) × Fit (c .seen) (brought f) ⌝ }
+    requires { ⌜ Lent (now s) (now work) × Indexed (now s) (now work) count × (c .rec < 4096) × Skips (now work) (c .own) (Types.bodyUses (c .rec + 1) (bodyIn (Read.fieldBody (fieldOf (now s) f)) (c .rec + 1) (now s) here)) × Fit (c .seen) (brought f) ⌝ }
     ensures { λ r. ⌜ Takes (now (s .entry)) (now (work .entry)) c f here count r (now (work .exit)) ⌝ }
 {
     match interning::use_field(s, work, count, f, c.own, here, c.rec) {
@@ -78,7 +78,7 @@ fn ended_by(how: Took, next: Cursor, late: bool) -> Ended
 
 // The walk, up to its end or to the first refusal.
 fn survey_fields(s: &[u8], work: &mut [u32], declared: u32) -> Ended
-    requires { ⌜ Lent (now s) (now work) × (declared ≤ 256) × Ahead (now s) (now work) begin × (typeTable declared (now s) (now work) TYPES ≡ Types.declared (fieldsIn (now s))) ⌝ }
+    requires { ⌜ Lent (now s) (now work) × Indexed (now s) (now work) declared × Ahead (now s) (now work) begin × (typeTable declared (now s) (now work) TYPES ≡ Types.declared (fieldsIn (now s))) ⌝ }
     ensures { λ r. ⌜ Reaches (now (s .entry)) (now (work .entry)) (r .how) (r .next) (r .late) (now (work .exit)) ⌝ }
 {
     let mut c = walk::start();
@@ -121,7 +121,7 @@ fn survey_fields(s: &[u8], work: &mut [u32], declared: u32) -> Ended
 // record that has a use without an index that use's number. The order of imports comes first over the whole stream, then the types,
 // then the names: where one of the later rules refuses, the fields ahead are asked for an earlier one.
 pub fn survey_all(s: &[u8], work: &mut [u32], declared: u32) -> Surveyed
-    requires { ⌜ Lent (now s) (now work) × (declared ≤ 256) × Ahead (now s) (now work) begin × (typeTable declared (now s) (now work) TYPES ≡ Types.declared (fieldsIn (now s))) ⌝ }
+    requires { ⌜ Lent (now s) (now work) × Indexed (now s) (now work) declared × Ahead (now s) (now work) begin × (typeTable declared (now s) (now work) TYPES ≡ Types.declared (fieldsIn (now s))) ⌝ }
     ensures { λ r. ⌜ Surveys (now (s .entry)) (now (work .entry)) r (now (work .exit)) ⌝ }
 {
     let x = survey_fields(s, work, declared);

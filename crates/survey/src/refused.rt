@@ -7,11 +7,10 @@ use syntax::Refusal;
 use walk::Cursor;
 use walk::What;
 ghost use mathlib.Core.Path.{_≡_};
-ghost use Prim.Native.Nat.{_≤_};
 ghost use Rattle.area.specs.Layout.{TYPES};
 ghost use Rattle.area.specs.Lent.{Lent};
 ghost use Rattle.definition.specs.Types as Types;
-ghost use Rattle.type_table.specs.Table.{typeTable};
+ghost use Rattle.type_table.specs.Table.{typeTable, Indexed};
 ghost use Rattle.walk.specs.Walk.{Ahead, fieldsAhead, fieldsIn};
 ghost use Rattle.survey.specs.Survey.{Surveys, UseRefused, NameRefused, Interns};
 
@@ -46,7 +45,7 @@ pub fn late_first(s: &[u8], work: &[u32], from: Cursor, past: bool, r: Refusal) 
 
 // The uses of the fields ahead.
 fn use_ahead(s: &[u8], work: &mut [u32], from: Cursor, types: u32) -> Used
-    requires { ⌜ Lent (now s) (now work) × (types ≤ 256) × Ahead (now s) (now work) from × (Types.allTypes (fieldsIn (now s)) ≡ Types.intern (typeTable types (now s) (now work) TYPES) (Types.uses (fieldsAhead from (now s)))) ⌝ }
+    requires { ⌜ Lent (now s) (now work) × Indexed (now s) (now work) types × Ahead (now s) (now work) from × (Types.allTypes (fieldsIn (now s)) ≡ Types.intern (typeTable types (now s) (now work) TYPES) (Types.uses (fieldsAhead from (now s)))) ⌝ }
     ensures { λ r. ⌜ Interns (now (s .entry)) (now (work .entry)) r (now (work .exit)) ⌝ }
 {
     let mut c = from;

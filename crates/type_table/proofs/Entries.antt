@@ -1,10 +1,10 @@
--- Plain mathematics of one type of the table: read, walked in step with another, written.
-use Prim.Native.Nat.{ℕ, zero, suc, _+_, _≤_, _<_, min}
-use mathlib.Core.Path.{_≡_, refl, sym, _∙_}
+-- Plain mathematics of one type of the table: read, compared with another, written.
+use Prim.Native.Nat.{ℕ, zero, suc, _+_, _-_, _≤_, _<_, min}
+use mathlib.Core.Path.{_≡_, refl, sym, _∙_, ap}
 use mathlib.Core.Bool.{Bool, true, false}
 use mathlib.Core.List.{List, [], _∷_}
 use lib.ListN.{length, getD, set, drop, length-set}
-use lib.Seq.{getD-set-same, getD-set-other}
+use lib.Seq.{getD-set-same, getD-set-other, getD-drop}
 use lib.Dec.{eqb}
 use native.Mathlib.Decide.{decLe}
 use native.Mathlib.Omega.{arith}
@@ -17,13 +17,10 @@ use Rattle.laws.proofs.Readers.{byte-out}
 use Rattle.syntax.specs.TypeUses.{elements, useOf}
 use Rattle.syntax.specs.declared.List as Code
 use Rattle.syntax.specs.declared.TypeUse.{TypeUse}
-use Rattle.area.proofs.Kept.{kept-set, kept-then}
-use Rattle.type_table.specs.Table.{typesOf, typed, signatureOf, ofUse, listIn, entryIn, flagOf, listWords, typeWords, Inside, Both, size, Steps}
-use Rattle.type_table.specs.declared.list.NextBoth.{NextBoth}
-use Rattle.type_table.specs.declared.list.NextBoth.the-variants as B
+use Rattle.area.specs.Kept.{Kept}
+use Rattle.area.proofs.Kept.{kept-set, kept-then, kept-word}
+use Rattle.type_table.specs.Table.{typesOf, typed, signatureOf, ofUse, listIn, entryIn, flagOf, listWords, typeWords, Inside}
 use Rattle.type_table.specs.declared.entry.Signature.{Signature}
-use Rattle.type_table.specs.declared.entry.NextStep.{NextStep}
-use Rattle.type_table.specs.declared.entry.NextStep.the-variants as P
 use Rattle.type_table.proofs.Lists.{types-are}
 
 -- ## Read
@@ -40,36 +37,7 @@ pub use-signature : (s : Bytes) (t : TypeUse) → signatureOf s (ofUse t) ≡ si
 unfolding signatureOf signature typesOf
 use-signature s t = refl
 
--- ## Two signatures in step
-
-module _ (s : Bytes) (a b : Signature) (r : NextBoth) (e : Both s (a .named) (a .params) (b .named) (b .params) r) where
-  -- the parameters go on
-  pub step-params : (p q : Code.List) → r ≡ B.Same p q
-      → Steps s a b (P.Same (record { named = a .named; params = p; results = a .results }) (record { named = b .named; params = q; results = b .results }))
-  unfolding sameType signatureOf
-  step-params p q d = let f = rw d at (e .same) in let g = rw d at (e .fewer) in record { same = rw f; fewer = omega arith }
-
-  -- they differ
-  pub step-params-differ : r ≡ B.Differ → Steps s a b P.Differ
-  unfolding sameType signatureOf
-  step-params-differ d = let f = rw d at (e .same) in record { same = rw f; fewer = tt }
-
-  -- they have ended: the results decide
-  module _ (d : r ≡ B.End) (n : NextBoth) (g : Both s false (a .results) false (b .results) n) where
-    pub step-results : (p q : Code.List) → n ≡ B.Same p q
-        → Steps s a b (P.Same (record { named = a .named; params = a .params; results = p }) (record { named = b .named; params = b .params; results = q }))
-    unfolding sameType signatureOf
-    step-results p q h = let f = rw h at (g .same) in let l = rw h at (g .fewer) in record { same = rw f; fewer = omega arith }
-
-    pub step-results-differ : n ≡ B.Differ → Steps s a b P.Differ
-    unfolding sameType signatureOf
-    step-results-differ h = let f = rw d at (e .same) in let k = rw h at (g .same) in record { same = rw (f, k); fewer = tt }
-
-    pub step-end : n ≡ B.End → Steps s a b P.End
-    unfolding sameType signatureOf
-    step-end h = let f = rw d at (e .same) in let k = rw h at (g .same) in record { same = rw (f, k); fewer = tt }
-
-pub ruleset steps = (step-params, step-params-differ, step-results, step-results-differ, step-end)
+-- ## Two signatures
 
 -- the parameters decide where they differ, and else the results
 module _ (s : Bytes) (x y : Signature) (f : Bool) (e : f ≡ sameBytes (typesOf (x .named) s (x .params)) (typesOf (y .named) s (y .params))) where
@@ -80,32 +48,6 @@ module _ (s : Bytes) (x y : Signature) (f : Bool) (e : f ≡ sameBytes (typesOf 
   pub same-results : (g : Bool) → f ≡ true → g ≡ sameBytes (typesOf false s (x .results)) (typesOf false s (y .results)) → g ≡ sameType (signatureOf s x) (signatureOf s y)
   unfolding sameType signatureOf
   same-results g d h = h ∙ sym (rw (← e, d))
-
--- what is left of `x` and `y` decides
-pub record Matching (s : Bytes) (x y a b : Signature) : Type 0 where
-  pub agree : sameType (signatureOf s a) (signatureOf s b) ≡ sameType (signatureOf s x) (signatureOf s y)
-
--- at the start that is all
-pub match-begin : (s : Bytes) (x y : Signature) → Matching s x y x y
-match-begin s x y = record { agree = refl }
-
-module _ (s : Bytes) (a b : Signature) (r : NextStep) (e : Steps s a b r) where
-  -- fewer types are left
-  pub match-less : (p q : Signature) → r ≡ P.Same p q → size p < size a
-  match-less p q d = rw d at (e .fewer)
-
-  module _ (x y : Signature) (v : Matching s x y a b) where
-    -- a type that agrees
-    pub match-again : (p q : Signature) → r ≡ P.Same p q → Matching s x y p q
-    match-again p q d = record { agree = sym (rw d at (e .same)) ∙ v .agree }
-
-    -- a type that differs
-    pub match-differ : r ≡ P.Differ → false ≡ sameType (signatureOf s x) (signatureOf s y)
-    match-differ d = sym (rw d at (e .same)) ∙ v .agree
-
-    -- both have ended
-    pub match-end : r ≡ P.End → true ≡ sameType (signatureOf s x) (signatureOf s y)
-    match-end d = sym (rw d at (e .same)) ∙ v .agree
 
 -- ## Places past the stream's end
 
@@ -146,6 +88,24 @@ inside-set low high i v w g h = record { kept = kept-set low i v w g; above = dr
 
 pub inside-then : {low high : ℕ} {a b c : List ℕ} → Inside low high a b → Inside low high b c → Inside low high a c
 inside-then x y = record { kept = kept-then (x .kept) (y .kept); above = y .above ∙ x .above }
+
+-- a word after them
+pub inside-above : {low high : ℕ} {w w′ : List ℕ} → Inside low high w w′ → (i : ℕ) → high ≤ i → getD w′ i 0 ≡ getD w i 0
+inside-above {low} {high} {w} {w′} v i h =
+    let j : high + (i - high) ≡ i = omega arith in
+    rw j at (sym (getD-drop high w′ (i - high) 0) ∙ ap (λ (l : List ℕ). getD l (i - high) 0) (v .above) ∙ getD-drop high w (i - high) 0)
+
+-- an entry before them
+pub entry-kept : {w w′ : List ℕ} (at m : ℕ) → at + 5 ≤ m → Kept m w w′ → entryIn w′ at ≡ entryIn w at
+unfolding entryIn
+entry-kept at m h k =
+    rw (
+      kept-word k at (omega arith),
+      kept-word k (at + 1) (omega arith),
+      kept-word k (at + 1 + 1) (omega arith),
+      kept-word k (at + 3) (omega arith),
+      kept-word k (at + 3 + 1) (omega arith),
+    )
 
 -- ## Written
 

@@ -1,4 +1,6 @@
 pub mod Bounds
+pub mod Chains
 pub mod Entries
+pub mod Hashes
 pub mod Lists
 pub mod Types

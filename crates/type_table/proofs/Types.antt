@@ -12,22 +12,19 @@ use Rattle.definition.specs.Syntax.{Bytes, FuncType}
 use Rattle.definition.specs.Types.{sameType, typeAt, signature}
 use Rattle.definition.specs.Names.{paramCount}
 use Rattle.syntax.specs.Refusals.{refusal}
-use Rattle.syntax.specs.declared.Refusal.{Refusal}
 use Rattle.area.specs.Layout.{NAMED, TOTAL, TYPES, USES}
 use Rattle.syntax.specs.TypeUses.{useOf}
 use Rattle.syntax.specs.declared.TypeUse.{TypeUse}
 use Rattle.area.specs.Kept.{Kept}
 use Rattle.area.proofs.Kept.{kept-word}
-use Rattle.name_table.proofs.Walk.{Looking, look-begin, look-found, look-on, look-none}
-use Rattle.type_table.specs.Table.{typesOf, signatureOf, ofUse, entryIn, typeTable, typesIn, numberOf, agreeing, typeWords, Inside, Steps, Adds, Interns}
+use Rattle.type_table.specs.Table.{typesOf, signatureOf, ofUse, entryIn, typeTable, typesIn, numberOf, agreeing, typeWords, Indexed, Fresh, Adds, Interns}
 use Rattle.type_table.specs.declared.entry.Signature.{Signature}
-use Rattle.type_table.specs.declared.entry.NextStep.{NextStep}
-use Rattle.type_table.specs.declared.entry.NextStep.the-variants as P
 use Rattle.type_table.specs.declared.table.TypeFound.{TypeFound}
 use Rattle.type_table.specs.declared.table.TypeFound.the-variants as T
 use Rattle.type_table.specs.declared.table.Interned.the-variants as I
 use Rattle.type_table.specs.declared.table.Agreement.the-variants as A
-use Rattle.type_table.proofs.Entries.{Matching, match-differ, match-end, use-signature, inside-same, type-inside, type-written}
+use Rattle.type_table.proofs.Entries.{use-signature, inside-same, entry-kept, type-inside, type-written}
+use Rattle.syntax.specs.declared.Refusal.{Refusal}
 
 -- ## The table
 
@@ -52,17 +49,10 @@ table-snoc (suc n) s w base =
 
 -- words after the table do not matter to it
 pub table-kept : (n : ℕ) (s : Bytes) {w w′ : List ℕ} (base m : ℕ) → base + 5 * n ≤ m → Kept m w w′ → typeTable n s w′ base ≡ typeTable n s w base
-unfolding typeTable entryIn
+unfolding typeTable
 table-kept zero s base m h k = refl
 table-kept (suc n) s {w} {w′} base m h k =
-    rw (
-      kept-word k base (omega arith),
-      kept-word k (base + 1) (omega arith),
-      kept-word k (base + 1 + 1) (omega arith),
-      kept-word k (base + 3) (omega arith),
-      kept-word k (base + 3 + 1) (omega arith),
-      table-kept n s {w = w} {w′ = w′} (base + 5) m (omega arith) k,
-    )
+    rw (entry-kept {w = w} {w′ = w′} base m (omega arith) k, table-kept n s {w = w} {w′ = w′} (base + 5) m (omega arith) k)
 
 -- nor do words after the number of types
 pub types-kept : (n : ℕ) (s : Bytes) {w w′ : List ℕ} → NAMED ≤ n → Kept n w w′ → typesIn s w′ ≡ typesIn s w
@@ -83,52 +73,16 @@ table-past zero s w base k h = refl
 table-past (suc n) s w base zero h = absurd (omega arith)
 table-past (suc n) s w base (suc k) h = table-past n s w (base + 5) k (omega arith)
 
--- ## The first equal signature
-
--- k entries were passed, and the others decide
-pub record Seeking (s w : List ℕ) (count : ℕ) (x : Signature) (k : ℕ) : Type 0 where
-  pub low : k ≤ count
-  pub look : Looking (sameType (signatureOf s x)) (typeTable count s w TYPES) k (typeTable (count - k) s w (TYPES + 5 * k))
-
--- none was passed
-pub seek-begin : (s w : List ℕ) (count : ℕ) (x : Signature) → Seeking s w count x 0
-seek-begin s w count x =
-    record { low = omega arith; look = (let e : count - 0 ≡ count = omega arith in rw e (look-begin (sameType (signatureOf s x)) (typeTable count s w TYPES))) }
-
-module _ {s w : List ℕ} {count : ℕ} {x : Signature} {k : ℕ} (v : Seeking s w count x k) where
-  next-look : k < count → Looking (sameType (signatureOf s x)) (typeTable count s w TYPES) k (signatureOf s (entryIn w (TYPES + 5 * k)) ∷ typeTable (count - k - 1) s w (TYPES + 5 * k + 5))
-  next-look h = rw (table-cons (count - k) s w (TYPES + 5 * k) (omega arith)) at (v .look)
-
-  module _ (h : k < count) (y a b : Signature) (d : y ≡ entryIn w (TYPES + 5 * k)) (m : Matching s x y a b) (r : NextStep) (e : Steps s a b r) where
-    -- an entry that is the signature
-    pub seek-found : r ≡ P.End → typeAt (signatureOf s x) (typeTable count s w TYPES) ≡ numberOf (T.Number k)
-    unfolding typeAt
-    seek-found f = look-found _ _ (next-look h) (sym (match-end s a b r e x y m f ∙ rw d))
-
-    -- an entry that is not
-    pub seek-again : r ≡ P.Differ → Seeking s w count x (k + 1)
-    seek-again f = record {
-      low = omega arith;
-      look = (let c : count - k - 1 ≡ count - (k + 1) = omega arith in let p : TYPES + 5 * k + 5 ≡ TYPES + 5 * (k + 1) = omega arith in
-          rw (c, p) at (look-on _ _ (next-look h) (sym (match-differ s a b r e x y m f ∙ rw d))));
-    }
-
-  -- no entry is left
-  pub seek-none : count ≤ k → typeAt (signatureOf s x) (typeTable count s w TYPES) ≡ numberOf T.Nothing
-  unfolding typeAt typeTable
-  seek-none h = look-none (let m : count - k ≡ 0 = omega arith in rw m at (v .look))
-
 -- ## One more
 
-pub add-type : (s w : List ℕ) (count : ℕ) (x : Signature) (w′ : List ℕ) → count < 256 → USES ≤ length w → w′ ≡ typeWords s w (TYPES + 5 * count) x → Adds s w count x w′
-add-type s w count x w′ h l e =
+-- an entry was written after the others
+pub table-more : (s w : List ℕ) (count : ℕ) (x : Signature) → TYPES + 5 * count + 4 < length w
+    → typeTable (count + 1) s (typeWords s w (TYPES + 5 * count) x) TYPES ≡ typeTable count s w TYPES ++ (signatureOf s x ∷ [])
+table-more s w count x l =
     let c : count + 1 ≡ suc count = omega arith in
-    let i : Inside (TYPES + 5 * count) USES w (typeWords s w (TYPES + 5 * count) x) = type-inside s w (TYPES + 5 * count) x (TYPES + 5 * count) USES (omega arith) (omega arith) in
+    let i = type-inside s w (TYPES + 5 * count) x (TYPES + 5 * count) (TYPES + 5 * count + 5) (omega arith) (omega arith) in
     let a : typeTable count s (typeWords s w (TYPES + 5 * count) x) TYPES ≡ typeTable count s w TYPES = table-kept count s TYPES (TYPES + 5 * count) (omega arith) (i .kept) in
-    record {
-      types = rw (e, c, table-snoc count s (typeWords s w (TYPES + 5 * count) x) TYPES, a, type-written s w (TYPES + 5 * count) x (omega arith));
-      inside = rw e i;
-    }
+    rw (c, table-snoc count s (typeWords s w (TYPES + 5 * count) x) TYPES, a, type-written s w (TYPES + 5 * count) x l)
 
 -- a list is equal to itself
 same-bytes : (bs : List ℕ) → sameBytes bs bs ≡ true
@@ -148,7 +102,7 @@ first-new p (x ∷ xs) y e h = go (p x) (firstAt p xs) (λ d. first-new p xs y d
     go false none f e = let m : length xs + 1 ≡ suc (length xs) = omega arith in rw (f refl, m)
     go false (some n) f e = let z : _≡_ {A = ℕ} 0 1 = cc in absurd (omega arith)
 
-new-number : (ts : List FuncType) (t : FuncType) → typeAt t ts ≡ none → typeAt t (ts ++ (t ∷ [])) ≡ some (length ts)
+pub new-number : (ts : List FuncType) (t : FuncType) → typeAt t ts ≡ none → typeAt t (ts ++ (t ∷ [])) ≡ some (length ts)
 unfolding typeAt sameType
 new-number ts t e = first-new (sameType t) ts t e (rw (same-bytes (t .params), same-bytes (t .results)))
 
@@ -156,35 +110,42 @@ module _ (s w : List ℕ) (count : ℕ) (t : TypeUse) (r : ℕ) (x : Signature) 
   used : typeAt (signature (useOf s t)) (typeTable count s w TYPES) ≡ numberOf q
   used = ap (λ z. typeAt z (typeTable count s w TYPES)) (sym (ap (signatureOf s) of ∙ use-signature s t)) ∙ told
 
-  pub intern-takes : (n : ℕ) → q ≡ T.Number n → count ≤ 256 → Interns s w count t r (I.Number n count) w
+  pub intern-takes : (n : ℕ) → q ≡ T.Number n → Indexed s w count → Interns s w count t r (I.Number n count) w
   unfolding Interns
   intern-takes n d h = record {
     types = rw (used, d);
     number = used ∙ ap numberOf d;
-    few = h;
+    indexed = h;
     inside = inside-same (TYPES + 5 * count) USES w;
   }
 
-  module _ (d : q ≡ T.Nothing) where
-    pub intern-full : (z : Refusal) → 256 ≤ count → z ≡ refusal 12 r → Interns s w count t r (I.Refused z) w
-    unfolding Interns
-    intern-full z h e = record { says = rw (used, d, table-length count s w TYPES, le-leb 256 count h, e); area = refl }
+module _ (s w : List ℕ) (count : ℕ) (t : TypeUse) (r h : ℕ) (fresh : Fresh s w count (ofUse t) h) where
+  unused : typeAt (signature (useOf s t)) (typeTable count s w TYPES) ≡ none
+  unused = ap (λ z. typeAt z (typeTable count s w TYPES)) (sym (use-signature s t)) ∙ fresh .missing
 
-    pub intern-adds : (w′ : List ℕ) → count < 256 → Adds s w count x w′ → Interns s w count t r (I.Number count (count + 1)) w′
-    unfolding Interns
-    intern-adds w′ h a =
-        let e : typeTable (count + 1) s w′ TYPES ≡ typeTable count s w TYPES ++ (signature (useOf s t) ∷ []) =
-        a .types ∙ ap (λ z. typeTable count s w TYPES ++ (z ∷ [])) (ap (signatureOf s) of ∙ use-signature s t) in
-        let n : typeAt (signature (useOf s t)) (typeTable count s w TYPES ++ (signature (useOf s t) ∷ [])) ≡ some count =
-        new-number (typeTable count s w TYPES) (signature (useOf s t)) (used ∙ ap numberOf d) ∙ ap some (table-length count s w TYPES) in
-        record {
-          types = rw (used, d, table-length count s w TYPES, lt-leb 256 count h, e);
-          number = rw e n;
-          few = omega arith;
-          inside = a .inside;
-        }
+  pub intern-full : (z : Refusal) → 256 ≤ count → z ≡ refusal 12 r → Interns s w count t r (I.Refused z) w
+  unfolding Interns
+  intern-full z k e = record { says = rw (unused, table-length count s w TYPES, le-leb 256 count k, e); area = refl }
 
-pub ruleset interns = (intern-takes, intern-full, intern-adds)
+  -- the signature that is added
+  pub use-fresh : (x : Signature) → x ≡ ofUse t → Fresh s w count x h
+  use-fresh x e = rw e fresh
+
+  pub intern-adds : (x : Signature) (w′ : List ℕ) → x ≡ ofUse t → count < 256 → Adds s w count x w′ → Interns s w count t r (I.Number count (count + 1)) w′
+  unfolding Interns
+  intern-adds x w′ of k a =
+      let e : typeTable (count + 1) s w′ TYPES ≡ typeTable count s w TYPES ++ (signature (useOf s t) ∷ []) =
+      a .types ∙ ap (λ z. typeTable count s w TYPES ++ (z ∷ [])) (ap (signatureOf s) of ∙ use-signature s t) in
+      let n : typeAt (signature (useOf s t)) (typeTable count s w TYPES ++ (signature (useOf s t) ∷ [])) ≡ some count =
+      new-number (typeTable count s w TYPES) (signature (useOf s t)) unused ∙ ap some (table-length count s w TYPES) in
+      record {
+        types = rw (unused, table-length count s w TYPES, lt-leb 256 count k, e);
+        number = rw e n;
+        indexed = a .indexed;
+        inside = a .inside;
+      }
+
+pub ruleset interns = (intern-full, intern-adds)
 
 -- ## A type by its number
 

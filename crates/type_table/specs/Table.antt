@@ -1,8 +1,8 @@
 -- What the table of types says. Total, like the tables of names: a list ends where its count does, or at the first type that is not read.
-use Prim.Native.Nat.{ℕ, zero, suc, _+_, _-_, _*_, _≤_, _<_, min}
+use Prim.Native.Nat.{ℕ, zero, suc, _+_, _-_, _*_, _/_, _%_, _≤_, _<_, min}
 use mathlib.Core.Path.{_≡_}
 use mathlib.Core.List.{List, [], _∷_, _++_, map}
-use mathlib.Core.Bool.{Bool, true, false}
+use mathlib.Core.Bool.{Bool, true, false, _&&_}
 use mathlib.Core.Option.{Option, none, some}
 use lib.ListN.{length, getD, set, drop}
 use lib.Dec.{eqb}
@@ -13,18 +13,17 @@ use Rattle.definition.specs.Token.{param, valType}
 use Rattle.definition.specs.Types.{Uses, takeOrAdd, typeAt, typeNumber, sameType, signature}
 use Rattle.syntax.specs.Refusals.{refusedBy}
 use Rattle.syntax.specs.declared.Refusal.{Refusal}
-use Rattle.area.specs.Layout.{TOTAL, TYPES, USES}
+use Rattle.area.specs.Layout.{HASHES, HEADS, LINKS, TOTAL, TYPES, USES}
 use Rattle.syntax.specs.TypeUses.{elements, listOf, useOf}
 use Rattle.syntax.specs.declared.List as Code
 use Rattle.syntax.specs.declared.TypeUse.{TypeUse}
 use Rattle.area.specs.Kept.{Kept}
+use Rattle.type_table.specs.Hash.{BUCKETS, HALF, bucketOf, hashOf}
 use Rattle.type_table.specs.declared.list.NextType.{NextType}
 use Rattle.type_table.specs.declared.list.NextType.the-variants as N
 use Rattle.type_table.specs.declared.list.NextBoth.{NextBoth}
 use Rattle.type_table.specs.declared.list.NextBoth.the-variants as B
 use Rattle.type_table.specs.declared.entry.Signature.{Signature}
-use Rattle.type_table.specs.declared.entry.NextStep.{NextStep}
-use Rattle.type_table.specs.declared.entry.NextStep.the-variants as P
 use Rattle.type_table.specs.declared.table.TypeFound.{TypeFound}
 use Rattle.type_table.specs.declared.table.TypeFound.the-variants as T
 use Rattle.type_table.specs.declared.table.Interned.{Interned}
@@ -71,27 +70,6 @@ pub record Both (s : Bytes) (named : Bool) (a : Code.List) (other : Bool) (b : C
 unfoldable pub signatureOf : Bytes → Signature → FuncType
 signatureOf s x = record { params = typesOf (x .named) s (x .params); results = typesOf false s (x .results) }
 
--- how many types it has at most
-abbrev pub size : Signature → ℕ
-size x = x .params .count + x .results .count
-
--- whether two signatures are equal, after their next types were compared
-abbrev pub stepSame : Bytes → NextStep → Bool
-stepSame s (P.Same a b) = sameType (signatureOf s a) (signatureOf s b)
-stepSame s P.Differ = false
-stepSame s P.End = true
-
--- fewer types are left than so many
-abbrev pub StepFewer : NextStep → ℕ → Type 0
-StepFewer (P.Same a b) n = size a < n
-StepFewer P.Differ n = Unit {0}
-StepFewer P.End n = Unit {0}
-
--- two signatures, one type further in step
-pub record Steps (s : Bytes) (a b : Signature) (r : NextStep) : Type 0 where
-  pub same : sameType (signatureOf s a) (signatureOf s b) ≡ stepSame s r
-  pub fewer : StepFewer r (size a)
-
 -- identifiers stand before the parameters of a use
 abbrev pub ofUse : TypeUse → Signature
 ofUse t = record { named = true; params = t .params; results = t .results }
@@ -122,6 +100,35 @@ abbrev pub agreeing : FuncType → Option FuncType → Agreement
 agreeing t none = A.NoType
 agreeing t (some u) = if sameType t u then A.Same else A.Differs
 
+-- ## The index over the table
+
+-- A link is the number of a type and one more, or 0. The chain of a bucket begins with the link at its head; of equal types only the
+-- first stands in a chain.
+
+-- how a chain goes on after a type: with an earlier one, whatever the word says
+abbrev pub linkAfter : List ℕ → ℕ → ℕ
+linkAfter w n = min (getD w (LINKS + n) 0) n
+
+-- a type has a hash, by its two words
+unfoldable pub hashIs : List ℕ → ℕ → ℕ → Bool
+hashIs w n h = eqb (getD w (HASHES + 2 * n) 0) (h % HALF) && eqb (getD w (HASHES + 2 * n + 1) 0) (h / HALF)
+
+-- a type is equal to a signature, and has its hash
+unfoldable pub isType : Bytes → List ℕ → FuncType → ℕ → Bool
+isType s w x n = hashIs w n (hashOf x) && sameType x (signatureOf s (entryIn w (TYPES + 5 * n)))
+
+-- the type that is found on a chain of the first `k` types, which begins with a link
+unfoldable pub onChain : ℕ → Bytes → List ℕ → FuncType → ℕ → Option ℕ
+onChain zero s w x link = none
+onChain (suc k) s w x link =
+    if eqb link (suc k) then (if isType s w x k then some k else onChain k s w x (linkAfter w k)) else onChain k s w x link
+
+-- the index is true of `count` types: what is found on a signature's chain is the first equal type
+pub record Indexed (s : Bytes) (w : List ℕ) (count : ℕ) : Type 0 where
+  pub few : count ≤ 256
+  pub low : (b : ℕ) → b < BUCKETS → getD w (HEADS + b) 0 ≤ count
+  pub each : (x : FuncType) → typeAt x (typeTable count s w TYPES) ≡ onChain count s w x (getD w (HEADS + bucketOf (hashOf x)) 0)
+
 -- ## One more type
 
 abbrev pub flagOf : Bool → ℕ
@@ -134,14 +141,33 @@ listWords s w at l = set (set w at (min (l .at) (length s))) (at + 1) (l .count)
 unfoldable pub typeWords : Bytes → List ℕ → ℕ → Signature → List ℕ
 typeWords s w at x = listWords s (listWords s (set w at (flagOf (x .named))) (at + 1) (x .params)) (at + 3) (x .results)
 
+unfoldable pub hashWords : List ℕ → ℕ → ℕ → List ℕ
+hashWords w n h = set (set w (HASHES + 2 * n) (h % HALF)) (HASHES + 2 * n + 1) (h / HALF)
+
+-- a type stands before the others of its bucket
+unfoldable pub chainWords : List ℕ → ℕ → ℕ → List ℕ
+chainWords w n h = set (set w (LINKS + n) (getD w (HEADS + bucketOf h) 0)) (HEADS + bucketOf h) (n + 1)
+
 -- of `w` was made `w′`, and only the words from `low` up to `high` may differ
 pub record Inside (low high : ℕ) (w w′ : List ℕ) : Type 0 where
   pub kept : Kept low w w′
   pub above : drop high w′ ≡ drop high w
 
+-- no bucket has a type
+pub record Emptied (w w′ : List ℕ) : Type 0 where
+  pub none : (b : ℕ) → b < BUCKETS → getD w′ (HEADS + b) 0 ≡ 0
+  pub inside : Inside HEADS USES w w′
+
+-- a signature that is equal to none of `count` types, and its hash
+pub record Fresh (s : Bytes) (w : List ℕ) (count : ℕ) (x : Signature) (h : ℕ) : Type 0 where
+  pub indexed : Indexed s w count
+  pub hash : h ≡ hashOf (signatureOf s x)
+  pub missing : typeAt (signatureOf s x) (typeTable count s w TYPES) ≡ none
+
 -- a signature was added to `count` types
 pub record Adds (s : Bytes) (w : List ℕ) (count : ℕ) (x : Signature) (w′ : List ℕ) : Type 0 where
   pub types : typeTable (count + 1) s w′ TYPES ≡ typeTable count s w TYPES ++ (signatureOf s x ∷ [])
+  pub indexed : Indexed s w′ (count + 1)
   pub inside : Inside (TYPES + 5 * count) USES w w′
 
 -- what the definition makes of one more use
@@ -152,7 +178,7 @@ interning s w count t r = takeOrAdd r (signature (useOf s t)) (typeTable count s
 pub record Taken (s : Bytes) (w : List ℕ) (count : ℕ) (t : TypeUse) (r n k : ℕ) (w′ : List ℕ) : Type 0 where
   pub types : interning s w count t r ≡ ok (typeTable k s w′ TYPES)
   pub number : typeAt (signature (useOf s t)) (typeTable k s w′ TYPES) ≡ some n
-  pub few : k ≤ 256
+  pub indexed : Indexed s w′ k
   pub inside : Inside (TYPES + 5 * count) USES w w′
 
 -- it was refused, and the work area is as it was

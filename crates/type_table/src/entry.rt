@@ -1,6 +1,4 @@
 // One type of the table.
-use crate::list::NextBoth;
-use crate::list::next_both;
 use crate::list::same_list;
 use syntax::List;
 use syntax::TypeUse;
@@ -10,7 +8,7 @@ ghost use Prim.Native.Nat.{_+_, _≤_, _<_};
 ghost use lib.ListN.{length, set};
 ghost use Rattle.area.specs.Layout.{BYTES};
 ghost use Rattle.definition.specs.Types as Types;
-ghost use Rattle.type_table.specs.Table.{ofUse, signatureOf, listIn, entryIn, listWords, typeWords, flagOf, Steps};
+ghost use Rattle.type_table.specs.Table.{ofUse, signatureOf, listIn, entryIn, listWords, typeWords, flagOf};
 
 // Where the two lists of a type stand in the stream, and whether identifiers stand before the parameters.
 pub struct Signature {
@@ -29,56 +27,6 @@ pub fn of_use(t: TypeUse) -> Signature
         named: true,
         params,
         results,
-    }
-}
-
-// What is left of two signatures after their next types, where these are the same.
-pub enum NextStep {
-    Same(Signature, Signature),
-    Differ,
-    End,
-}
-
-// Two signatures, one type further in step: over the parameters, and then over the results.
-pub fn next_step(s: &[u8], a: Signature, b: Signature) -> NextStep
-    ensures { λ r. ⌜ Steps (now (s .entry)) a b r ⌝ }
-{
-    let params = a.params;
-    let results = a.results;
-    let other_params = b.params;
-    let other_results = b.results;
-    match next_both(s, a.named, params, b.named, other_params) {
-        NextBoth::Same(p, q) => {
-            let first = Signature {
-                named: a.named,
-                params: p,
-                results,
-            };
-            let second = Signature {
-                named: b.named,
-                params: q,
-                results: other_results,
-            };
-            NextStep::Same(first, second)
-        }
-        NextBoth::Differ => NextStep::Differ,
-        NextBoth::End => match next_both(s, false, results, false, other_results) {
-            NextBoth::Same(p, q) => {
-                let first = Signature {
-                    named: a.named,
-                    params,
-                    results: p,
-                };
-                let second = Signature {
-                    named: b.named,
-                    params: other_params,
-                    results: q,
-                };
-                NextStep::Same(first, second)
-            }
-            NextBoth::Differ => NextStep::Differ,
-            NextBoth::End => NextStep::End,
-        },
     }
 }
 

@@ -18,7 +18,7 @@ pub enum NextType {
 }
 
 // The next of the types that are left; the list ends where none is read.
-fn next_type(s: &[u8], at: usize, left: u32, named: bool) -> NextType
+pub fn next_type(s: &[u8], at: usize, left: u32, named: bool) -> NextType
     ensures { λ r. ⌜ elements (typed named) (now (s .entry)) at left ≡ typesNext named left (now (s .entry)) r ⌝ }
 {
     if left == 0 {

@@ -1,11 +1,18 @@
 // The table of types: 256 at most, from `TYPES` on; the word `TOTAL` says how many.
-use crate::entry::NextStep;
 use crate::entry::Signature;
-use crate::entry::next_step;
 use crate::entry::of_use;
 use crate::entry::put_type;
 use crate::entry::same_type;
 use crate::entry::type_at;
+use crate::index::first_link;
+use crate::index::has_hash;
+use crate::index::hash_of;
+use crate::index::link_after;
+use crate::index::put_hash;
+use crate::index::put_link;
+use crate::list::NextBoth;
+use crate::list::next_both;
+use crate::list::same_list;
 use syntax::Refusal;
 use syntax::TypeUse;
 ghost use mathlib.Core.Path.{_≡_};
@@ -16,40 +23,80 @@ ghost use Rattle.definition.specs.Basic as Basic;
 ghost use Rattle.definition.specs.Types as Types;
 ghost use Rattle.definition.specs.Names as Names;
 ghost use Rattle.syntax.specs.TypeUses.{useOf};
-ghost use Rattle.type_table.specs.Table.{signatureOf, typeTable, typesIn, numberOf, agreeing, Adds, Interns};
+ghost use Rattle.type_table.specs.Hash.{hashOf};
+ghost use Rattle.type_table.specs.Table.{ofUse, signatureOf, typeTable, typesIn, numberOf, agreeing, typeWords, Indexed, Fresh, Adds, Interns};
 
 pub enum TypeFound {
     Number(u32),
     Nothing,
 }
 
-// The first of count types that is equal to a signature: each is walked in step with it, and left at the first difference.
-pub fn find_type(s: &[u8], work: &[u32], count: u32, x: Signature) -> TypeFound
-    requires { ⌜ TYPES + 5 * count ≤ length (now work) ⌝ }
+// The first of count types that is equal to a signature with this hash: each on the hash's chain that has the hash is walked in step with
+// the signature, over the parameters and then over the results, and left at the first difference.
+pub fn find_type(s: &[u8], work: &[u32], count: u32, x: Signature, h: u64) -> TypeFound
+    requires { ⌜ (USES ≤ length (now work)) × Indexed (now s) (now work) count × (h ≡ hashOf (signatureOf (now s) x)) ⌝ }
     ensures { λ r. ⌜ Types.typeAt (signatureOf (now (s .entry)) x) (typeTable count (now (s .entry)) (now (work .entry)) TYPES) ≡ numberOf r ⌝ }
 {
-    let mut k: u32 = 0;
-    'types: while k < count {
-        let this = k;
-        k += 1;
-        let mut a = x;
-        let mut b = type_at(work, area::TYPES + 5 * (this as usize));
+    let mut link = first_link(work, h);
+    'types: while 0 < link {
+        let this = link - 1;
+        link = link_after(work, this);
+        if !has_hash(work, this, h) {
+            continue 'types;
+        }
+        let y = type_at(work, area::TYPES + 5 * (this as usize));
+        let mut a = x.params;
+        let mut b = y.params;
         loop {
-            match next_step(s, a, b) {
-                NextStep::Same(p, q) => {
+            match next_both(s, x.named, a, y.named, b) {
+                NextBoth::Same(p, q) => {
                     a = p;
                     b = q;
                 }
-                NextStep::Differ => {
+                NextBoth::Differ => {
                     continue 'types;
                 }
-                NextStep::End => {
-                    return TypeFound::Number(this);
+                NextBoth::End => {
+                    if same_list(s, false, x.results, false, y.results) {
+                        return TypeFound::Number(this);
+                    }
+                    continue 'types;
                 }
             }
         }
     }
     TypeFound::Nothing
+}
+
+// A signature's words after those of count types.
+fn put_entry(s: &[u8], work: &mut [u32], count: u32, x: Signature)
+    requires { ⌜ (length (now s) ≤ BYTES) × (count < 256) × (USES ≤ length (now work)) ⌝ }
+    ensures { λ _. ⌜ now (work .exit) ≡ typeWords (now (s .entry)) (now (work .entry)) (TYPES + 5 * count) x ⌝ }
+{
+    let at = area::TYPES + 5 * (count as usize);
+    put_type(s, work, at, x);
+}
+
+// A signature that is equal to none is added at the end, and to the index.
+fn add_type(s: &[u8], work: &mut [u32], count: u32, x: Signature, h: u64)
+    requires { ⌜ (length (now s) ≤ BYTES) × (count < 256) × (USES ≤ length (now work)) × Fresh (now s) (now work) count x h ⌝ }
+    ensures { λ _. ⌜ Adds (now (s .entry)) (now (work .entry)) count x (now (work .exit)) ⌝ }
+{
+    put_entry(s, work, count, x);
+    put_hash(work, count, h);
+    put_link(work, count, h);
+}
+
+// A declared type stands at the end; one that is equal to an earlier one is not put into the index.
+pub fn declare_type(s: &[u8], work: &mut [u32], count: u32, x: Signature)
+    requires { ⌜ (length (now s) ≤ BYTES) × (count < 256) × (USES ≤ length (now work)) × Indexed (now s) (now work) count ⌝ }
+    ensures { λ _. ⌜ Adds (now (s .entry)) (now (work .entry)) count x (now (work .exit)) ⌝ }
+{
+    let h = hash_of(s, x);
+    match find_type(s, work, count, x, h) {
+        TypeFound::Number(_) => put_entry(s, work, count, x),
+        TypeFound::Nothing => add_type(s, work, count, x, h),
+    }
 }
 
 // The number of a use's type and how many types there are now, or a refusal's number and record.
@@ -58,30 +105,28 @@ pub enum Interned {
     Refused(Refusal),
 }
 
-// A signature is added at the end.
-pub fn add_type(s: &[u8], work: &mut [u32], count: u32, x: Signature)
-    requires { ⌜ (length (now s) ≤ BYTES) × (count < 256) × (USES ≤ length (now work)) ⌝ }
-    ensures { λ _. ⌜ Adds (now (s .entry)) (now (work .entry)) count x (now (work .exit)) ⌝ }
+// A use that no type is equal to adds one at the end.
+fn add_use(s: &[u8], work: &mut [u32], count: u32, t: TypeUse, h: u64, rec: u32) -> Interned
+    requires { ⌜ (length (now s) ≤ BYTES) × (USES ≤ length (now work)) × Fresh (now s) (now work) count (ofUse t) h ⌝ }
+    ensures { λ r. ⌜ Interns (now (s .entry)) (now (work .entry)) count t rec r (now (work .exit)) ⌝ }
 {
-    let at = area::TYPES + 5 * (count as usize);
-    put_type(s, work, at, x);
+    if 256 <= count {
+        return Interned::Refused(syntax::refusal_at(12, rec));
+    }
+    add_type(s, work, count, of_use(t), h);
+    Interned::Number(count, count + 1)
 }
 
 // A use takes the first equal signature, or adds one at the end.
 pub fn intern_use(s: &[u8], work: &mut [u32], count: u32, t: TypeUse, rec: u32) -> Interned
-    requires { ⌜ (length (now s) ≤ BYTES) × (USES ≤ length (now work)) × (count ≤ 256) ⌝ }
+    requires { ⌜ (length (now s) ≤ BYTES) × (USES ≤ length (now work)) × Indexed (now s) (now work) count ⌝ }
     ensures { λ r. ⌜ Interns (now (s .entry)) (now (work .entry)) count t rec r (now (work .exit)) ⌝ }
 {
     let x = of_use(t);
-    match find_type(s, work, count, x) {
+    let h = hash_of(s, x);
+    match find_type(s, work, count, x, h) {
         TypeFound::Number(n) => Interned::Number(n, count),
-        TypeFound::Nothing => {
-            if 256 <= count {
-                return Interned::Refused(syntax::refusal_at(12, rec));
-            }
-            add_type(s, work, count, x);
-            Interned::Number(count, count + 1)
-        }
+        TypeFound::Nothing => add_use(s, work, count, t, h, rec),
     }
 }
 

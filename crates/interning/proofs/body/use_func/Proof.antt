@@ -1,4 +1,4 @@
-use Rattle.interning.proofs.Handled.{handles-few}
+use Rattle.interning.proofs.Handled.{handles-indexed}
 use Rattle.interning.proofs.Bodies.{func-body, func-skips, func-refused}
 use borrow.Author.Needs.{needs}
 use Rattle.interning.proofs.body.use_func.Statement.{statement}
@@ -17,7 +17,7 @@ add-use-body : tie.Need-add-use-body
 add-use-body c = search needs
 
 use-body-requires : tie.Need-use-body-requires
-use-body-requires c κs = search (handles-few, needs)
+use-body-requires c κs = search (handles-indexed, needs)
 
 same-length : tie.Need-same-length
 same-length c = search needs

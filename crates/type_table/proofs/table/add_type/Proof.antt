@@ -1,22 +1,23 @@
-use Rattle.type_table.proofs.Types.{add-type}
+use Rattle.type_table.proofs.Chains.{add-new}
 use borrow.Author.Needs.{needs}
 use Rattle.type_table.proofs.table.add_type.Statement.{statement}
 use Rattle.type_table.proofs.table.add_type.Tie as tie
 
-mul-at : tie.Need-mul-at
-mul-at c = search needs
+put-entry-requires : tie.Need-put-entry-requires
+put-entry-requires c κs = search needs
 
-add-at : tie.Need-add-at
-add-at c = search needs
+put-hash-requires : tie.Need-put-hash-requires
+put-hash-requires c κs = search needs
 
-put-type-requires : tie.Need-put-type-requires
-put-type-requires c κs = search needs
+put-link-requires : tie.Need-put-link-requires
+put-link-requires c κs = search needs
 
 same-length : tie.Need-same-length
 same-length c = search needs
 
 returns : tie.Need-returns
-returns c = search (add-type) depth 8
+returns c = search add-new
 
 pub add-type-spec : {M : Type 1} → statement M
-add-type-spec = tie.close (tie.spec mul-at add-at put-type-requires same-length returns)
+add-type-spec =
+    tie.close (tie.spec put-entry-requires put-hash-requires put-link-requires same-length returns)

@@ -1,0 +1,65 @@
+-- Plain mathematics of hashes: their steps fit, and a list is hashed type by type.
+use Prim.Native.Nat.{ℕ, _+_, _-_, _*_, _/_, _%_, _≤_, _<_}
+use mathlib.Core.Path.{_≡_, refl, sym, _∙_, ap}
+use mathlib.Core.Bool.{Bool, false}
+use mathlib.Core.List.{List}
+use mir.Syntax.{w64}
+use mir.Val.{Fits}
+use native.Mathlib.Nat.{mul-le-mul-right}
+use native.Mathlib.Omega.{arith}
+use Rattle.definition.specs.Syntax.{Bytes, ValType}
+use Rattle.syntax.specs.TypeUses.{elements}
+use Rattle.syntax.specs.declared.List as Code
+use Rattle.type_table.specs.Hash.{HALF, START, crossed, mixed, hashFrom, hashOf}
+use Rattle.type_table.specs.Table.{typesOf, typed, typesNext, signatureOf}
+use Rattle.type_table.specs.declared.list.NextType.{NextType}
+use Rattle.type_table.specs.declared.list.NextType.the-variants as N
+use Rattle.type_table.specs.declared.entry.Signature.{Signature}
+use Rattle.type_table.proofs.Lists.{types-are}
+
+-- ## One type
+
+-- two halves make no more than a hash
+crossed-most : (a b : ℕ) → a < HALF → b < HALF → crossed a b < HALF * HALF
+crossed-most a b h k = let m : a * b ≤ 4294967295 * b = mul-le-mul-right b (omega arith) in omega arith
+
+pub product-fits : (x y : ℕ) → Fits w64 (x % HALF * (y % HALF))
+product-fits x y = let m = crossed-most (x % HALF) (y % HALF) (omega arith) (omega arith) in record { fits = omega arith }
+
+pub product-one-fits : (x y : ℕ) → Fits w64 (x % HALF * (y % HALF) + x % HALF)
+product-one-fits x y = let m = crossed-most (x % HALF) (y % HALF) (omega arith) (omega arith) in record { fits = omega arith }
+
+pub product-both-fits : (x y : ℕ) → Fits w64 (x % HALF * (y % HALF) + x % HALF + y % HALF)
+product-both-fits x y = let m = crossed-most (x % HALF) (y % HALF) (omega arith) (omega arith) in record { fits = omega arith }
+
+pub ruleset products = (product-fits, product-one-fits, product-both-fits)
+
+-- ## A list
+
+-- what is left is hashed after what was
+pub record Hashing (s : Bytes) (named : Bool) (start a c at left h : ℕ) : Type 0 where
+  pub same : hashFrom start (elements (typed named) s a c) ≡ hashFrom h (elements (typed named) s at left)
+
+pub hash-begin : (s : Bytes) (named : Bool) (start a c : ℕ) → Hashing s named start a c a c start
+hash-begin s named start a c = record { same = refl }
+
+module _ (s : Bytes) (named : Bool) (start a c at left h : ℕ) (v : Hashing s named start a c at left h)
+    (r : NextType) (told : elements (typed named) s at left ≡ typesNext named left s r) where
+  pub hash-again : (t q h′ : ℕ) → r ≡ N.Type t q → h′ ≡ mixed h t → Hashing s named start a c q (left - 1) h′
+  unfolding hashFrom
+  hash-again t q h′ d e = record { same = v .same ∙ ap (hashFrom h) (told ∙ ap (typesNext named left s) d) ∙ rw e }
+
+  hash-end : r ≡ N.End → h ≡ hashFrom start (elements (typed named) s a c)
+  unfolding hashFrom
+  hash-end d = sym (v .same ∙ ap (hashFrom h) (told ∙ ap (typesNext named left s) d))
+
+pub hash-done : (s : Bytes) (named : Bool) (start : ℕ) (l : Code.List) (at left h : ℕ) → Hashing s named start (l .at) (l .count) at left h
+    → (r : NextType) → elements (typed named) s at left ≡ typesNext named left s r → r ≡ N.End → h ≡ hashFrom start (typesOf named s l)
+hash-done s named start l at left h v r told d = hash-end s named start (l .at) (l .count) at left h v r told d ∙ ap (hashFrom start) (sym (types-are named s l))
+
+-- ## A signature
+
+pub hash-signature : (s : Bytes) (x : Signature) (h m r : ℕ) → h ≡ hashFrom START (typesOf (x .named) s (x .params)) → m ≡ mixed h 0
+    → r ≡ hashFrom m (typesOf false s (x .results)) → r ≡ hashOf (signatureOf s x)
+unfolding hashOf signatureOf
+hash-signature s x h m r d e f = f ∙ rw (e, d)

@@ -1,0 +1,155 @@
+// The index over the types: for each bucket of hashes a chain of the types that have such a hash, the last one first. A link is the number
+// of a type and one more, or 0. Of equal types only the first stands in a chain, so what is found there is the first.
+use crate::entry::Signature;
+use crate::list::NextType;
+use crate::list::next_type;
+use syntax::List;
+ghost use mathlib.Core.Path.{_≡_};
+ghost use Prim.Native.Nat.{_+_, _/_, _%_, _≤_, _<_};
+ghost use lib.ListN.{length, getD, set};
+ghost use Rattle.area.specs.Layout.{HEADS, USES};
+ghost use Rattle.type_table.specs.Hash.{HALF, bucketOf, hashFrom, hashOf, mixed};
+ghost use Rattle.type_table.specs.Table.{typesOf, signatureOf, linkAfter, hashIs, hashWords, chainWords, Emptied};
+
+const BUCKETS: u64 = 256;
+
+// A hash has two halves, each below this.
+const HALF: u64 = 0x1_0000_0000;
+
+// What a hash begins with; what a type is spread by; what is added to the other half.
+const START: u64 = 11400714819323198485;
+
+const SPREAD: u64 = 10368889;
+
+const OTHER: u64 = 2654435769;
+
+// One type more: one half takes it, the other a number, and their product is the next hash.
+fn mix(h: u64, t: u8) -> u64
+    ensures { λ r. ⌜ r ≡ mixed h t ⌝ }
+{
+    let a = (h % HALF + (t as u64) * SPREAD) % HALF;
+    let b = (h / HALF + OTHER) % HALF;
+    a * b + a + b
+}
+
+// The value types of a list, after a hash.
+fn hash_list(s: &[u8], named: bool, l: List, start: u64) -> u64
+    ensures { λ r. ⌜ r ≡ hashFrom start (typesOf named (now (s .entry)) l) ⌝ }
+{
+    let mut at = l.at;
+    let mut left = l.count;
+    let mut h = start;
+    loop {
+        match next_type(s, at, left, named) {
+            NextType::Type(t, next) => {
+                h = mix(h, t);
+                at = next;
+                left -= 1;
+            }
+            NextType::End => {
+                return h;
+            }
+        }
+    }
+}
+
+// The hash of a signature: of its value types alone.
+pub fn hash_of(s: &[u8], x: Signature) -> u64
+    ensures { λ r. ⌜ r ≡ hashOf (signatureOf (now (s .entry)) x) ⌝ }
+{
+    let h = hash_list(s, x.named, x.params, START);
+    hash_list(s, false, x.results, mix(h, 0))
+}
+
+// Where the chain of a hash begins.
+fn head_place(h: u64) -> usize
+    ensures { λ r. ⌜ r ≡ HEADS + bucketOf h ⌝ }
+{
+    area::HEADS + ((h / HALF % BUCKETS) as usize)
+}
+
+// The first link of a hash's chain.
+pub fn first_link(work: &[u32], h: u64) -> u32
+    requires { ⌜ USES ≤ length (now work) ⌝ }
+    ensures { λ r. ⌜ r ≡ getD (now (work .entry)) (HEADS + bucketOf h) 0 ⌝ }
+{
+    work[head_place(h)]
+}
+
+// The link after a type: to an earlier one, whatever the word says.
+pub fn link_after(work: &[u32], n: u32) -> u32
+    requires { ⌜ (n < 256) × (USES ≤ length (now work)) ⌝ }
+    ensures { λ r. ⌜ r ≡ linkAfter (now (work .entry)) n ⌝ }
+{
+    let link = work[area::LINKS + (n as usize)];
+    if link < n {
+        return link;
+    }
+    n
+}
+
+// The two halves of a hash, a word each.
+fn low_half(h: u64) -> u32
+    ensures { λ r. ⌜ r ≡ h % HALF ⌝ }
+{
+    (h % HALF) as u32
+}
+
+fn high_half(h: u64) -> u32
+    ensures { λ r. ⌜ r ≡ h / HALF ⌝ }
+{
+    (h / HALF) as u32
+}
+
+// Does a type have a hash?
+pub fn has_hash(work: &[u32], n: u32, h: u64) -> bool
+    requires { ⌜ (n < 256) × (USES ≤ length (now work)) ⌝ }
+    ensures { λ r. ⌜ r ≡ hashIs (now (work .entry)) n h ⌝ }
+{
+    let at = area::HASHES + 2 * (n as usize);
+    if work[at] != low_half(h) {
+        return false;
+    }
+    work[at + 1] == high_half(h)
+}
+
+// Two words are written.
+fn put_words(work: &mut [u32], at: usize, a: u32, b: u32)
+    requires { ⌜ at + 1 < length (now work) ⌝ }
+    ensures { λ _. ⌜ now (work .exit) ≡ set (set (now (work .entry)) at a) (at + 1) b ⌝ }
+{
+    work[at] = a;
+    work[at + 1] = b;
+}
+
+// The hash of a type is written.
+pub fn put_hash(work: &mut [u32], n: u32, h: u64)
+    requires { ⌜ (n < 256) × (USES ≤ length (now work)) ⌝ }
+    ensures { λ _. ⌜ now (work .exit) ≡ hashWords (now (work .entry)) n h ⌝ }
+{
+    let low = low_half(h);
+    let high = high_half(h);
+    put_words(work, area::HASHES + 2 * (n as usize), low, high);
+}
+
+// A type is put before the others of its bucket.
+pub fn put_link(work: &mut [u32], n: u32, h: u64)
+    requires { ⌜ (n < 256) × (USES ≤ length (now work)) ⌝ }
+    ensures { λ _. ⌜ now (work .exit) ≡ chainWords (now (work .entry)) n h ⌝ }
+{
+    let head = head_place(h);
+    work[area::LINKS + (n as usize)] = work[head];
+    work[head] = n + 1;
+}
+
+// No bucket has a type.
+pub fn clear_index(work: &mut [u32])
+    requires { ⌜ USES ≤ length (now work) ⌝ }
+    ensures { λ _. ⌜ Emptied (now (work .entry)) (now (work .exit)) ⌝ }
+{
+    let mut i = 0;
+    while i < 256 {
+        work[area::HEADS + i] = 0;
+        i += 1;
+    }
+}
