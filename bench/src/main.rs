@@ -3,6 +3,7 @@
 //!   bench JOB [ROUNDS]              all rivals agree on all inputs; ns per byte of each
 //!   bench JOB --batch plain|proved  reads streams in the batch form (tools/models/batch.rs),
 //!                                   and prints a line for each
+//!   bench morning [ROUNDS]          document 02's morning run: microseconds for a stream of each
 //!   bench --streams SIZE            the streams of a size in that form, for oracle --time
 //!
 //! JOB is `reading` (the reading pass alone) or `assembling` (the whole call).
@@ -12,6 +13,7 @@
 //! between calls.
 #[path = "../../tools/models/batch.rs"]
 mod batch;
+mod morning;
 mod plain;
 #[cfg(feature = "proved")]
 mod proved;
@@ -32,6 +34,8 @@ const ALL: usize = 320 * 1_024;
 /// Damaged streams of one size, beside the whole ones.
 const DAMAGED: usize = 4_000;
 const ROUNDS: usize = 200;
+/// Rounds of the morning run, whose streams are many.
+const MORNINGS: usize = 20;
 
 type Rivals = Vec<(&'static str, Box<dyn Rival>)>;
 
@@ -135,8 +139,37 @@ fn measure(rivals: &mut Rivals, rounds: usize) {
     }
 }
 
+/// The morning run: all rivals give the same modules; of each stream the best
+/// round counts.
+fn measure_morning(rivals: &mut Rivals, rounds: usize) {
+    let streams: Vec<Vec<u8>> = (1..=morning::STREAMS as u64).map(morning::stream).collect();
+    for stream in &streams {
+        let lines: Vec<String> = rivals.iter_mut().map(|(_, rival)| line(&mut **rival, stream)).collect();
+        assert!(lines[0].starts_with("ok") && lines.iter().all(|line| *line == lines[0]), "the rivals differ");
+    }
+    let mut best = vec![vec![Duration::MAX; streams.len()]; rivals.len()];
+    for _ in 0..rounds {
+        for ((_, rival), best) in rivals.iter_mut().zip(&mut best) {
+            round(&mut **rival, &streams, best);
+        }
+    }
+    let bytes: usize = streams.iter().map(Vec::len).sum();
+    print!("{} streams of {} bytes", streams.len(), bytes / streams.len());
+    let times: Vec<f64> =
+        best.iter().map(|best| best.iter().sum::<Duration>().as_nanos() as f64 / streams.len() as f64).collect();
+    for ((name, _), time) in rivals.iter().zip(&times) {
+        print!(", {name} {:.1} us", time / 1e3);
+    }
+    match times[..] {
+        [list, map, plain, proved] => println!(
+            ", ratio to list {:.2}, to map {:.2}, to plain {:.2}", proved / list, proved / map, proved / plain
+        ),
+        _ => println!(),
+    }
+}
+
 fn usage() -> ! {
-    eprintln!("usage: bench reading|assembling [ROUNDS | --batch plain|proved], or bench --streams SIZE");
+    eprintln!("usage: bench reading|assembling [ROUNDS | --batch plain|proved], bench morning [ROUNDS], or bench --streams SIZE");
     eprintln!("`proved` needs the feature of that name");
     std::process::exit(2);
 }
@@ -155,6 +188,8 @@ fn main() -> std::io::Result<()> {
             Some((_, rival)) => return answer(&mut **rival),
             None => usage(),
         },
+        [] if *job == "morning" => measure_morning(&mut rivals, MORNINGS),
+        [rounds] if *job == "morning" => measure_morning(&mut rivals, rounds.parse().unwrap_or_else(|_| usage())),
         [] => measure(&mut rivals, ROUNDS),
         [rounds] => measure(&mut rivals, rounds.parse().unwrap_or_else(|_| usage())),
         _ => usage(),

@@ -3,7 +3,8 @@
 #[cfg(feature = "proved")]
 use crate::proved;
 use crate::reader::Refusal;
-use crate::{plain, reading};
+use crate::{morning, plain, reading};
+use std::marker::PhantomData;
 
 /// Bytes of output that an assembler is lent.
 const ROOM: usize = 65_536;
@@ -40,6 +41,29 @@ struct PlainAssembler {
 impl Rival for PlainAssembler {
     fn call(&mut self, stream: &[u8]) -> Result<u32, Refusal> {
         self.module = plain::assemble(stream, ROOM)?;
+        Ok(self.module.len() as u32)
+    }
+
+    fn output(&self) -> &[u8] {
+        &self.module
+    }
+}
+
+/// One of the two that are written for the morning run.
+struct Morning<T> {
+    module: Vec<u8>,
+    types: PhantomData<T>,
+}
+
+impl<T: morning::Types> Morning<T> {
+    fn new() -> Box<Self> {
+        Box::new(Morning { module: Vec::new(), types: PhantomData })
+    }
+}
+
+impl<T: morning::Types> Rival for Morning<T> {
+    fn call(&mut self, stream: &[u8]) -> Result<u32, Refusal> {
+        self.module = morning::assemble::<T>(stream)?;
         Ok(self.module.len() as u32)
     }
 
@@ -94,6 +118,16 @@ pub fn rivals(job: &str) -> Vec<(&'static str, Box<dyn Rival>)> {
             list.push(("proved", Box::new(ProvedReading { work: vec![0; WORK] })));
         }
         "assembling" => {
+            list.push(("plain", Box::new(PlainAssembler::default())));
+            #[cfg(feature = "proved")]
+            list.push((
+                "proved",
+                Box::new(ProvedAssembler { work: vec![0; WORK], out: vec![0; ROOM], written: 0 }),
+            ));
+        }
+        "morning" => {
+            list.push(("list", Morning::<morning::List>::new() as Box<dyn Rival>));
+            list.push(("map", Morning::<morning::Map>::new()));
             list.push(("plain", Box::new(PlainAssembler::default())));
             #[cfg(feature = "proved")]
             list.push((
