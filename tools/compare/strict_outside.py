@@ -10,8 +10,8 @@ must agree, and has wasm-validate (wabt 1.0.32) look at what the plain call writ
     has no message of an index that is out of range; others, such as of types that
     do not fit, it may have;
   - what the strict call refuses 20 and the plain call writes, wasm-validate
-    refuses, by such a message, or seldom by another fault of the same body alone;
-    these are counted, and more than one in a hundred is wrong;
+    refuses, by such a message, or seldom by messages of other faults alone; these
+    are counted, and more than one in a hundred is wrong;
   - any other answer of the strict call is the plain call's.
 A line for each sort of use shows how often it was accepted and how often it was
 the one that was refused 20, by a number and where the index is absent. One
