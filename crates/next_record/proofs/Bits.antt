@@ -13,7 +13,9 @@ use native.Mathlib.Numerals.{add-one}
 use Rattle.definition.specs.Instructions.{mayElse, elsed}
 use Rattle.syntax.specs.Marks.{bitsOf, marksIn, insideOf}
 use Rattle.syntax.specs.declared.Marks.{Marks}
-use Rattle.next_record.specs.Marks.{Opened, Elsed, Ended}
+use Rattle.definition.specs.Basic.{if_then_else_}
+use Rattle.next_record.specs.declared.marks.Innermost.{Innermost}
+use Rattle.next_record.specs.Marks.{markOf, innermostOf, Opened, Elsed, Ended}
 
 pub marks-length : (k n : ℕ) → length (marksIn k n) ≡ k
 unfolding marksIn
@@ -41,12 +43,25 @@ pub else-outside : (m : Marks) (d : ℕ) → d < 2 → false ≡ mayElse (inside
 unfolding insideOf marksIn mayElse
 else-outside m d h = let e : d - 1 ≡ 0 = omega arith in rw e
 
-pub else-lowest : (m : Marks) (d : ℕ) → 2 ≤ d → eqb (m .low % 2) 1 ≡ mayElse (insideOf (d - 1) m .blocks)
-unfolding insideOf marksIn mayElse
-else-lowest m d h =
-    let e : d - 1 ≡ suc (d - 2) = omega arith in
+bit : (b : Bool) → b ≡ eqb (((if b then 1 else 0) + 2 ^ 64 * 0) % 2) 1
+bit true = refl
+bit false = refl
+
+pub else-innermost : (i : Innermost) (d : ℕ) → 2 ≤ d → i .may ≡ mayElse (insideOf (d - 1) (markOf i) .blocks)
+unfolding insideOf marksIn mayElse markOf
+else-innermost i d h = let e : d - 1 ≡ suc (d - 2) = omega arith in rw e (bit (i .may))
+
+pub innermost-is : (m : Marks) (b : Bool) → b ≡ eqb (m .low % 2) 1 → _≡_ {A = Innermost} (record { may = b }) (innermostOf m)
+unfolding innermostOf
+innermost-is m b e = rw e
+
+-- of the marks only the innermost's matters
+pub innermost-same : (k : ℕ) (m : Marks) → mayElse (insideOf k m .blocks) ≡ mayElse (insideOf k (markOf (innermostOf m)) .blocks)
+unfolding insideOf marksIn mayElse markOf innermostOf
+innermost-same zero m = refl
+innermost-same (suc k) m =
     let b : (m .low + 2 ^ 64 * m .high) % 2 ≡ m .low % 2 = omega arith in
-    rw (e, b)
+    rw b (bit (eqb (m .low % 2) 1))
 
 -- ## A block more, an else, an end
 

@@ -2,6 +2,7 @@
 use mathlib.Core.Path.{_≡_, refl, ap, sym, _∙_}
 use Prim.Native.Nat.{ℕ, zero, suc, _+_, _-_, _≤_, _<_}
 use mathlib.Core.Bool.{Bool, true, false, not}
+use mathlib.Core.Option.{Option, none, some}
 use lib.Dec.{eqb, ltb}
 use borrow.Author.Tests.{lt-ltb, le-ltb, ne-eqb}
 use native.Mathlib.Omega.{arith}
@@ -10,7 +11,7 @@ use Rattle.definition.specs.Syntax as Syntax
 use Rattle.definition.specs.Syntax.{Bytes, Identifier, instr}
 use Rattle.definition.specs.Reader.{Step, got, fault, onward, byte}
 use Rattle.definition.specs.Token.{identifier, optional, typeUse}
-use Rattle.definition.specs.Instructions.{opening, elsing, ending, calling, plainOf, instruction, isOpen, mayElse, admits, formed, formOf, bodyRec}
+use Rattle.definition.specs.Instructions.{Form, opening, elsing, ending, calling, operands, plainOf, instruction, isOpen, mayElse, admits, formed, formOf, bodyRec}
 use Rattle.definition.specs.Types.{isShort}
 use Rattle.laws.specs.Steps.{stops}
 use Rattle.laws.specs.Depths.{depthAfter}
@@ -39,7 +40,9 @@ use Rattle.next_record.specs.declared.record.InsideAt.{InsideAt}
 use Rattle.syntax.specs.declared.Place.{Place}
 use Rattle.syntax.specs.Marks.{insideOf, marksIn}
 use Rattle.syntax.specs.declared.Marks.{Marks}
-use Rattle.next_record.proofs.Bits.{inside-length}
+use Rattle.next_record.specs.Marks.{markOf, innermostOf}
+use Rattle.next_record.specs.declared.marks.Innermost.{Innermost}
+use Rattle.next_record.proofs.Bits.{inside-length, innermost-same}
 
 -- ## Instructions
 
@@ -194,3 +197,30 @@ module _ (p : Place) (m : Marks) (s : Bytes) (r : ByteAt) (told : byte s (p .at)
     body-end q g l h a = rw (told, d, g, inside-open (p .depth - 1) m, le-ltb 0 (p .depth - 1) (omega arith), a)
 
 pub ruleset body-ways = (body-none, body-instr, body-open, body-end)
+
+-- ## Only the innermost block's mark matters
+
+module _ (k : ℕ) (m n : Marks) (same : mayElse (insideOf k m .blocks) ≡ mayElse (insideOf k n .blocks)) where
+  admits-same : (f : Form) → admits (insideOf k m) f ≡ admits (insideOf k n) f
+  unfolding admits
+  admits-same opening = rw (inside-length k m, inside-length k n)
+  admits-same elsing = rw same
+  admits-same ending = rw (inside-open k m, inside-open k n)
+  admits-same calling = refl
+  admits-same (operands x) = refl
+
+  formed-same : (op : ℕ) (f : Option Form) → formed (insideOf k m) op f ≡ formed (insideOf k n) op f
+  formed-same op none = refl
+  formed-same op (some f) = rw (admits-same f)
+
+  body-same : (s : Bytes) (at : ℕ) → bodyRec (insideOf k m) s at ≡ bodyRec (insideOf k n) s at
+  unfolding bodyRec
+  body-same s at = go (byte s at) refl
+    where
+      go : (e : Step ℕ) → byte s at ≡ e → bodyRec (insideOf k m) s at ≡ bodyRec (insideOf k n) s at
+      go (got b next) e = rw (e, inside-open k m, inside-open k n, formed-same b (formOf b))
+      go (fault x) e = rw e
+
+pub by-innermost : (p : Place) (m : Marks) (s : Bytes) (i : Innermost) (y : Answer Kept × Place) → i ≡ innermostOf m → keptAt (bodyRecordAt p (markOf i) s) ≡ y → keptAt (bodyRecordAt p m s) ≡ y
+unfolding bodyRecordAt
+by-innermost p m s i y e a = rw (body-same (p .depth - 1) m (markOf i) (rw e (innermost-same (p .depth - 1) m)) s (p .at)) a

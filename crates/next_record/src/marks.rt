@@ -4,19 +4,31 @@ ghost use mathlib.Core.Path.{_≡_};
 ghost use Prim.Native.Nat.{_-_, _≤_};
 ghost use Rattle.definition.specs.Instructions.{mayElse};
 ghost use Rattle.syntax.specs.Marks.{insideOf};
-ghost use Rattle.next_record.specs.Marks.{Opened, Elsed, Ended};
+ghost use Rattle.next_record.specs.Marks.{markOf, innermostOf, Opened, Elsed, Ended};
 
 // The highest bit of a word.
 const TOP: u64 = 9223372036854775808;
 
+// What a record's reader needs of the marks: whether an else may come in the innermost block.
+pub struct Innermost {
+    pub may: bool,
+}
+
+pub fn lowest(marks: Marks) -> Innermost
+    ensures { λ r. ⌜ r ≡ innermostOf marks ⌝ }
+{
+    let may = marks.low % 2 == 1;
+    Innermost { may }
+}
+
 // May an else come?
-pub fn may_else(marks: Marks, depth: u32) -> bool
-    ensures { λ r. ⌜ r ≡ mayElse (insideOf (depth - 1) marks .blocks) ⌝ }
+pub fn may_else(last: Innermost, depth: u32) -> bool
+    ensures { λ r. ⌜ r ≡ mayElse (insideOf (depth - 1) (markOf last) .blocks) ⌝ }
 {
     if depth < 2 {
         return false;
     }
-    marks.low % 2 == 1
+    last.may
 }
 
 // A block opens, in which an else may come or not.

@@ -1,9 +1,9 @@
 // One record at the running place, and the place after it.
+use crate::marks::Innermost;
 use syntax::ByteAt;
 use syntax::Field;
 use syntax::FieldAt;
 use syntax::Form;
-use syntax::Marks;
 use syntax::Own;
 use syntax::Place;
 use syntax::Seen;
@@ -15,6 +15,7 @@ ghost use Rattle.definition.specs.Basic.{if_then_else_};
 ghost use Rattle.definition.specs.Read as Read;
 ghost use Rattle.syntax.specs.Items.{roomOf};
 ghost use Rattle.syntax.specs.Marks.{noMarks};
+ghost use Rattle.next_record.specs.Marks.{markOf};
 ghost use Rattle.next_record.specs.Places.{bodyOf, recordPast, fieldRecordAt, bodyRecordAt};
 ghost use Rattle.next_record.specs.Answers.{outsideAnswer, keptAt, insideAnswer, onPast, refusedHere, fieldDepth};
 
@@ -165,14 +166,14 @@ pub fn refused(p: Place, n: u8) -> InsideAt
 }
 
 // A record of a body: the byte FF where no block is open, or an instruction.
-pub fn body_record(s: &[u8], p: Place, marks: Marks) -> InsideAt
+pub fn body_record(s: &[u8], p: Place, last: Innermost) -> InsideAt
     requires { ⌜ (p .rec < 4096) × (1 ≤ p .depth) ⌝ }
-    ensures { λ r. ⌜ keptAt (bodyRecordAt p marks (now (s .entry))) ≡ insideAnswer (r .what) (r .place) ⌝ }
+    ensures { λ r. ⌜ keptAt (bodyRecordAt p (markOf last) (now (s .entry))) ≡ insideAnswer (r .what) (r .place) ⌝ }
 {
     match token::read_byte(s, p.at) {
         ByteAt::Got(b, at) => {
             if b != 0xFF {
-                return crate::skim::pass_instr(s, p, marks, at, b);
+                return crate::skim::pass_instr(s, p, last, at, b);
             }
             if 1 < p.depth {
                 return refused(p, 8);

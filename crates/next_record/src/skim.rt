@@ -1,12 +1,12 @@
 // An instruction that is passed over. The pass needs where it ends, how deep the place is then, whether it may use a type and what it does to
 // the open blocks; nothing else of it is built.
+use crate::marks::Innermost;
 use crate::marks::may_else;
 use crate::record::Inside;
 use crate::record::InsideAt;
 use crate::record::on;
 use crate::record::refused;
 use syntax::Form;
-use syntax::Marks;
 use syntax::Place;
 use syntax::Skip;
 use syntax::UseAt;
@@ -14,6 +14,7 @@ ghost use mathlib.Core.Path.{_≡_};
 ghost use Prim.Native.Nat.{_-_, _≤_, _<_};
 ghost use Rattle.definition.specs.Instructions as Instructions;
 ghost use Rattle.syntax.specs.Marks.{insideOf};
+ghost use Rattle.next_record.specs.Marks.{markOf};
 ghost use Rattle.next_record.specs.Answers.{opensIn, elsesIn, endsIn, keptInstr, insideAnswer};
 
 // A block opens, where fewer than 128 are open.
@@ -42,11 +43,11 @@ fn opens(s: &[u8], p: Place, at: usize, opcode: u8) -> InsideAt
 }
 
 // An else, where one may come.
-fn elses(s: &[u8], p: Place, marks: Marks, at: usize) -> InsideAt
+fn elses(s: &[u8], p: Place, last: Innermost, at: usize) -> InsideAt
     requires { ⌜ (p .rec < 4096) × (1 ≤ p .depth) ⌝ }
-    ensures { λ r. ⌜ keptInstr p (elsesIn (p .depth - 1) marks (now (s .entry)) at) ≡ insideAnswer (r .what) (r .place) ⌝ }
+    ensures { λ r. ⌜ keptInstr p (elsesIn (p .depth - 1) (markOf last) (now (s .entry)) at) ≡ insideAnswer (r .what) (r .place) ⌝ }
 {
-    if may_else(marks, p.depth) {
+    if may_else(last, p.depth) {
         match token::pass_identifier(s, at) {
             Skip::Past(next) => {
                 return on(p, next, p.depth, Inside::Elses);
@@ -97,14 +98,14 @@ fn indirect(s: &[u8], p: Place, at: usize) -> InsideAt
 }
 
 // What stands after an opcode.
-pub fn pass_instr(s: &[u8], p: Place, marks: Marks, at: usize, opcode: u8) -> InsideAt
+pub fn pass_instr(s: &[u8], p: Place, last: Innermost, at: usize, opcode: u8) -> InsideAt
     requires { ⌜ (p .rec < 4096) × (1 ≤ p .depth) ⌝ }
-    ensures { λ r. ⌜ keptInstr p (Instructions.formed (insideOf (p .depth - 1) marks) opcode (Instructions.formOf opcode) (now (s .entry)) at) ≡ insideAnswer (r .what) (r .place) ⌝ }
+    ensures { λ r. ⌜ keptInstr p (Instructions.formed (insideOf (p .depth - 1) (markOf last)) opcode (Instructions.formOf opcode) (now (s .entry)) at) ≡ insideAnswer (r .what) (r .place) ⌝ }
 {
     match instr::opcode_form(opcode) {
         Form::NoOpcode => refused(p, 4),
         Form::Opening => opens(s, p, at, opcode),
-        Form::Elsing => elses(s, p, marks, at),
+        Form::Elsing => elses(s, p, last, at),
         Form::Ending => ends(s, p, at),
         Form::Calling => indirect(s, p, at),
         Form::Operands(what) => match expr::pass_plain(s, at, what) {

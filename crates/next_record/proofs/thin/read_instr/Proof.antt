@@ -38,14 +38,15 @@ use denote.Triple.Clauses.{ensured, lasts}
 use Rattle.next_record.specs.Places.{bodyRecordAt}
 use Rattle.next_record.specs.Answers.{keptAt, insideAnswer}
 use Rattle.syntax.specs.declared.Place.{Place}
-use Rattle.syntax.specs.declared.Marks.{Marks}
+use Rattle.next_record.specs.declared.marks.Innermost.{Innermost}
+use Rattle.next_record.specs.Marks.{markOf}
 use Rattle.next_record.specs.declared.record.Inside.{Inside}
 use Rattle.next_record.specs.declared.record.InsideAt.{InsideAt}
 use Rattle.next_record.proofs.Lent.{R, low, What, Pair, pairTy, held, streamTy, lentTy, moving, Stream, Entry, Left, enters, moves-on, leaves, asks, ByValue, frees-all}
 use Rattle.next_record.proofs.LentTypes.{inside, inside-at}
 use Rattle.syntax.proofs.Place.Laws as P′
-use Rattle.syntax.proofs.Marks as N
-use Rattle.syntax.proofs.Marks.Laws as N′
+use Rattle.next_record.proofs.marks.Innermost as N
+use Rattle.next_record.proofs.marks.Innermost.Laws as N′
 use Rattle.next_record.proofs.record.Inside as X
 use Rattle.next_record.proofs.record.Inside.Laws as X′
 use Rattle.next_record.proofs.record.body_record as callee
@@ -67,7 +68,7 @@ function X Y = record {
   body = moving #body-record (copy (place 1 []) ∷ copy (place 5 []) ∷ copy (place 3 []) ∷ []) 5 4;
 }
 
-module _ {M : Type 1} (𝓤 : URA M) (H : Heap 𝓤) (A : Atoms 𝓤) (W : Given 𝓤 H A) (κ κ′ : Lft) (q q′ : Share) (s : RefT (List ℕ)) (b o : ℕ) (γ : GName) (h : Place) (n : Marks) (n-is : Is N.the-row n (LL.vals N.the-type N′.the-laws n))
+module _ {M : Type 1} (𝓤 : URA M) (H : Heap 𝓤) (A : Atoms 𝓤) (W : Given 𝓤 H A) (κ κ′ : Lft) (q q′ : Share) (s : RefT (List ℕ)) (b o : ℕ) (γ : GName) (h : Place) (n : Innermost) (n-is : Is N.the-row n (LL.vals N.the-type N′.the-laws n))
     (X : What) (Y : Pair X) (φ : X .row .Denot → Place → Type 0) (Z : Val → SProp 𝓤) (C : Calls 𝓤 H) (Λ : Loops 𝓤 H) (fm : FmC 𝓤 H (W .laws) C) where
   abbrev v : Val
   v = sliceVal (s .ptr) (length (s .now))
@@ -98,7 +99,7 @@ stayed = (stay-none-slice (0 ∷ []) tt (plain (λ _. u8)) yes, (stay-ref (1 ∷
 abbrev Callee : {M : Type 1} (𝓤 : URA M) (H : Heap 𝓤) (A : Atoms 𝓤) (mem : Memory → SProp 𝓤) (run : Routine → Fun 𝓤) → Contract 𝓤
 Callee 𝓤 H A mem run = tripleOf 𝓤 H A callee.signature (callee.spec 𝓤 H A mem run)
 
-module _ {M : Type 1} (𝓤 : URA M) (H : Heap 𝓤) (A : Atoms 𝓤) (W : Given 𝓤 H A) (at-mem : Memory → SProp 𝓤) (run : Routine → Fun 𝓤) (κ κ′ : Lft) (bounds : AllOutlive 2 (self.signature .outlives) (κ, (κ′, tt))) (q q′ : Share) (s : RefT (List ℕ)) (b o : ℕ) (γ : GName) (h : Place) (n : Marks) (n-is : Is N.the-row n (LL.vals N.the-type N′.the-laws n)) where
+module _ {M : Type 1} (𝓤 : URA M) (H : Heap 𝓤) (A : Atoms 𝓤) (W : Given 𝓤 H A) (at-mem : Memory → SProp 𝓤) (run : Routine → Fun 𝓤) (κ κ′ : Lft) (bounds : AllOutlive 2 (self.signature .outlives) (κ, (κ′, tt))) (q q′ : Share) (s : RefT (List ℕ)) (b o : ℕ) (γ : GName) (h : Place) (n : Innermost) (n-is : Is N.the-row n (LL.vals N.the-type N′.the-laws n)) where
   abbrev val : Val
   val = sliceVal (s .ptr) (length (s .now))
 
@@ -106,7 +107,7 @@ module _ {M : Type 1} (𝓤 : URA M) (H : Heap 𝓤) (A : Atoms 𝓤) (W : Given
   num = LL.val N.the-type N′.the-laws n
 
   abbrev Arg : Type 0
-  Arg = RefT (List ℕ) × (RefT Place × (Marks × Unit {0}))
+  Arg = RefT (List ℕ) × (RefT Place × (Innermost × Unit {0}))
 
   abbrev x : Arg
   x = (s, (record { ptr = (b, o); name = γ; now = h }, (n, tt)))
@@ -121,7 +122,7 @@ module _ {M : Type 1} (𝓤 : URA M) (H : Heap 𝓤) (A : Atoms 𝓤) (W : Given
   Post = walkOf 𝓤 H A self.ended stayed (self.clauses 𝓤 H A at-mem run) .post (((κ, (κ′, tt)), (q, (q′, tt)), bounds, x, at), tt)
 
   abbrev Says : Inside → Place → Type 0
-  Says w p = keptAt (bodyRecordAt h n (now s)) ≡ insideAnswer w p
+  Says w p = keptAt (bodyRecordAt h (markOf n) (now s)) ≡ insideAnswer w p
 
   abbrev to : Callee 𝓤 H A at-mem run .Ghost
   to = (((κ, tt), (q, tt), tt, (s, (h, (n, tt))), (val ∷ [], (low h ∷ [], (num ∷ [], tt)))), tt)
