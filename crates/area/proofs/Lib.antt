@@ -1,3 +1,3 @@
 pub mod Cleared
+pub mod Flags
 pub mod Kept
-pub mod Strict

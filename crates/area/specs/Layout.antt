@@ -17,6 +17,10 @@ COUNTS = 0
 abbrev pub DECLARED : ℕ
 DECLARED = 4
 
+-- 1 where some body names a data segment
+abbrev pub DATA_NAMED : ℕ
+DATA_NAMED = 7
+
 -- where the bodies of own functions end, two words each
 abbrev pub ENDS : ℕ
 ENDS = 8

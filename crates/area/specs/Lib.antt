@@ -1,4 +1,4 @@
+pub mod Flags
 pub mod Kept
 pub mod Layout
 pub mod Lent
-pub mod Strict

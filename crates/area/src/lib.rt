@@ -1,9 +1,8 @@
 // The work area: where things stand in it, one word of it, and how it is cleared. docs/ARCHITECTURE.md has the layout as a table.
 ghost use mathlib.Core.Path.{_≡_};
-ghost use Prim.Native.Nat.{_≤_};
+ghost use Prim.Native.Nat.{_<_};
 ghost use lib.ListN.{length, getD, replicate};
-ghost use Rattle.area.specs.Layout.{WORDS};
-ghost use Rattle.area.specs.Strict.{strictIn, strictWord, strictPut};
+ghost use Rattle.area.specs.Flags.{flagIn, flagWord, flagPut};
 
 // How many words it has at least, and how many bytes a stream has at most.
 pub const WORDS: usize = 16384;
@@ -14,6 +13,8 @@ pub const BYTES: usize = 65536;
 pub const COUNTS: usize = 0;
 // Of these, how many types the fields declare.
 pub const DECLARED: usize = 4;
+// 1 where some body names a data segment.
+pub const DATA_NAMED: usize = 7;
 // Where the bodies of own functions end, two words each.
 pub const ENDS: usize = 8;
 // 1 in a strict call.
@@ -59,28 +60,29 @@ pub fn word(work: &[u32], at: usize) -> u32
     0
 }
 
-fn strict_word(strict: bool) -> u32
-    ensures { λ r. ⌜ r ≡ strictWord strict ⌝ }
+// A word that says yes or no: 1 or 0.
+fn flag_word(b: bool) -> u32
+    ensures { λ r. ⌜ r ≡ flagWord b ⌝ }
 {
-    if strict {
+    if b {
         return 1;
     }
     0
 }
 
-// Whether the call is strict is written.
-pub fn put_strict(work: &mut [u32], strict: bool)
-    requires { ⌜ WORDS ≤ length (now work) ⌝ }
-    ensures { λ _. ⌜ now (work .exit) ≡ strictPut (now (work .entry)) strict ⌝ }
+// It is written at a place, as `STRICT`.
+pub fn put_flag(work: &mut [u32], at: usize, b: bool)
+    requires { ⌜ at < length (now work) ⌝ }
+    ensures { λ _. ⌜ now (work .exit) ≡ flagPut at (now (work .entry)) b ⌝ }
 {
-    work[STRICT] = strict_word(strict);
+    work[at] = flag_word(b);
 }
 
-// Is the call strict?
-pub fn is_strict(work: &[u32]) -> bool
-    ensures { λ r. ⌜ r ≡ strictIn (now (work .entry)) ⌝ }
+// What it says.
+pub fn flag(work: &[u32], at: usize) -> bool
+    ensures { λ r. ⌜ r ≡ flagIn at (now (work .entry)) ⌝ }
 {
-    word(work, STRICT) == 1
+    word(work, at) == 1
 }
 
 // Every word becomes 0.

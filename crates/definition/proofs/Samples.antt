@@ -121,6 +121,10 @@ if′ = 0x04 ∷ 0x00 ∷ 0x00 ∷ 0x00 ∷ 0x00 ∷ []
 abbrev else′ : Bytes
 else′ = 0x05 ∷ 0x00 ∷ []
 
+-- two memories with a minimum of 0
+abbrev twoMemories : Bytes
+twoMemories = 0x05 ∷ 0x00 ∷ 0x00 ∷ 0x00 ∷ 0x00 ∷ 0x00 ∷ 0x05 ∷ 0x00 ∷ 0x00 ∷ 0x00 ∷ 0x00 ∷ 0x00 ∷ []
+
 abbrev brNumber : ℕ → Bytes
 brNumber n = 0x0C ∷ 0x01 ∷ n ∷ []
 
@@ -312,6 +316,21 @@ samples =
     ∷ refusesStrict (0x09 ∷ 0x00 ∷ 0x01 ∷ 0x00 ∷ 0x00 ∷ 0x00 ∷ 0x00 ∷ []) 20 0
     ∷ refusesStrict (0x03 ∷ 0x00 ∷ 0x00 ∷ 0x00 ∷ 0x01 ∷ 0x00 ∷ 0x00 ∷ 0x00 ∷ 0x00 ∷ 0xFF ∷ []) 20 0
     ∷ refusesBoth (0x03 ∷ 0x00 ∷ 0x00 ∷ 0x00 ∷ 0x01 ∷ 0x00 ∷ 0x01 ∷ 0x00 ∷ 0x7F ∷ 0x00 ∷ 0x00 ∷ 0xFF ∷ []) 15 20 0
+    -- (02 §11) data d and two memories; memory.init d on memory 1, data.drop 0, memory.copy 1 0, memory.fill: section 12 says one segment
+    ∷ assembles (twoMemories ++ (0x0A ∷ 0x01 ∷ 0x64 ∷ 0x00 ∷ 0x01 ∷ 0x61 ∷ []) ++ function
+    ++ (0xFC ∷ 0x08 ∷ 0x02 ∷ 0x01 ∷ 0x64 ∷ 0x01 ∷ 0x01 ∷ 0xFC ∷ 0x09 ∷ 0x01 ∷ 0x00 ∷ 0xFC ∷ 0x0A ∷ 0x01 ∷ 0x01 ∷ 0x00 ∷ 0xFC ∷ 0x0B ∷ 0x00 ∷ []) ++ bodyEnd) 9
+    (oneFunction ++ (0x05 ∷ 0x05 ∷ 0x02 ∷ 0x00 ∷ 0x00 ∷ 0x00 ∷ 0x00 ∷ 0x0C ∷ 0x01 ∷ 0x01
+    ∷ 0x0A ∷ 0x12 ∷ 0x01 ∷ 0x10 ∷ 0x00 ∷ 0xFC ∷ 0x08 ∷ 0x00 ∷ 0x01 ∷ 0xFC ∷ 0x09 ∷ 0x00 ∷ 0xFC ∷ 0x0A ∷ 0x01 ∷ 0x00 ∷ 0xFC ∷ 0x0B ∷ 0x00 ∷ 0x0B
+    ∷ 0x0B ∷ 0x04 ∷ 0x01 ∷ 0x01 ∷ 0x01 ∷ 0x61 ∷ []))
+    -- without the two that name data there is no section 12; with one and no data segment there is; another second byte, an absent data index, no such data
+    ∷ assembles (function ++ (0xFC ∷ 0x0B ∷ 0x00 ∷ []) ++ bodyEnd) 3 (oneFunction ++ (0x0A ∷ 0x07 ∷ 0x01 ∷ 0x05 ∷ 0x00 ∷ 0xFC ∷ 0x0B ∷ 0x00 ∷ 0x0B ∷ []))
+    ∷ assembles (function ++ (0xFC ∷ 0x09 ∷ 0x01 ∷ 0x07 ∷ []) ++ bodyEnd) 3 (oneFunction ++ (0x0C ∷ 0x01 ∷ 0x00 ∷ 0x0A ∷ 0x07 ∷ 0x01 ∷ 0x05 ∷ 0x00 ∷ 0xFC ∷ 0x09 ∷ 0x07 ∷ 0x0B ∷ []))
+    ∷ refuses (function ++ (0xFC ∷ 0x0C ∷ [])) 4 1
+    ∷ refuses (function ++ (0xFC ∷ 0x09 ∷ 0x00 ∷ [])) 4 1
+    ∷ refuses (function ++ (0xFC ∷ 0x08 ∷ 0x02 ∷ 0x01 ∷ 0x64 ∷ 0x00 ∷ []) ++ bodyEnd) 14 1
+    -- a strict call: data 0 where there is none, and a memory that is not named where there is none
+    ∷ refusesStrict (function ++ (0xFC ∷ 0x09 ∷ 0x01 ∷ 0x00 ∷ []) ++ bodyEnd) 20 1
+    ∷ refusesStrict (function ++ (0xFC ∷ 0x0A ∷ 0x00 ∷ 0x00 ∷ []) ++ bodyEnd) 20 1
     -- no name, no section
     ∷ assemblesNames [] 0 S1 []
     -- S7's parameter x is 0, and its function has no identifier; S8's l is 2
@@ -322,13 +341,13 @@ samples =
     ∷ []
 
 pub samples-hold : every samples ≡ true
-unfolding Basic._>>=_ Basic.each Basic.concatMap Basic.same Basic.sameBytes Basic.firstAt Basic.at Basic.isSome Basic.between
+unfolding Basic._>>=_ Basic.each Basic.concatMap Basic.any Basic.same Basic.sameBytes Basic.firstAt Basic.at Basic.isSome Basic.between
     Spaces.externSpace Spaces.ownSpace Spaces.sourceSpace Spaces.segments Spaces.brings Spaces.count Reader.byte Reader.many Token.needed
     Token.groups Token.u32 Token.u64 Token.upTo Token.counted Token.idchar Token.idByte Token.identifier Token.identifier₁ Token.stringByte
     Token.string Token.bytes Token.isRef Token.isVal Token.valType Token.refType Token.flag Token.flag64 Token.bound Token.maximum
     Token.limitsOf Token.limits Token.tableType Token.globalType Token.numberIndex Token.namedIndex Token.present Token.optional
     Token.param Token.typeUse Instructions.opcodes Instructions.formIn Instructions.formOf Instructions.naturals Instructions.exponent
-    Instructions.alignment Instructions.plainOf Instructions.constant Instructions.instruction Instructions.isOpen
+    Instructions.alignment Instructions.bulks Instructions.spacesIn Instructions.spacesOf Instructions.indexIn Instructions.indices Instructions.plainOf Instructions.constant Instructions.instruction Instructions.isOpen
     Instructions.mayElse Instructions.admits Instructions.opened Instructions.elsed Instructions.openAfter Instructions.insideAfter
     Instructions.bodyRec Records.importName
     Records.funcExtern Records.tableExtern Records.memExtern Records.globalExtern Records.importOf Records.importRec Records.itemRec
@@ -346,7 +365,7 @@ unfolding Basic._>>=_ Basic.each Basic.concatMap Basic.same Basic.sameBytes Basi
     Names.externNo Names.tableNo Names.modeOf Names.resolve Names.resolveAll Binary.unsigned Binary.u Binary.low7 Binary.over128
     Binary.fits7 Binary.signed Binary.s Binary.integer Binary.vec Binary.sized Binary.byte Binary.funcType Binary.limits Binary.tableType
     Binary.globalType Binary.externType Binary.blockType Binary.memarg Binary.imm Binary.instruction Binary.expr Binary.runs Binary.run
-    Binary.func-code Binary.elem Binary.data′ Binary.entries Binary.inSection Binary.joined Binary.content Binary.section Binary.preamble
+    Binary.func-code Binary.elem Binary.data′ Binary.entries Binary.inSection Binary.immNamesData Binary.namesData Binary.dataCount Binary.joined Binary.content Binary.section Binary.preamble
     Binary.sectionNumbers Binary.sections Binary.module′ NameSection.namedFrom NameSection.importedFunction NameSection.ownFunction
     NameSection.functionIn NameSection.functions NameSection.localNamesFrom NameSection.nameAssoc NameSection.indirectNameAssoc
     NameSection.subsections NameSection.sectionName NameSection.nameSection Assemble.scope Assemble.itemsIn Assemble.items Assemble.resolved

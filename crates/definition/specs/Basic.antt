@@ -1,6 +1,6 @@
 -- What every part of the definition leans on: a choice by a test, answers that may be a refusal, and searches in lists.
 use Prim.Native.Nat.{ℕ, zero, suc, _+_}
-use mathlib.Core.Bool.{Bool, true, false, _&&_}
+use mathlib.Core.Bool.{Bool, true, false, _&&_, _||_}
 use mathlib.Core.List.{List, [], _∷_, _++_}
 use mathlib.Core.Option.{Option, none, some}
 use lib.Dec.{eqb, leb}
@@ -46,6 +46,11 @@ each f (x ∷ xs) = f x >>= λ y. each f xs >>= λ ys. ok (y ∷ ys)
 unfoldable pub concatMap : {A B : Type 0} → (A → List B) → List A → List B
 concatMap f [] = []
 concatMap f (x ∷ xs) = f x ++ concatMap f xs
+
+-- does an element pass a test?
+unfoldable pub any : {A : Type 0} → (A → Bool) → List A → Bool
+any p [] = false
+any p (x ∷ xs) = p x || any p xs
 
 -- equal lists, by a test of their elements
 unfoldable pub same : {A : Type 0} → (A → A → Bool) → List A → List A → Bool

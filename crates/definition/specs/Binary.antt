@@ -1,15 +1,15 @@
 -- The binary format (the standard, chapter 5): a module's items to bytes, every length and index in its shortest form.
 use Prim.Native.Nat.{ℕ, zero, suc, _+_, _-_, _/_, _%_, _^_}
-use mathlib.Core.Bool.{Bool}
+use mathlib.Core.Bool.{Bool, false, _||_}
 use mathlib.Core.List.{List, [], _∷_, _++_}
 use mathlib.Core.Option.{Option, none, some}
 use lib.Dec.{eqb, ltb}
 use lib.ListN.{length}
 use lib.IntN.{ℤ, pos, negsuc}
-use Rattle.definition.specs.Basic.{if_then_else_, concatMap}
+use Rattle.definition.specs.Basic.{if_then_else_, concatMap, any}
 use Rattle.definition.specs.Syntax.{ValType, Bytes, code, FuncType, Limits, TableType, GlobalType, ExternType, func, table, mem, global, Mode, passive, active}
 use Rattle.definition.specs.Syntax.{TypeNo, BlockType, empty, single, typed, Op}
-use Rattle.definition.specs.Syntax.{Imm, noImm, blockImm, labelImm, labelsImm, localImm, itemImm, indirectImm, accessImm, int32Imm, int64Imm, rawImm}
+use Rattle.definition.specs.Syntax.{Imm, noImm, blockImm, labelImm, labelsImm, localImm, itemImm, itemsImm, indirectImm, accessImm, int32Imm, int64Imm, rawImm}
 use Rattle.definition.specs.Syntax.{Item, typeI, importI, funcI, tableI, memI, globalI, exportI, startI, elemI, dataI}
 
 -- ## 5.2.2 Integers: LEB128
@@ -106,6 +106,7 @@ imm (labelImm d) = u (d .depth)
 imm (labelsImm ds d) = vec (λ x. u (x .depth)) ds ++ u (d .depth)
 imm (localImm n) = u (n .local-no)
 imm (itemImm n) = u n
+imm (itemsImm b ns) = u b ++ concatMap u ns
 imm (indirectImm y x) = u (y .type-no) ++ u x
 imm (accessImm e o m) = memarg e o m
 imm (int32Imm n) = s (integer 32 n)
@@ -171,12 +172,45 @@ unfoldable pub inSection : ℕ → List (ℕ × Bytes) → List Bytes
 inSection k [] = []
 inSection k ((j, b) ∷ es) = (if eqb k j then b ∷ [] else []) ++ inSection k es
 
+-- ## 5.5.16 Data count section
+
+-- memory.init and data.drop name a data segment
+unfoldable pub immNamesData : Imm → Bool
+immNamesData (itemsImm b ns) = eqb b 0x08 || eqb b 0x09
+immNamesData noImm = false
+immNamesData (blockImm b) = false
+immNamesData (labelImm d) = false
+immNamesData (labelsImm ds d) = false
+immNamesData (localImm n) = false
+immNamesData (itemImm n) = false
+immNamesData (indirectImm y x) = false
+immNamesData (accessImm e o m) = false
+immNamesData (int32Imm n) = false
+immNamesData (int64Imm n) = false
+immNamesData (rawImm bs) = false
+
+unfoldable pub namesData : Item → Bool
+namesData (funcI n ls os) = any (λ o. immNamesData (o .imm)) os
+namesData (typeI t) = false
+namesData (importI n d) = false
+namesData (tableI t) = false
+namesData (memI l) = false
+namesData (globalI t o) = false
+namesData (exportI n k x) = false
+namesData (startI x) = false
+namesData (elemI m ns) = false
+namesData (dataI m d) = false
+
+-- how many data segments there are, where some body names one
+unfoldable pub dataCount : List Item → List (ℕ × Bytes)
+dataCount is = if any namesData is then (12, u (length (inSection 11 (concatMap entries is)))) ∷ [] else []
+
 unfoldable pub joined : List Bytes → Bytes
 joined es = concatMap (λ e. e) es
 
--- section 8 holds one index and no count
+-- sections 8 and 12 hold one number and no count
 unfoldable pub content : ℕ → List Bytes → Bytes
-content k es = if eqb k 8 then joined es else u (length es) ++ joined es
+content k es = if eqb k 8 || eqb k 12 then joined es else u (length es) ++ joined es
 
 -- an empty section is omitted
 abbrev pub sectionOf : ℕ → List Bytes → Bytes
@@ -193,10 +227,10 @@ unfoldable pub preamble : Bytes
 preamble = 0x00 ∷ 0x61 ∷ 0x73 ∷ 0x6D ∷ 0x01 ∷ 0x00 ∷ 0x00 ∷ 0x00 ∷ []
 
 unfoldable pub sectionNumbers : List ℕ
-sectionNumbers = 1 ∷ 2 ∷ 3 ∷ 4 ∷ 5 ∷ 6 ∷ 7 ∷ 8 ∷ 9 ∷ 10 ∷ 11 ∷ []
+sectionNumbers = 1 ∷ 2 ∷ 3 ∷ 4 ∷ 5 ∷ 6 ∷ 7 ∷ 8 ∷ 9 ∷ 12 ∷ 10 ∷ 11 ∷ []
 
 unfoldable pub sections : List Item → Bytes
-sections is = concatMap (section (concatMap entries is)) sectionNumbers
+sections is = concatMap (section (concatMap entries is ++ dataCount is)) sectionNumbers
 
 unfoldable pub module′ : List Item → Bytes
 module′ is = preamble ++ sections is

@@ -6,8 +6,8 @@ use mathlib.Core.Option.{Option, none, some}
 use lib.Dec.{eqb, leb, ltb}
 use lib.ListN.{length, getD}
 use Rattle.definition.specs.Basic.{if_then_else_, between, isSome}
-use Rattle.definition.specs.Syntax.{Identifier, funcs, mems, globals}
-use Rattle.definition.specs.Syntax.{Operand, nothing, label, labels, local, item, access, int32, int64, raw, Plain, Instr, opens, elses, ends, indirect, plain, Rec, instr, bodyEnd}
+use Rattle.definition.specs.Syntax.{Identifier, Space, funcs, mems, globals, datas, sameSpace, Index}
+use Rattle.definition.specs.Syntax.{Operand, nothing, label, labels, local, item, items, access, int32, int64, raw, Plain, Instr, opens, elses, ends, indirect, plain, Rec, instr, bodyEnd}
 use Rattle.definition.specs.Reader.{Reader, _>>=_, _>>_, give, refuse, require, byte, byteOf, many, choose}
 use Rattle.definition.specs.Token.{u32, u64, counted, identifier, refType, present, optional, typeUse}
 
@@ -15,7 +15,7 @@ use Rattle.definition.specs.Token.{u32, u64, counted, identifier, refTyp
 
 -- the operands of an instruction that opens and closes no block and has no type use, by the standard's names
 pub data Operands : Type 0 where
-  bare labelidx labelidxs localidx funcidx globalidx memidx memarg i32 i64 f32 f64 heaptype : Operands
+  bare labelidx labelidxs localidx funcidx globalidx memidx memarg i32 i64 f32 f64 heaptype bulk : Operands
 
 -- block, loop or if; else; end; call_indirect; or operands
 pub data Form : Type 0 where
@@ -47,6 +47,7 @@ opcodes =
     ∷ (0xD0, 0xD0, operands heaptype)
     ∷ (0xD1, 0xD1, operands bare)
     ∷ (0xD2, 0xD2, operands funcidx)
+    ∷ (0xFC, 0xFC, operands bulk)
     ∷ []
 
 unfoldable pub formIn : List (ℕ × ℕ × Form) → ℕ → Option Form
@@ -72,6 +73,35 @@ alignment = byteOf 4 (λ b. leb b 32)
 abbrev pub done : ℕ → Operand Identifier → Reader (Plain Identifier)
 done op x = give (record { opcode = op; operand = x })
 
+-- after FC: the second byte, and the spaces of its indices in order: memory.init, data.drop, memory.copy (destination and source), memory.fill
+unfoldable pub bulks : List (ℕ × List Space)
+bulks =
+    (0x08, datas ∷ mems ∷ [])
+    ∷ (0x09, datas ∷ [])
+    ∷ (0x0A, mems ∷ mems ∷ [])
+    ∷ (0x0B, mems ∷ [])
+    ∷ []
+
+unfoldable pub spacesIn : List (ℕ × List Space) → ℕ → Option (List Space)
+spacesIn [] b = none
+spacesIn ((c, ks) ∷ rows) b = if eqb b c then some ks else spacesIn rows b
+
+unfoldable pub spacesOf : ℕ → Option (List Space)
+spacesOf b = spacesIn bulks b
+
+-- the index of a memory may be absent
+unfoldable pub indexIn : Space → Reader (Index Identifier)
+indexIn k = if sameSpace k mems then optional else present
+
+-- indices, one of each space
+unfoldable pub indices : List Space → Reader (List (Space × Index Identifier))
+indices [] = give []
+indices (k ∷ ks) = indexIn k >>= λ x. indices ks >>= λ xs. give ((k, x) ∷ xs)
+
+abbrev pub bulkOf : ℕ → Option (List Space) → Reader (Operand Identifier)
+bulkOf b none = refuse 4
+bulkOf b (some ks) = indices ks >>= λ xs. give (items b xs)
+
 unfoldable pub plainOf : ℕ → Operands → Reader (Plain Identifier)
 plainOf op bare = done op nothing
 plainOf op labelidx = present >>= λ x. done op (label x)
@@ -86,6 +116,7 @@ plainOf op i64 = u64 >>= λ n. done op (int64 n)
 plainOf op f32 = many 4 byte >>= λ bs. done op (raw bs)
 plainOf op f64 = many 8 byte >>= λ bs. done op (raw bs)
 plainOf op heaptype = refType >>= λ t. done op (raw (t ∷ []))
+plainOf op bulk = byte >>= λ b. bulkOf b (spacesOf b) >>= λ x. done op x
 
 -- a constant is one instruction, chosen by its first byte
 unfoldable pub constant : Reader (Plain Identifier)

@@ -9,10 +9,10 @@ use lib.ListN.{length, replicate}
 use Rattle.definition.specs.Basic.{if_then_else_, Answer, ok, fails, refused, _>>=_, each, firstAt, isSome, at}
 use Rattle.definition.specs.Syntax.{ValType, Space, funcs, tables, mems, types, elems, datas, sameSpace, FuncType, ExternType, func, table, mem, global}
 use Rattle.definition.specs.Syntax.{Mode, passive, active, Index, absent, number, named, ownIndex, Local, TypeUse, Own, ownFunc, ownTable, ownMem, ownGlobal}
-use Rattle.definition.specs.Syntax.{Operand, nothing, label, labels, local, item, access, int32, int64, raw, Plain, Instr, opens, elses, ends, indirect, plain}
+use Rattle.definition.specs.Syntax.{Operand, nothing, label, labels, local, item, items, access, int32, int64, raw, Plain, Instr, opens, elses, ends, indirect, plain}
 use Rattle.definition.specs.Syntax.{Field, typeF, importF, ownF, exportF, startF, elemF, dataF}
 use Rattle.definition.specs.Syntax.{LocalNo, TypeNo, Depth, BlockType, empty, single, typed, Op}
-use Rattle.definition.specs.Syntax.{Imm, noImm, blockImm, labelImm, labelsImm, localImm, itemImm, indirectImm, accessImm, int32Imm, int64Imm, rawImm}
+use Rattle.definition.specs.Syntax.{Imm, noImm, blockImm, labelImm, labelsImm, localImm, itemImm, itemsImm, indirectImm, accessImm, int32Imm, int64Imm, rawImm}
 use Rattle.definition.specs.Syntax.{Item, typeI, importI, funcI, tableI, memI, globalI, exportI, startI, elemI, dataI}
 use Rattle.definition.specs.Spaces.{externSpace, ownSpace}
 use Rattle.definition.specs.Deinline.{Numbered}
@@ -197,6 +197,7 @@ module _ {I : Type 0} (Γ : Scope I) where
   immediate locals blocks r (labels xs x) = each (depthOf blocks r) xs >>= λ ds. depthOf blocks r x >>= λ d. ok (labelsImm ds d)
   immediate locals blocks r (local x) = localNo locals r x >>= λ n. ok (localImm n)
   immediate locals blocks r (item k x) = itemNo k r x >>= λ n. ok (itemImm n)
+  immediate locals blocks r (items b xs) = each (λ x. itemNo (x .0) r (x .1)) xs >>= λ ns. ok (itemsImm b ns)
   immediate locals blocks r (access e o x) = itemNo mems r x >>= λ m. ok (accessImm e o m)
   immediate locals blocks r (int32 n) = ok (int32Imm n)
   immediate locals blocks r (int64 n) = ok (int64Imm n)

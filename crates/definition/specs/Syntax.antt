@@ -82,13 +82,14 @@ pub record TypeUse (I : Type 0) : Type 0 where
 -- ## The standard, 2.4: Instructions
 
 -- what stands after the opcode of an instruction that has no block and no type use; an access is the exponent of its alignment, its offset
--- and its memory
+-- and its memory; `items` is what stands after FC: the second byte, and indices of items
 pub data Operand (I : Type 0) : Type 0 where
   nothing : Operand I
   label : Index I → Operand I
   labels : List (Index I) → Index I → Operand I
   local : Index I → Operand I
   item : Space → Index I → Operand I
+  items : ℕ → List (Space × Index I) → Operand I
   access : ℕ → ℕ → Index I → Operand I
   int32 : ℕ → Operand I
   int64 : ℕ → Operand I
@@ -182,6 +183,7 @@ pub data Imm : Type 0 where
   labelsImm : List Depth → Depth → Imm
   localImm : LocalNo → Imm
   itemImm : ℕ → Imm
+  itemsImm : ℕ → List ℕ → Imm
   indirectImm : TypeNo → ℕ → Imm
   accessImm : ℕ → ℕ → ℕ → Imm
   int32Imm : ℕ → Imm

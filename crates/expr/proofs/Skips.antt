@@ -5,7 +5,7 @@ use Rattle.definition.specs.Syntax.{Bytes}
 use Rattle.definition.specs.Reader.{Step, got, fault, onward, byte, many}
 use Rattle.definition.specs.Token.{u32, u64, counted, refType, present, optional}
 use Rattle.definition.specs.Instructions as Instructions
-use Rattle.definition.specs.Instructions.{plainOf, alignment, bare, labelidx, labelidxs, localidx, funcidx, globalidx, memidx, memarg, i32, i64, f32, f64, heaptype}
+use Rattle.definition.specs.Instructions.{plainOf, alignment, bare, labelidx, labelidxs, localidx, funcidx, globalidx, memidx, memarg, i32, i64, f32, f64, heaptype, bulk, bulkOf, spacesOf}
 use Rattle.laws.specs.Steps.{stops}
 use Rattle.syntax.specs.Numbers.{u64At}
 use Rattle.syntax.specs.declared.U64.{U64}
@@ -127,3 +127,4 @@ any-opcode op i64 s at = stops-under _ _ (u64 s at) (λ x n. refl)
 any-opcode op f32 s at = stops-under _ _ (many 4 byte s at) (λ x n. refl)
 any-opcode op f64 s at = stops-under _ _ (many 8 byte s at) (λ x n. refl)
 any-opcode op heaptype s at = stops-under _ _ (refType s at) (λ x n. refl)
+any-opcode op bulk s at = stops-under _ _ (byte s at) (λ b a. stops-under _ _ (bulkOf b (spacesOf b) s a) (λ x n. refl))

@@ -1,7 +1,9 @@
 // Instructions that open and close no block and have no type use, and constants.
+pub mod bulk;
 pub mod constant;
 pub mod pass;
 
+pub use bulk::read_in;
 pub use constant::const_at;
 pub use constant::pass_const;
 pub use pass::pass_plain;
@@ -283,6 +285,7 @@ pub fn read_plain(s: &[u8], at: usize, opcode: u8, what: Operands) -> PlainAt
         Operands::F32 => raw_plain(s, at, opcode, 4),
         Operands::F64 => raw_plain(s, at, opcode, 8),
         Operands::HeapType => heap_plain(s, at, opcode),
+        Operands::Bulk => crate::bulk::bulk_plain(s, at, opcode),
     }
 }
 

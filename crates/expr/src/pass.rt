@@ -87,5 +87,6 @@ pub fn pass_plain(s: &[u8], at: usize, what: Operands) -> Skip
         Operands::F32 => token::pass_bytes(s, at, 4),
         Operands::F64 => token::pass_bytes(s, at, 8),
         Operands::HeapType => pass_heap(s, at),
+        Operands::Bulk => crate::bulk::pass_bulk(s, at),
     }
 }

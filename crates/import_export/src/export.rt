@@ -71,5 +71,5 @@ pub fn emit_start(s: &[u8], work: &[u32], out: &mut [u8], at: usize, x: Index, r
     requires { ⌜ WORDS ≤ length (now work) ⌝ }
     ensures { λ r. ⌜ Emits entryOf (Names.resolve (scopeIn (now (s .entry)) (now (work .entry))) rec (startF (indexOf (now (s .entry)) x))) (now (out .entry)) at r (now (out .exit)) ⌝ }
 {
-    operands::emit_func(s, work, out, at, x, rec)
+    operands::emit_number(s, work, out, at, Space::Funcs, x, rec)
 }

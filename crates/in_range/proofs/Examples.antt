@@ -1,13 +1,14 @@
 -- What `InRange` lets pass and what it rules out, at its edges: each by computing.
+use mathlib.Core.Path.{refl}
 use Prim.Native.Nat.{ℕ}
 use mathlib.Core.Bool.{false}
 use mathlib.Core.List.{List, [], _∷_}
 use mathlib.Core.Option.{none}
 use native.Mathlib.Omega.{arith}
 use Rattle.definition.specs.Basic.{concatMap, at, between}
-use Rattle.definition.specs.Syntax.{Bytes, funcs, func, Limits, ImportName, active, empty, typed, Op, Imm, noImm, blockImm, labelImm, localImm, itemImm, int32Imm}
+use Rattle.definition.specs.Syntax.{Bytes, funcs, func, Limits, ImportName, active, empty, typed, Op, Imm, noImm, blockImm, labelImm, localImm, itemImm, itemsImm, int32Imm}
 use Rattle.definition.specs.Syntax.{Item, typeI, importI, funcI, tableI, memI, exportI, elemI}
-use Rattle.definition.specs.Instructions.{opcodes, formIn, formOf}
+use Rattle.definition.specs.Instructions.{opcodes, formIn, formOf, bulks, spacesIn, spacesOf}
 use Rattle.definition.specs.Spaces.{externSpace, count}
 use Rattle.in_range.specs.InRange.{itemBrings, countOf, typeOf, typesOf, ItemInRange, InRange}
 
@@ -64,6 +65,23 @@ no-function h = let x = h .1 .0 in omega arith
 pub no-global : Passes (op 0x23 (itemImm 0) ∷ []) → ⊥
 unfolding countOf itemBrings concatMap count formOf formIn opcodes between
 no-global h = let x = h .1 .0 in omega arith
+
+-- memory.copy 0 0; there is no memory 1 to copy from, no data segment, and memory.fill has one index
+pub first-memory : Passes (op 0xFC (itemsImm 0x0A (0 ∷ 0 ∷ [])) ∷ [])
+unfolding countOf itemBrings concatMap count formOf formIn opcodes between spacesOf spacesIn bulks
+first-memory = (omega arith, ((refl, (omega arith, (omega arith, tt))), tt))
+
+pub no-memory : Passes (op 0xFC (itemsImm 0x0A (0 ∷ 1 ∷ [])) ∷ []) → ⊥
+unfolding countOf itemBrings concatMap count spacesOf spacesIn bulks
+no-memory h = let x = h .1 .0 .1 .1 .0 in omega arith
+
+pub no-data : Passes (op 0xFC (itemsImm 0x08 (0 ∷ 0 ∷ [])) ∷ []) → ⊥
+unfolding countOf itemBrings concatMap count spacesOf spacesIn bulks
+no-data h = let x = h .1 .0 .1 .0 in omega arith
+
+pub one-memory : Passes (op 0xFC (itemsImm 0x0B (0 ∷ 0 ∷ [])) ∷ []) → ⊥
+unfolding spacesOf spacesIn bulks
+one-memory h = h .1 .0 .1 .1
 
 -- a block of type 1, where there is one type
 pub no-type : Passes (op 0x02 (blockImm (typed (record { type-no = 1 }))) ∷ []) → ⊥

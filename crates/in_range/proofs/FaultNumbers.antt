@@ -2,18 +2,19 @@
 use mathlib.Core.Path.{_≡_, refl}
 use Prim.Native.Nat.{ℕ, zero, suc, _+_, _<_}
 use mathlib.Core.Bool.{Bool, true, false}
+use mathlib.Core.List.{List, [], _∷_}
 use mathlib.Core.Option.{Option, none, some}
 use lib.Dec.{ltb}
 use lib.ListN.{length, getD}
 use borrow.Author.Tests.{ltb-true}
 use native.Mathlib.Omega.{arith}
 use Rattle.definition.specs.Basic.{if_then_else_}
-use Rattle.definition.specs.Syntax.{Bytes}
+use Rattle.definition.specs.Syntax.{Bytes, Space}
 use Rattle.definition.specs.Reader.{Step, got, fault, Reader, onward, require, byte, many}
 use Rattle.definition.specs.Token.{groups, u32, u64, upTo, counted, idByte, identifier, identifier₁, stringByte, string, bytes, valType, refType, flag, flag64, bound, maximum, limitsOf, limits}
 use Rattle.definition.specs.Token.{tableType, globalType, numberIndex, namedIndex, present, optional, param, typeUse}
-use Rattle.definition.specs.Instructions.{Operands, bare, labelidx, labelidxs, localidx, funcidx, globalidx, memidx, memarg, i32, i64, f32, f64, heaptype}
-use Rattle.definition.specs.Instructions.{Form, opening, elsing, ending, calling, operands, alignment, plainOf, constant, instruction, Inside, admits, formed, bodyRec}
+use Rattle.definition.specs.Instructions.{Operands, bare, labelidx, labelidxs, localidx, funcidx, globalidx, memidx, memarg, i32, i64, f32, f64, heaptype, bulk}
+use Rattle.definition.specs.Instructions.{Form, opening, elsing, ending, calling, operands, alignment, indexIn, indices, bulkOf, plainOf, constant, instruction, Inside, admits, formed, bodyRec}
 use Rattle.definition.specs.Records.{Room, importName, funcExtern, tableExtern, memExtern, globalExtern, importOf, importRec, itemRec, importForm}
 use Rattle.definition.specs.Records.{ownFuncForm, funcRec, ownTableForm, inlineTableForm, tableRec, ownMemForm, inlineMemForm, memRec, ownGlobalForm, globalRec}
 use Rattle.definition.specs.Records.{typeRec, kind, exportRec, startRec, activeMode, mode, elemRec, dataRec, fieldRecs, fieldRec}
@@ -153,6 +154,17 @@ ruleset tokens = (numbers, by-identifier, by-string, by-bytes, by-valType, by-re
 
 -- ## Instructions
 
+by-indices : (ks : List Space) (s : Bytes) (at : ℕ) → NotZero (indices ks s at)
+unfolding indices indexIn
+by-indices [] s at = search tokens
+by-indices (k ∷ ks) s at =
+    let again : (s : Bytes) (at : ℕ) → NotZero (indices ks s at) = λ s at. by-indices ks s at in
+    search (tokens, again) depth 12
+
+by-bulk : (b : ℕ) (o : Option (List Space)) (s : Bytes) (at : ℕ) → NotZero (bulkOf b o s at)
+by-bulk b none s at = search tokens
+by-bulk b (some ks) s at = search (tokens, by-indices) depth 12
+
 by-plain : (op : ℕ) (w : Operands) (s : Bytes) (at : ℕ) → NotZero (plainOf op w s at)
 unfolding plainOf alignment
 by-plain op bare s at = search (tokens) depth 12
@@ -168,6 +180,7 @@ by-plain op i64 s at = search (tokens) depth 12
 by-plain op f32 s at = search (tokens) depth 12
 by-plain op f64 s at = search (tokens) depth 12
 by-plain op heaptype s at = search (tokens) depth 12
+by-plain op bulk s at = search (tokens, by-bulk) depth 12
 
 by-constant : (s : Bytes) (at : ℕ) → NotZero (constant s at)
 unfolding constant

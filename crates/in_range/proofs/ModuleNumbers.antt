@@ -6,7 +6,7 @@ use mathlib.Core.Option.{Option, none, some}
 use Rattle.definition.specs.Basic.{Answer}
 use Rattle.definition.specs.Syntax.{Bytes, Identifier, Space, FuncType, ExternType, func, table, mem, global, Mode, passive, active}
 use Rattle.definition.specs.Syntax.{Index, absent, number, named, ownIndex, TypeUse, Own, ownFunc, ownTable, ownMem, ownGlobal}
-use Rattle.definition.specs.Syntax.{Operand, nothing, label, labels, local, item, access, int32, int64, raw, Plain, Instr, opens, elses, ends, indirect, plain}
+use Rattle.definition.specs.Syntax.{Operand, nothing, label, labels, local, item, items, access, int32, int64, raw, Plain, Instr, opens, elses, ends, indirect, plain}
 use Rattle.definition.specs.Syntax.{Rec, Field, typeF, importF, ownF, exportF, startF, elemF, dataF}
 use Rattle.definition.specs.Deinline.{Numbered, importOrder}
 use Rattle.definition.specs.Types.{allTypes}
@@ -68,6 +68,7 @@ module _ {I : Type 0} (Γ : Scope I) where
     by-immediate (labels xs x) = search (answers, by-each, by-depth)
     by-immediate (local x) = search (answers, by-local)
     by-immediate (item k x) = search (answers, by-item)
+    by-immediate (items b xs) = search (answers, by-each, by-item)
     by-immediate (access e o x) = search (answers, by-item)
     by-immediate (int32 n) = search answers
     by-immediate (int64 n) = search answers

@@ -2,17 +2,17 @@
 -- indices rest.
 use mathlib.Core.Path.{_≡_, refl}
 use Prim.Native.Nat.{ℕ, zero, suc, _<_}
-use mathlib.Core.List.{List, [], _∷_}
+use mathlib.Core.List.{List, [], _∷_, map}
 use mathlib.Core.Option.{Option, none, some}
 use Rattle.definition.specs.Basic.{between}
-use Rattle.definition.specs.Syntax.{Bytes, Identifier, Index, absent, number, named, ownIndex, TypeUse}
-use Rattle.definition.specs.Syntax.{Operand, nothing, label, labels, local, item, access, int32, int64, raw, Plain, Instr, opens, elses, ends, indirect, plain}
-use Rattle.definition.specs.Reader.{Step, onward, many}
+use Rattle.definition.specs.Syntax.{Bytes, Identifier, Space, mems, sameSpace, Index, absent, number, named, ownIndex, TypeUse}
+use Rattle.definition.specs.Syntax.{Operand, nothing, label, labels, local, item, items, access, int32, int64, raw, Plain, Instr, opens, elses, ends, indirect, plain}
+use Rattle.definition.specs.Reader.{Step, onward, byte, many}
 use Rattle.definition.specs.Token.{counted, numberIndex, namedIndex, present, optional, typeUse}
-use Rattle.definition.specs.Instructions.{Operands, bare, labelidx, labelidxs, localidx, funcidx, globalidx, memidx, memarg, i32, i64, f32, f64, heaptype}
-use Rattle.definition.specs.Instructions.{Form, opening, elsing, ending, calling, operands, opcodes, formIn, formOf, plainOf, constant, instruction, Inside, admits, formed}
+use Rattle.definition.specs.Instructions.{Operands, bare, labelidx, labelidxs, localidx, funcidx, globalidx, memidx, memarg, i32, i64, f32, f64, heaptype, bulk}
+use Rattle.definition.specs.Instructions.{Form, opening, elsing, ending, calling, operands, opcodes, formIn, formOf, spacesOf, indexIn, indices, bulkOf, plainOf, constant, instruction, Inside, admits, formed}
 use Rattle.in_range.specs.InRange.{Every, operandSpace}
-use Rattle.in_range.proofs.Gives.{Gives, gives, gives-none, gives-by, gives-then, givings}
+use Rattle.in_range.proofs.Gives.{Gives, gives, gives-none, gives-if, gives-by, gives-then, givings}
 
 -- ## Indices
 
@@ -88,13 +88,18 @@ pub ruleset tellings = (present-then, optional-then, counted-then, use-then, bot
 
 -- ## Sorts of operands
 
--- an item's space is the one that its sort names
+-- indices with their spaces: these, in their order
+abbrev pub OfSpaces : {I : Type 0} → List Space → List (Space × Index I) → Type 0
+OfSpaces ks xs = (map (λ x. x .0) xs ≡ ks) × Every (λ x. Told (x .1)) xs
+
+-- an item's space is the one that its sort names, those of several the ones that the second byte names
 abbrev pub Suits : {I : Type 0} → Operands → Operand I → Type 0
 Suits w nothing = Unit {0}
 Suits w (label x) = Told x
 Suits w (labels xs x) = Every Told xs × Told x
 Suits w (local x) = Told x
 Suits w (item k x) = (operandSpace w ≡ some k) × Told x
+Suits w (items b xs) = (w ≡ bulk) × (spacesOf b ≡ some (map (λ x. x .0) xs)) × Every (λ x. Told (x .1)) xs
 Suits w (access e o x) = Told x
 Suits w (int32 n) = Unit {0}
 Suits w (int64 n) = Unit {0}
@@ -119,6 +124,23 @@ InstrSorted (plain p) = Sorted p
 
 -- ## Instructions and constants
 
+index-told : (k : Space) (s : Bytes) (at : ℕ) → Gives Told (indexIn k s at)
+unfolding indexIn
+index-told k s at = gives-if (sameSpace k mems) optional present s at (optional-told s at) (present-told s at)
+
+indices-told : (ks : List Space) (s : Bytes) (at : ℕ) → Gives (OfSpaces ks) (indices ks s at)
+unfolding indices
+indices-told [] s at = gives [] at (refl, tt)
+indices-told (k ∷ ks) s at =
+    gives-by Told (index-told k s at) λ x n h.
+    gives-by (OfSpaces ks) (indices-told ks s n) λ xs m g.
+    gives ((k, x) ∷ xs) m (rw (g .0) refl, (h, g .1))
+
+-- what is read after FC and a second byte
+bulk-sorted : (b : ℕ) (o : Option (List Space)) → spacesOf b ≡ o → (s : Bytes) (at : ℕ) → Gives (Suits bulk) (bulkOf b o s at)
+bulk-sorted b none e s at = gives-none 4
+bulk-sorted b (some ks) e s at = gives-by (OfSpaces ks) (indices-told ks s at) λ xs n h. gives (items b xs) n (refl, rw (h .0) e, h .1)
+
 -- what is read after an opcode by its sort
 plain-sorted : (op : ℕ) (w : Operands) → formOf op ≡ some (operands w) → (s : Bytes) (at : ℕ) → Gives Sorted (plainOf op w s at)
 unfolding plainOf
@@ -135,6 +157,10 @@ plain-sorted op i64 e s at = search (tellings, sorted)
 plain-sorted op f32 e s at = search (tellings, sorted)
 plain-sorted op f64 e s at = search (tellings, sorted)
 plain-sorted op heaptype e s at = search (tellings, sorted)
+plain-sorted op bulk e s at =
+    gives-then (byte s at) _ λ b n.
+    gives-by (Suits bulk) (bulk-sorted b (spacesOf b) refl s n) λ x m h.
+    gives _ m (sorted op bulk x e h)
 
 -- a constant is one of seven
 constant-sorted : (s : Bytes) (at : ℕ) → Gives Sorted (constant s at)

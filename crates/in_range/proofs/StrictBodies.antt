@@ -8,18 +8,18 @@ use lib.Dec.{ltb}
 use lib.ListN.{length, replicate, length-map, length-replicate}
 use borrow.Author.Tests.{ltb-true}
 use native.Mathlib.Omega.{arith}
-use Rattle.definition.specs.Basic.{if_then_else_, ok, refused, _>>=_, firstAt, at, between}
+use Rattle.definition.specs.Basic.{if_then_else_, ok, refused, _>>=_, each, firstAt, at, between}
 use Rattle.definition.specs.Syntax.{Space, tables, mems, types, FuncType, ValType}
 use Rattle.definition.specs.Syntax.{Index, absent, number, named, ownIndex, TypeUse}
-use Rattle.definition.specs.Syntax.{Operand, nothing, label, labels, local, item, access, int32, int64, raw, Plain, Instr, opens, elses, ends, indirect, plain}
+use Rattle.definition.specs.Syntax.{Operand, nothing, label, labels, local, item, items, access, int32, int64, raw, Plain, Instr, opens, elses, ends, indirect, plain}
 use Rattle.definition.specs.Syntax.{LocalNo, TypeNo, Depth, typed, Op}
-use Rattle.definition.specs.Syntax.{noImm, labelImm, labelsImm, localImm, itemImm, accessImm, int32Imm, int64Imm, rawImm}
+use Rattle.definition.specs.Syntax.{noImm, labelImm, labelsImm, localImm, itemImm, itemsImm, accessImm, int32Imm, int64Imm, rawImm}
 use Rattle.definition.specs.Syntax.{Item}
 use Rattle.definition.specs.Instructions.{Operands, operands, opcodes, formIn, formOf}
 use Rattle.definition.specs.Types.{signature, sameType, typeNumber, isInline, isShort, unlessIndexed, useOf, instrUses, Uses, usedAt, bodyUses}
 use Rattle.definition.specs.Names.{Namespace, Scope, carries, find, foundAt, below, numberIn, isAbsent, agrees, shortType, paramCount, paramNames, blocksAfter, countIn, itemNo, checked, typeNoOf, typeNo, blockType}
 use Rattle.definition.specs.Names.{localNo, depthOf, immediate, plainOp, instrOp, body}
-use Rattle.in_range.specs.InRange.{Every, openBlocks, Below, TypeInRange, BlockInRange, ImmInRange, OpInRange, BodyInRange}
+use Rattle.in_range.specs.InRange.{Every, openBlocks, Below, EachBelow, TypeInRange, BlockInRange, ImmInRange, OpInRange, BodyInRange}
 use Rattle.laws.proofs.Equal.{and-true, same-eq}
 use Rattle.laws.proofs.Interning.{first-passes, Interned}
 use Rattle.in_range.proofs.Gives.{every-left, every-right, Holds, held, held-not, held-by, held-then, held-each}
@@ -183,6 +183,15 @@ module _ {I : Type 0} (eq : I → I → Bool) (names : Space → Namespace I) (r
       unfolding depthOf
       depth-held x o = held-by _ (number-held eq blocks (length blocks + 1) r (omega arith) x (told-below _ x o)) λ n h. held _ (omega arith)
 
+      items-held : (xs : List (Space × Index I)) → Every (λ x. Told (x .1)) xs
+          → Holds (EachBelow is (map (λ x. x .0) xs)) (each (λ x. itemNo Strictly (x .0) r (x .1)) xs)
+      unfolding each
+      items-held [] h = held [] tt
+      items-held ((k, x) ∷ xs) h =
+          held-by _ (told-held k r x (h .0)) λ n g.
+          held-by _ (items-held xs (h .1)) λ ns f.
+          held (n ∷ ns) (g, f)
+
       immediate-held : (w : Operands) (o : Operand I) → Suits w o
           → Holds (ImmInRange is (length locals) (length blocks) (some (operands w))) (immediate Strictly locals blocks r o)
       unfolding immediate
@@ -194,6 +203,7 @@ module _ {I : Type 0} (eq : I → I → Bool) (names : Space → Namespace I) (r
           held (labelsImm ds d) (h, g)
       immediate-held w (local x) s = held-by _ (local-held x s) λ n h. held (localImm n) h
       immediate-held w (item k x) s = held-by _ (told-held k r x (s .1)) λ n h. held (itemImm n) (rw (s .0) h)
+      immediate-held w (items b xs) s = held-by _ (items-held xs (s .2)) λ ns h. held (itemsImm b ns) (rw (s .0) refl, rw (s .1) h)
       immediate-held w (access e o x) s = held-by _ (told-held mems r x s) λ n h. held (accessImm e o n) h
       immediate-held w (int32 n) s = held (int32Imm n) tt
       immediate-held w (int64 n) s = held (int64Imm n) tt

@@ -9,10 +9,10 @@ use lib.ListN.{length, take}
 use Rattle.definition.specs.Basic.{ok, concatMap, at, someOr, sameBytes}
 use Rattle.definition.specs.Syntax.{Bytes, Identifier, Rec, Space, funcs, tables, mems, globals, types, elems, datas, FuncType, ExternType, func, table, mem, global}
 use Rattle.definition.specs.Syntax.{Mode, passive, active, TypeNo, BlockType, empty, single, typed, Op}
-use Rattle.definition.specs.Syntax.{Imm, noImm, blockImm, labelImm, labelsImm, localImm, itemImm, indirectImm, accessImm, int32Imm, int64Imm, rawImm}
+use Rattle.definition.specs.Syntax.{Imm, noImm, blockImm, labelImm, labelsImm, localImm, itemImm, itemsImm, indirectImm, accessImm, int32Imm, int64Imm, rawImm}
 use Rattle.definition.specs.Syntax.{Item, typeI, importI, funcI, tableI, memI, globalI, exportI, startI, elemI, dataI}
-use Rattle.definition.specs.Instructions.{Operands, bare, labelidx, labelidxs, localidx, funcidx, globalidx, memidx, memarg, i32, i64, f32, f64, heaptype}
-use Rattle.definition.specs.Instructions.{Form, opening, elsing, ending, calling, operands, formOf}
+use Rattle.definition.specs.Instructions.{Operands, bare, labelidx, labelidxs, localidx, funcidx, globalidx, memidx, memarg, i32, i64, f32, f64, heaptype, bulk}
+use Rattle.definition.specs.Instructions.{Form, opening, elsing, ending, calling, operands, formOf, spacesOf}
 use Rattle.definition.specs.Spaces.{externSpace, count}
 use Rattle.definition.specs.Names.{paramCount, Scope}
 use Rattle.definition.specs.Binary.{module′}
@@ -74,6 +74,7 @@ operandSpace i64 = none
 operandSpace f32 = none
 operandSpace f64 = none
 operandSpace heaptype = none
+operandSpace bulk = none
 
 -- the same by what stands after its opcode
 abbrev pub formSpace : Option Form → Option Space
@@ -110,6 +111,17 @@ module _ (is : List Item) where
   BelowIn none n = ⊥
   BelowIn (some k) n = Below k n
 
+  -- indices, one of each space
+  abbrev pub EachBelow : List Space → List ℕ → Type 0
+  EachBelow [] [] = Unit {0}
+  EachBelow [] (n ∷ ns) = ⊥
+  EachBelow (k ∷ ks) [] = ⊥
+  EachBelow (k ∷ ks) (n ∷ ns) = Below k n × EachBelow ks ns
+
+  abbrev pub EachBelowIn : Option (List Space) → List ℕ → Type 0
+  EachBelowIn none ns = ⊥
+  EachBelowIn (some ks) ns = EachBelow ks ns
+
   abbrev pub TypeInRange : TypeNo → Type 0
   TypeInRange n = Below types (n .type-no)
 
@@ -126,6 +138,7 @@ module _ (is : List Item) where
   ImmInRange locals blocks form (labelsImm ds d) = Every (λ x. x .depth ≤ blocks) ds × (d .depth ≤ blocks)
   ImmInRange locals blocks form (localImm n) = n .local-no < locals
   ImmInRange locals blocks form (itemImm n) = BelowIn (formSpace form) n
+  ImmInRange locals blocks form (itemsImm b ns) = (form ≡ some (operands bulk)) × EachBelowIn (spacesOf b) ns
   ImmInRange locals blocks form (indirectImm y x) = TypeInRange y × Below tables x
   ImmInRange locals blocks form (accessImm e o m) = Below mems m
   ImmInRange locals blocks form (int32Imm n) = Unit {0}

@@ -28,6 +28,7 @@ operandsNumber Instructions.i64 = 14
 operandsNumber Instructions.f32 = 15
 operandsNumber Instructions.f64 = 16
 operandsNumber Instructions.heaptype = 17
+operandsNumber Instructions.bulk = 18
 
 abbrev number : Option Instructions.Form → ℕ
 number none = 0
@@ -56,6 +57,7 @@ numbered n =
     if eqb n 15 then some (operands Instructions.f32) else
     if eqb n 16 then some (operands Instructions.f64) else
     if eqb n 17 then some (operands Instructions.heaptype) else
+    if eqb n 18 then some (operands Instructions.bulk) else
     none
 
 operands-back : (w : Instructions.Operands) → numbered (operandsNumber w) ≡ some (operands w)
@@ -72,6 +74,7 @@ operands-back Instructions.i64 = refl
 operands-back Instructions.f32 = refl
 operands-back Instructions.f64 = refl
 operands-back Instructions.heaptype = refl
+operands-back Instructions.bulk = refl
 
 back : (f : Option Instructions.Form) → numbered (number f) ≡ f
 back none = refl

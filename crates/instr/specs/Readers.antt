@@ -42,4 +42,5 @@ highForm b =
     if eqb b 0xD0 then some (operands Instructions.heaptype) else
     if eqb b 0xD1 then some (operands Instructions.bare) else
     if eqb b 0xD2 then some (operands Instructions.funcidx) else
+    if eqb b 0xFC then some (operands Instructions.bulk) else
     none

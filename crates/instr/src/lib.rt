@@ -94,7 +94,7 @@ fn middle_form(b: u8) -> Form
     Form::Operands(Operands::F64)
 }
 
-// From 45 on: numeric instructions, then references.
+// From 45 on: numeric instructions, then references, then what has a second byte.
 fn high_form(b: u8) -> Form
     ensures { λ r. ⌜ formIs r ≡ highForm b ⌝ }
 {
@@ -109,6 +109,9 @@ fn high_form(b: u8) -> Form
     }
     if b == 0xD2 {
         return Form::Operands(Operands::FuncIdx);
+    }
+    if b == 0xFC {
+        return Form::Operands(Operands::Bulk);
     }
     Form::NoOpcode
 }

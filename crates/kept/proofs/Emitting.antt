@@ -36,6 +36,7 @@ use Rattle.syntax.specs.declared.Entry.the-variants as E
 use Rattle.syntax.proofs.Entry as EntryOf
 use Rattle.entries.specs.declared.EndsAt.{EndsAt}
 use Rattle.entries.specs.declared.EndsAt.the-variants as A
+use Rattle.kept.specs.Sections.{SECTIONS}
 use Rattle.kept.specs.Parts.{startOf, partIn}
 use Rattle.kept.specs.Tally.{Ready}
 use Rattle.kept.specs.Emit.{AreaOf, EmitsEntry, EmitsKept}
@@ -103,7 +104,7 @@ not-code (E.InlineData w n d) h = record { other = λ z. omega (arith, z) }
 
 -- ## An entry's part of the kept bytes
 
-section-small : (e : Entry) → sectionNo e < 12
+section-small : (e : Entry) → sectionNo e < SECTIONS
 section-small E.Nothing = omega arith
 section-small (E.Type ps rs) = omega arith
 section-small (E.Import n x) = omega arith
@@ -122,7 +123,7 @@ section-small (E.Code t ls here) = omega arith
 section-small (E.Data m d) = omega arith
 section-small (E.InlineData w n d) = omega arith
 
-pub section-below : (e : Entry) (k : ℕ) → k ≡ sectionNo e → k < 12
+pub section-below : (e : Entry) (k : ℕ) → k ≡ sectionNo e → k < SECTIONS
 section-below e k d = rw d (section-small e)
 
 pub section-next : (e : Entry) (k : ℕ) → k ≡ sectionNo e → Fits w8 (k + 1)

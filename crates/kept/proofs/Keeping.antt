@@ -22,16 +22,17 @@ use Rattle.laws.proofs.TypeSection.{section-append}
 use Rattle.emit.specs.Put.{past, Put}
 use Rattle.emit.proofs.Laws.{put-none, put-then}
 use Rattle.deinline.specs.Entry.{Entries}
+use Rattle.kept.specs.Sections.{SECTIONS}
 use Rattle.kept.specs.Parts.{unitsOf, startOf, partIn}
-use Rattle.kept.specs.Tally.{added, reached, tallies, Twelve, Keeps}
+use Rattle.kept.specs.Tally.{added, reached, tallies, Slots, Keeps}
 use Rattle.kept.specs.declared.tally.Tally.{Tally}
 use Rattle.kept.proofs.Tallies.{past-none, tallies-append, tallies-one, size-is}
 
 -- ## Where the parts begin
 
-units-up : (k : ℕ) → k < 12 → unitsOf k ≤ unitsOf (k + 1)
+units-up : (k : ℕ) → k < SECTIONS → unitsOf k ≤ unitsOf (k + 1)
 unfolding unitsOf
-units-up k h = leb-true _ _ (everywhere (λ k. leb (unitsOf k) (unitsOf (k + 1))) 12 tt k h)
+units-up k h = leb-true _ _ (everywhere (λ k. leb (unitsOf k) (unitsOf (k + 1))) SECTIONS tt k h)
 
 units-most : (k : ℕ) → unitsOf k ≤ 32
 unfolding unitsOf
@@ -40,19 +41,19 @@ units-most k =
     (λ _. if-either (λ x. x ≤ 32) (leb k 10) (λ e. omega (arith, leb-true k 10 e))
     (λ _. if-either (λ x. x ≤ 32) (eqb k 11) (λ _. omega arith) (λ _. omega arith)))
 
-units-later : (j d : ℕ) → j + d ≤ 12 → unitsOf j ≤ unitsOf (j + d)
+units-later : (j d : ℕ) → j + d ≤ SECTIONS → unitsOf j ≤ unitsOf (j + d)
 units-later j zero h = let e : j + 0 ≡ j = omega arith in rw e (omega arith)
 units-later j (suc d) h =
     let e : j + suc d ≡ (j + d) + 1 = omega arith in
     rw e (le-trans (units-later j d (omega arith)) (units-up (j + d) (omega arith)))
 
 -- a part begins before the next one
-pub start-up : (len k : ℕ) → k < 12 → startOf len k ≤ startOf len (k + 1)
+pub start-up : (len k : ℕ) → k < SECTIONS → startOf len k ≤ startOf len (k + 1)
 unfolding startOf
 start-up len k h = mul-le-mul-left (len / 32) (units-up k h)
 
 -- and before all later ones
-pub start-later : (len j k : ℕ) → j ≤ k → k ≤ 12 → startOf len j ≤ startOf len k
+pub start-later : (len j k : ℕ) → j ≤ k → k ≤ SECTIONS → startOf len j ≤ startOf len k
 unfolding startOf
 start-later len j k h b =
     let e : j + (k - j) ≡ k = omega arith in
@@ -64,7 +65,7 @@ unfolding startOf
 start-within len k = let z = mul-le-mul-left (len / 32) (units-most k) in omega arith
 
 -- a part stands in order and within the kept bytes
-pub part-order : (kept : Bytes) (k a b : ℕ) → k < 12 → a ≡ startOf (length kept) k → b ≡ startOf (length kept) (k + 1) → a ≤ b
+pub part-order : (kept : Bytes) (k a b : ℕ) → k < SECTIONS → a ≡ startOf (length kept) k → b ≡ startOf (length kept) (k + 1) → a ≤ b
 part-order kept k a b h from to = rw (from, to) (start-up (length kept) k h)
 
 pub part-within : (kept : Bytes) (k a : ℕ) → a ≡ startOf (length kept) k → a ≤ length kept
@@ -115,7 +116,7 @@ part-short kept k =
 
 -- ## A part is lent and changed
 
-module _ (old new : Bytes) (k a b : ℕ) (h : k < 12) (from : a ≡ startOf (length old) k) (to : b ≡ startOf (length old) (k + 1)) (l : length new ≡ length (take (b - a) (drop a old))) where
+module _ (old new : Bytes) (k a b : ℕ) (h : k < SECTIONS) (from : a ≡ startOf (length old) k) (to : b ≡ startOf (length old) (k + 1)) (l : length new ≡ length (take (b - a) (drop a old))) where
   in-order : a ≤ b
   in-order = rw (from, to) (start-up (length old) k h)
 
@@ -137,7 +138,7 @@ module _ (old new : Bytes) (k a b : ℕ) (h : k < 12) (from : a ≡ startOf (len
       (take-at new (drop (b - a) (drop a old)) (b - a) as-long)
 
   -- and every other one is what it was
-  pub lent-there : (j : ℕ) → j < 12 → (j ≡ k → ⊥) → partIn (putMid a (b - a) old new) j ≡ partIn old j
+  pub lent-there : (j : ℕ) → j < SECTIONS → (j ≡ k → ⊥) → partIn (putMid a (b - a) old new) j ≡ partIn old j
   unfolding partIn
   lent-there j g d = rw lent-long (go (leb j k) refl)
     where
@@ -175,7 +176,7 @@ unfolding joined concatMap
 joined-none = refl
 
 -- the place that was reached is the tally of the entries that were put
-pub reached-is : (t : Tally) (k to n : ℕ) (es : List Bytes) → k < 12 → Twelve t → to ≡ past (getD (t .sizes) k 0) (length (joined es)) → n ≡ length es → reached t k to n ≡ tallies t (map (λ b. (k, b)) es)
+pub reached-is : (t : Tally) (k to n : ℕ) (es : List Bytes) → k < SECTIONS → Slots t → to ≡ past (getD (t .sizes) k 0) (length (joined es)) → n ≡ length es → reached t k to n ≡ tallies t (map (λ b. (k, b)) es)
 unfolding reached added
 reached-is t k to n es h w d e = rw (d, e) (sym (tallies-one t k es h w))
 
@@ -196,11 +197,11 @@ keeps-then a b c t t₁ es fs e x y =
     }
 
 -- the entries of one section, put into its part
-pub keeps-one : (old new : Bytes) (t : Tally) (k to : ℕ) (es : List Bytes) → k < 12 → Twelve t → length old * 1 < 2 ^ 63 → Put (partIn old k) (getD (t .sizes) k 0) (joined es) to (partIn new k)
-    → ((j : ℕ) → j < 12 → (j ≡ k → ⊥) → partIn new j ≡ partIn old j) → length new ≡ length old → Keeps old t (map (λ b. (k, b)) es) new
+pub keeps-one : (old new : Bytes) (t : Tally) (k to : ℕ) (es : List Bytes) → k < SECTIONS → Slots t → length old * 1 < 2 ^ 63 → Put (partIn old k) (getD (t .sizes) k 0) (joined es) to (partIn new k)
+    → ((j : ℕ) → j < SECTIONS → (j ≡ k → ⊥) → partIn new j ≡ partIn old j) → length new ≡ length old → Keeps old t (map (λ b. (k, b)) es) new
 keeps-one old new t k to es h w s p o l = record { each = λ j g. go j g (eqb j k) refl; long = l }
   where
-    go : (j : ℕ) → j < 12 → (x : Bool) → eqb j k ≡ x
+    go : (j : ℕ) → j < SECTIONS → (x : Bool) → eqb j k ≡ x
         → Put (partIn old j) (getD (t .sizes) j 0) (joined (inSection j (map (λ b. (k, b)) es))) (getD (tallies t (map (λ b. (k, b)) es) .sizes) j 0) (partIn new j)
     go j g true e = let z : j ≡ k = eqb-true _ _ e in rw (z, size-is k h t (map (λ b. (k, b)) es) w, section-own k es, sym (p .place)) p
     go j g false e =
@@ -209,7 +210,7 @@ keeps-one old new t k to es h w s p o l = record { each = λ j g. go j g (eqb j 
         rw (size-is j g t (map (λ b. (k, b)) es) w, section-other j k es d, joined-none, o j g d, past-none (getD (t .sizes) j 0)) (put-none (getD (t .sizes) j 0) (omega arith))
 
 -- the same, as a part is lent for it
-pub keeps-lent : (old new : Bytes) (t : Tally) (k a b to : ℕ) (es : List Bytes) → k < 12 → Twelve t → length old * 1 < 2 ^ 63 → a ≡ startOf (length old) k → b ≡ startOf (length old) (k + 1)
+pub keeps-lent : (old new : Bytes) (t : Tally) (k a b to : ℕ) (es : List Bytes) → k < SECTIONS → Slots t → length old * 1 < 2 ^ 63 → a ≡ startOf (length old) k → b ≡ startOf (length old) (k + 1)
     → Put (take (b - a) (drop a old)) (getD (t .sizes) k 0) (joined es) to new → Keeps old t (map (λ b. (k, b)) es) (putMid a (b - a) old new)
 unfolding partIn
 keeps-lent old new t k a b to es h w s d e p =

@@ -13,7 +13,8 @@ use Rattle.definition.specs.Syntax.{Bytes}
 use Rattle.definition.specs.Binary.{inSection, joined}
 use Rattle.emit.specs.Put.{past}
 use Rattle.deinline.specs.Entry.{Entries}
-use Rattle.kept.specs.Tally.{added, reached, tallies, tallyOf, Twelve}
+use Rattle.kept.specs.Sections.{SECTIONS}
+use Rattle.kept.specs.Tally.{added, reached, tallies, tallyOf, Slots}
 use Rattle.kept.specs.declared.tally.Tally.{Tally}
 
 -- ## Places that saturate
@@ -49,21 +50,21 @@ unfolding tallies
 tallies-append t [] ys = refl
 tallies-append t ((k, b) ∷ xs) ys = tallies-append (added t k (length b) 1) xs ys
 
-added-twelve : (t : Tally) (k m n : ℕ) → Twelve t → Twelve (added t k m n)
+added-slots : (t : Tally) (k m n : ℕ) → Slots t → Slots (added t k m n)
 unfolding added
-added-twelve t k m n h = record { sizes = length-set (t .sizes) k _ ∙ h .sizes; counts = length-set (t .counts) k _ ∙ h .counts }
+added-slots t k m n h = record { sizes = length-set (t .sizes) k _ ∙ h .sizes; counts = length-set (t .counts) k _ ∙ h .counts }
 
-pub tallies-twelve : (t : Tally) (es : Entries) → Twelve t → Twelve (tallies t es)
+pub tallies-slots : (t : Tally) (es : Entries) → Slots t → Slots (tallies t es)
 unfolding tallies
-tallies-twelve t [] h = h
-tallies-twelve t ((k, b) ∷ es) h = tallies-twelve (added t k (length b) 1) es (added-twelve t k (length b) 1 h)
+tallies-slots t [] h = h
+tallies-slots t ((k, b) ∷ es) h = tallies-slots (added t k (length b) 1) es (added-slots t k (length b) 1 h)
 
 joined-cons : (b : Bytes) (bs : List Bytes) → length (joined (b ∷ bs)) ≡ length b + length (joined bs)
 unfolding joined concatMap
 joined-cons b bs = length-append b (joined bs)
 
 -- two additions to one section are one
-added-twice : (t : Tally) (k m n i j : ℕ) → k < 12 → Twelve t → added (added t k m n) k i j ≡ added t k (m + i) (n + j)
+added-twice : (t : Tally) (k m n i j : ℕ) → k < SECTIONS → Slots t → added (added t k m n) k i j ≡ added t k (m + i) (n + j)
 unfolding added
 added-twice t k m n i j h w =
     let a : k < length (t .sizes) = omega (arith, w .sizes) in
@@ -83,11 +84,11 @@ unfolding added
 added-none t k = rw (past-none (getD (t .sizes) k 0), past-none (getD (t .counts) k 0), set-itself (t .sizes) k, set-itself (t .counts) k) refl
 
 -- the entries of one section at once
-pub tallies-one : (t : Tally) (k : ℕ) (bs : List Bytes) → k < 12 → Twelve t → tallies t (map (λ b. (k, b)) bs) ≡ added t k (length (joined bs)) (length bs)
+pub tallies-one : (t : Tally) (k : ℕ) (bs : List Bytes) → k < SECTIONS → Slots t → tallies t (map (λ b. (k, b)) bs) ≡ added t k (length (joined bs)) (length bs)
 unfolding tallies joined concatMap
 tallies-one t k [] h w = sym (added-none t k)
 tallies-one t k (b ∷ bs) h w =
-    tallies-one (added t k (length b) 1) k bs h (added-twelve t k (length b) 1 w)
+    tallies-one (added t k (length b) 1) k bs h (added-slots t k (length b) 1 w)
     ∙ added-twice t k (length b) 1 (length (joined bs)) (length bs) h w
     ∙ ap (λ n. added t k n (1 + length bs)) (sym (joined-cons b bs))
     ∙ ap (λ n. added t k (length (joined (b ∷ bs))) n) (one-plus (length bs))
@@ -102,8 +103,8 @@ in-same : (k j : ℕ) (b : Bytes) (es : Entries) → eqb k j ≡ true → inSect
 unfolding inSection
 in-same k j b es e = rw e
 
-module _ (t : Tally) (w : Twelve t) (j m n : ℕ) where
-  size-here : j < 12 → getD (added t j m n .sizes) j 0 ≡ past (getD (t .sizes) j 0) m
+module _ (t : Tally) (w : Slots t) (j m n : ℕ) where
+  size-here : j < SECTIONS → getD (added t j m n .sizes) j 0 ≡ past (getD (t .sizes) j 0) m
   unfolding added
   size-here h = getD-set-same (t .sizes) j (past (getD (t .sizes) j 0) m) 0 (omega (arith, w .sizes))
 
@@ -111,7 +112,7 @@ module _ (t : Tally) (w : Twelve t) (j m n : ℕ) where
   unfolding added
   size-there k d = getD-set-other (t .sizes) j k (past (getD (t .sizes) j 0) m) 0 d
 
-  count-here : j < 12 → getD (added t j m n .counts) j 0 ≡ past (getD (t .counts) j 0) n
+  count-here : j < SECTIONS → getD (added t j m n .counts) j 0 ≡ past (getD (t .counts) j 0) n
   unfolding added
   count-here h = getD-set-same (t .counts) j (past (getD (t .counts) j 0) n) 0 (omega (arith, w .counts))
 
@@ -119,11 +120,11 @@ module _ (t : Tally) (w : Twelve t) (j m n : ℕ) where
   unfolding added
   count-there k d = getD-set-other (t .counts) j k (past (getD (t .counts) j 0) n) 0 d
 
-module _ (k : ℕ) (h : k < 12) where
-  pub size-is : (t : Tally) (es : Entries) → Twelve t → getD (tallies t es .sizes) k 0 ≡ past (getD (t .sizes) k 0) (length (joined (inSection k es)))
+module _ (k : ℕ) (h : k < SECTIONS) where
+  pub size-is : (t : Tally) (es : Entries) → Slots t → getD (tallies t es .sizes) k 0 ≡ past (getD (t .sizes) k 0) (length (joined (inSection k es)))
   unfolding tallies
   size-is t [] w = unfold inSection joined concatMap in sym (past-none (getD (t .sizes) k 0))
-  size-is t ((j, b) ∷ es) w = size-is (added t j (length b) 1) es (added-twelve t j (length b) 1 w) ∙ go (eqb k j) refl
+  size-is t ((j, b) ∷ es) w = size-is (added t j (length b) 1) es (added-slots t j (length b) 1 w) ∙ go (eqb k j) refl
     where
       go : (e : Bool) → eqb k j ≡ e → past (getD (added t j (length b) 1 .sizes) k 0) (length (joined (inSection k es)))
           ≡ past (getD (t .sizes) k 0) (length (joined (inSection k ((j, b) ∷ es))))
@@ -133,10 +134,10 @@ module _ (k : ℕ) (h : k < 12) where
           (past-past (getD (t .sizes) j 0) (length b) (length (joined (inSection j es))))
       go false d = rw (in-other k j b es d, size-there t w j (length b) 1 k (eqb-false _ _ d)) refl
 
-  pub count-is : (t : Tally) (es : Entries) → Twelve t → getD (tallies t es .counts) k 0 ≡ past (getD (t .counts) k 0) (length (inSection k es))
+  pub count-is : (t : Tally) (es : Entries) → Slots t → getD (tallies t es .counts) k 0 ≡ past (getD (t .counts) k 0) (length (inSection k es))
   unfolding tallies
   count-is t [] w = unfold inSection in sym (past-none (getD (t .counts) k 0))
-  count-is t ((j, b) ∷ es) w = count-is (added t j (length b) 1) es (added-twelve t j (length b) 1 w) ∙ go (eqb k j) refl
+  count-is t ((j, b) ∷ es) w = count-is (added t j (length b) 1) es (added-slots t j (length b) 1 w) ∙ go (eqb k j) refl
     where
       go : (e : Bool) → eqb k j ≡ e → past (getD (added t j (length b) 1 .counts) k 0) (length (inSection k es))
           ≡ past (getD (t .counts) k 0) (length (inSection k ((j, b) ∷ es)))

@@ -11,6 +11,7 @@ use Rattle.entries.specs.Listed.{Answers}
 use Rattle.syntax.specs.declared.Entry.{Entry}
 use Rattle.entries.specs.declared.EndsAt.{EndsAt}
 use Rattle.entries.specs.declared.EndsAt.the-variants as A
+use Rattle.kept.specs.Sections.{SECTIONS}
 use Rattle.kept.specs.Parts.{partIn}
 
 -- where it is emitted only the places of locals and labels are written
@@ -25,5 +26,5 @@ pub record EmitsEntry (s w : List ℕ) (r : ℕ) (e : Entry) (old : List ℕ) (a
 -- the same in the part of the entry's section: the other parts stay
 pub record EmitsKept (s w : List ℕ) (r : ℕ) (e : Entry) (old : List ℕ) (from : ℕ) (q : EndsAt) (w′ new : List ℕ) : Type 0 where
   pub here : EmitsEntry s w r e (partIn old (sectionNo e)) from q w′ (partIn new (sectionNo e))
-  pub there : (k : ℕ) → k < 12 → (k ≡ sectionNo e → ⊥) → partIn new k ≡ partIn old k
+  pub there : (k : ℕ) → k < SECTIONS → (k ≡ sectionNo e → ⊥) → partIn new k ≡ partIn old k
   pub long : length new ≡ length old

@@ -1,3 +1,4 @@
+pub mod Sections
 pub mod Parts
 pub mod Tally
 pub mod Content

@@ -14,6 +14,7 @@ use Rattle.area.specs.Kept.{Kept}
 use Rattle.type_table.specs.Table.{typesIn, Recalled}
 use Rattle.deinline.specs.Entry.{Entries, usesOf, HeadIn, WholeIn, Three}
 use Rattle.syntax.specs.declared.Entry.{Entry}
+use Rattle.kept.specs.Sections.{SECTIONS}
 use Rattle.kept.specs.Parts.{partIn}
 use Rattle.kept.specs.declared.tally.Tally.{Tally}
 use Rattle.kept.specs.declared.tally.Verdict.{Verdict}
@@ -34,7 +35,7 @@ tallies t [] = t
 tallies t ((k, b) ∷ es) = tallies (added t k (length b) 1) es
 
 abbrev pub noTally : Tally
-noTally = record { sizes = replicate 12 0; counts = replicate 12 0 }
+noTally = record { sizes = replicate SECTIONS 0; counts = replicate SECTIONS 0 }
 
 -- a tally as two slices, and with it what the code answers
 abbrev pub tallyOf : List ℕ → List ℕ → Tally
@@ -43,14 +44,14 @@ tallyOf sizes counts = record { sizes = sizes; counts = counts }
 abbrev pub checkedOf : List ℕ → List ℕ → Verdict → Checked
 checkedOf sizes counts v = record { tally = tallyOf sizes counts; verdict = v }
 
--- sections 0 to 11
-pub record Twelve (t : Tally) : Type 0 where
-  pub sizes : length (t .sizes) ≡ 12
-  pub counts : length (t .counts) ≡ 12
+-- a slot for each section
+pub record Slots (t : Tally) : Type 0 where
+  pub sizes : length (t .sizes) ≡ SECTIONS
+  pub counts : length (t .counts) ≡ SECTIONS
 
 -- entries come after those of a tally: each section's bytes stand in its part, as far as there is room
 pub record Keeps (old : Bytes) (t : Tally) (es : Entries) (new : Bytes) : Type 0 where
-  pub each : (k : ℕ) → k < 12 → Put (partIn old k) (getD (t .sizes) k 0) (joined (inSection k es)) (getD (tallies t es .sizes) k 0) (partIn new k)
+  pub each : (k : ℕ) → k < SECTIONS → Put (partIn old k) (getD (t .sizes) k 0) (joined (inSection k es)) (getD (tallies t es .sizes) k 0) (partIn new k)
   pub long : length new ≡ length old
 
 -- an answer's entries were tallied and kept, or it was refused

@@ -10,7 +10,7 @@ use lib.ListN.{length}
 use Rattle.definition.specs.Basic.{if_then_else_, refusal, Answer, ok, fails, refused, _>>=_, each, concatMap, sameBytes}
 use Rattle.definition.specs.Syntax.{Bytes, Identifier, Space, funcs, tables, mems, types, FuncType, ExternType, func, table, mem, global, Mode, passive, active}
 use Rattle.definition.specs.Syntax.{Index, absent, number, named, ownIndex, TypeUse, Own, ownFunc, ownTable, ownMem, ownGlobal}
-use Rattle.definition.specs.Syntax.{Operand, nothing, label, labels, local, item, access, int32, int64, raw, Plain, Instr, opens, elses, ends, indirect, plain}
+use Rattle.definition.specs.Syntax.{Operand, nothing, label, labels, local, item, items, access, int32, int64, raw, Plain, Instr, opens, elses, ends, indirect, plain}
 use Rattle.definition.specs.Syntax.{Rec, Item, Field, typeF, importF, ownF, exportF, startF, elemF, dataF}
 use Rattle.definition.specs.Deinline.{Numbered, deinline}
 use Rattle.definition.specs.Types.{signature, isInline, isShort}
@@ -119,6 +119,7 @@ module _ {I : Type 0} (eq : I → I → Bool) (names : Space → Namespace I) (r
         next (depthOf-or blocks r x) (λ d. itself)
     immediate-or blocks r (local x) = next (localNo-or r x) (λ n. itself)
     immediate-or blocks r (item k x) = next (item-or k r x) (λ n. itself)
+    immediate-or blocks r (items b xs) = next (each-or (λ x. item-or (x .0) r (x .1)) xs) (λ ns. itself)
     immediate-or blocks r (access e o x) = next (item-or mems r x) (λ n. itself)
     immediate-or blocks r (int32 n) = itself
     immediate-or blocks r (int64 n) = itself

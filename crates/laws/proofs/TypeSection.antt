@@ -2,19 +2,19 @@
 use mathlib.Core.Path.{_≡_, refl, ap, _∙_, sym}
 use Prim.Native.Nat.{ℕ}
 use mathlib.Core.Bool.{Bool, true, false, not, _&&_, false≢true}
-use mathlib.Core.List.{List, [], _∷_, _++_, map, map-append, append-assoc}
+use mathlib.Core.List.{List, [], _∷_, _++_, map, map-append, append-assoc, append-nil}
 use mathlib.Core.Option.{some}
 use lib.Dec.{eqb}
 use lib.ListN.{length, drop}
 use lib.Seq.{drop-append-seam}
 use borrow.Author.Tests.{eqb-false}
-use Rattle.definition.specs.Basic.{if_then_else_, Answer, ok, _>>=_, each, concatMap, at}
+use Rattle.definition.specs.Basic.{if_then_else_, Answer, ok, _>>=_, each, concatMap, any, at}
 use Rattle.definition.specs.Syntax.{Bytes, Instr, FuncType, Own, ownFunc, ownTable, ownMem, ownGlobal, Field, typeF, importF, ownF, exportF, startF, elemF, dataF}
 use Rattle.definition.specs.Syntax.{Item, typeI}
 use Rattle.definition.specs.Deinline.{Numbered}
 use Rattle.definition.specs.Types.{declaredBy, declared, uses, allTypes}
 use Rattle.definition.specs.Names.{Scope, ownItem, resolve, resolveAll}
-use Rattle.definition.specs.Binary.{funcType, entries, inSection, section, sectionOf, sectionNumbers, sections, preamble, module′}
+use Rattle.definition.specs.Binary.{funcType, entries, inSection, namesData, dataCount, section, sectionOf, sectionNumbers, sections, preamble, module′}
 use Rattle.definition.specs.Assemble.{itemsIn}
 use Rattle.laws.specs.TypeLists.{HoldsTypes}
 use Rattle.laws.proofs.Interning.{came, intern-keeps}
@@ -79,6 +79,15 @@ unfolding concatMap entries inSection
 added-types [] = refl
 added-types (t ∷ ts) = ap (λ xs. funcType t ∷ xs) (added-types ts)
 
+-- the data count is no type
+count-other : (is : List Item) → inSection 1 (dataCount is) ≡ []
+unfolding dataCount
+count-other is = go (any namesData is) _
+  where
+    go : (t : Bool) (b : Bytes) → inSection 1 (if t then (12, b) ∷ [] else []) ≡ []
+    go true b = unfold inSection in refl
+    go false b = unfold inSection in refl
+
 -- where the types are the declared ones and some more
 with-more : {I : Type 0} (Γ : Scope I) (fs : Numbered I) (is : List Item) (extra : List FuncType) → Γ .allTypes ≡ declared fs ++ extra → itemsIn Γ fs ≡ ok is
     → inSection 1 (concatMap entries is) ≡ map funcType (Γ .allTypes)
@@ -99,11 +108,11 @@ with-more Γ fs is extra k w =
     ) refl
 
 type-section : {I : Type 0} (Γ : Scope I) (fs : Numbered I) (is : List Item) → allTypes fs ≡ ok (Γ .allTypes) → itemsIn Γ fs ≡ ok is
-    → section (concatMap entries is) 1 ≡ sectionOf 1 (map funcType (Γ .allTypes))
+    → section (concatMap entries is ++ dataCount is) 1 ≡ sectionOf 1 (map funcType (Γ .allTypes))
 unfolding allTypes section
 type-section Γ fs is e w =
     let k = intern-keeps (declared fs) (uses fs) (Γ .allTypes) e in
-    rw (with-more Γ fs is (k .added) (k .is) w) refl
+    rw (section-append 1 (concatMap entries is) (dataCount is), count-other is, append-nil, with-more Γ fs is (k .added) (k .is) w) refl
 
 -- ## The sections after it
 
@@ -141,8 +150,8 @@ pub module-holds : {I : Type 0} (Γ : Scope I) (fs : Numbered I) (is : List Item
     → (at bs 0 ≡ some 1 → ⊥) → HoldsTypes (Γ .allTypes) (module′ is ++ bs)
 unfolding module′ sections sectionNumbers
 module-holds Γ fs is bs e w f =
-    let es = concatMap entries is in
-    let ks : List ℕ = 2 ∷ 3 ∷ 4 ∷ 5 ∷ 6 ∷ 7 ∷ 8 ∷ 9 ∷ 10 ∷ 11 ∷ [] in
+    let es = concatMap entries is ++ dataCount is in
+    let ks : List ℕ = 2 ∷ 3 ∷ 4 ∷ 5 ∷ 6 ∷ 7 ∷ 8 ∷ 9 ∷ 12 ∷ 10 ∷ 11 ∷ [] in
     record {
       after = concatMap (section es) ks ++ bs;
       is = module-is es ks bs _ (type-section Γ fs is e w);

@@ -1,23 +1,27 @@
 -- The code of the lengths, and its loop over the sections.
-use Prim.Native.Nat.{ℕ, zero, suc, _+_, _-_, _≤_, _<_}
+use Prim.Native.Nat.{ℕ, suc, _+_, _-_, _≤_, _<_}
 use mathlib.Core.Path.{_≡_, refl}
+use mathlib.Core.Bool.{Bool, true, false}
+use mathlib.Core.List.{List}
 use lib.ListN.{length, getD}
 use native.Mathlib.Omega.{arith}
 use borrow.Author.Tests.{eq-eqb, ne-eqb}
 use Rattle.definition.specs.Binary.{u}
 use Rattle.emit.specs.Put.{past}
+use Rattle.area.specs.Flags.{dataNamedIn}
+use Rattle.kept.specs.Sections.{START, CODE, DATAS, SECTIONS}
 use Rattle.kept.specs.declared.tally.Tally.{Tally}
-use Rattle.module.specs.Length.{contentLen, sizedLen, sectionLen, lensFrom, moduleLen}
+use Rattle.module.specs.Length.{contentLen, sizedLen, sectionLen, lensFrom, countLen, moduleLen}
 
 -- ## One section
 
-pub start-len : (k size count : ℕ) → k ≡ 8 → size ≡ contentLen k size count
+pub start-len : (k size count : ℕ) → k ≡ START → size ≡ contentLen k size count
 unfolding contentLen
-start-len k size count h = rw (eq-eqb k 8 h) refl
+start-len k size count h = rw (eq-eqb k START h) refl
 
-pub counted-len : (k size count g r : ℕ) → (k ≡ 8 → ⊥) → g ≡ length (u count) → r ≡ past g size → r ≡ contentLen k size count
+pub counted-len : (k size count g r : ℕ) → (k ≡ START → ⊥) → g ≡ length (u count) → r ≡ past g size → r ≡ contentLen k size count
 unfolding contentLen
-counted-len k size count g r h d e = rw (ne-eqb k 8 h, e, d) refl
+counted-len k size count g r h d e = rw (ne-eqb k START h, e, d) refl
 
 pub sized-len : (n a b r : ℕ) → a ≡ length (u n) → b ≡ past 1 a → r ≡ past b n → r ≡ sizedLen n
 unfolding sizedLen
@@ -34,31 +38,39 @@ module _ (t : Tally) (k : ℕ) where
 
 -- ## All sections
 
--- `left` sections from k on are to be added to `o`
-pub record Adding (t : Tally) (left k o : ℕ) : Type 0 where
-  pub sum : left + k ≡ 12
-  pub same : lensFrom left k o t ≡ moduleLen t
+-- those from k on are to be added to `o`
+pub record Adding (t : Tally) (from to at k o : ℕ) : Type 0 where
+  pub same : lensFrom (to - k) k o t ≡ lensFrom (to - from) from at t
 
-pub adding-begin : {t : Tally} → Adding t 11 1 8
+pub adding-begin : (t : Tally) (from to at : ℕ) → Adding t from to at from at
+adding-begin t from to at = record { same = refl }
+
+module _ {t : Tally} {from to at k o : ℕ} (v : Adding t from to at k o) where
+  pub adding-again : (n : ℕ) {r : ℕ} → k < to → n ≡ sectionLen t k → r ≡ past o n → Adding t from to at (k + 1) r
+  unfolding lensFrom
+  adding-again n {r} h d e =
+      let m : to - k ≡ suc (to - (k + 1)) = omega arith in
+      let s = v .same in
+      record { same = rw (e, d) (rw m at s) }
+
+  pub adding-done : to ≤ k → o ≡ lensFrom (to - from) from at t
+  unfolding lensFrom
+  adding-done h = let m : to - k ≡ 0 = omega arith in let s = v .same in rw m at s
+
+pub adding-few : (k to : ℕ) → k < to → to ≤ SECTIONS → k < SECTIONS
+adding-few k to h l = omega arith
+
+-- the data count
+pub count-none : (t : Tally) (w : List ℕ) (b : Bool) → b ≡ dataNamedIn w → b ≡ false → 0 ≡ countLen (dataNamedIn w) t
+unfolding countLen
+count-none t w b e f = rw (← e, f) refl
+
+pub count-some : (t : Tally) (w : List ℕ) (b : Bool) (n r : ℕ) → b ≡ dataNamedIn w → b ≡ true → n ≡ length (u (getD (t .counts) DATAS 0)) → r ≡ sizedLen n → r ≡ countLen (dataNamedIn w) t
+unfolding countLen
+count-some t w b n r e f d g = rw (← e, f, g, d) refl
+
+-- all of them
+pub all-len : (t : Tally) (w : List ℕ) (a n b r : ℕ) → a ≡ lensFrom (CODE - 1) 1 8 t → n ≡ countLen (dataNamedIn w) t → b ≡ past a n → r ≡ lensFrom (SECTIONS - CODE) CODE b t
+    → r ≡ moduleLen (dataNamedIn w) t
 unfolding moduleLen
-adding-begin = record { sum = omega arith; same = refl }
-
-module _ {t : Tally} {left k o : ℕ} (v : Adding t left k o) where
-  pub adding-again : (n : ℕ) {r : ℕ} → 0 < left → n ≡ sectionLen t k → r ≡ past o n → Adding t (left - 1) (k + 1) r
-  unfolding lensFrom
-  adding-again n {r} h d e = go left h (v .sum) (v .same)
-    where
-      go : (m : ℕ) → 0 < m → m + k ≡ 12 → lensFrom m k o t ≡ moduleLen t → Adding t (m - 1) (k + 1) r
-      go zero h s q = absurd (omega arith)
-      go (suc m) h s q = let z : suc m - 1 ≡ m = omega arith in rw (z, e, d) (record { sum = omega arith; same = q })
-
-  pub adding-done : left ≤ 0 → o ≡ moduleLen t
-  unfolding lensFrom
-  adding-done h = go left h (v .same)
-    where
-      go : (m : ℕ) → m ≤ 0 → lensFrom m k o t ≡ moduleLen t → o ≡ moduleLen t
-      go zero h q = q
-      go (suc m) h q = absurd (omega arith)
-
-  pub adding-few : 0 < left → k < 12
-  adding-few h = omega (arith, v .sum)
+all-len t w a n b r x y z e = rw (e, z, y, x) refl

@@ -13,6 +13,7 @@ use Rattle.emit.proofs.Laws.{put-is, put-room}
 use Rattle.area.specs.Layout.{LOCALS}
 use Rattle.area.proofs.Kept.{kept-same}
 use Rattle.deinline.specs.Entry.{Entries}
+use Rattle.kept.specs.Sections.{SECTIONS}
 use Rattle.kept.specs.Parts.{startOf, partIn}
 use Rattle.kept.proofs.Keeping.{part-within}
 use Rattle.sections.specs.Write.{Writes, Held, allEntries}
@@ -33,7 +34,7 @@ put-first old new bs at to size p z e h =
 pub part-end : (kept : Bytes) (k a b size : ℕ) → a ≡ startOf (length kept) k → b ≤ length kept → size ≤ b - a → a + size ≤ length kept
 part-end kept k a b size e g h = let w = part-within kept k a e in omega arith
 
-module _ (kept : Bytes) (k a b : ℕ) (h : k < 12) (from : a ≡ startOf (length kept) k) (to : b ≡ startOf (length kept) (k + 1)) where
+module _ (kept : Bytes) (k a b : ℕ) (h : k < SECTIONS) (from : a ≡ startOf (length kept) k) (to : b ≡ startOf (length kept) (k + 1)) where
   part-is : partIn kept k ≡ take (b - a) (drop a kept)
   unfolding partIn
   part-is = rw (from, to) refl
@@ -53,7 +54,7 @@ module _ (kept : Bytes) (k a b : ℕ) (h : k < 12) (from : a ≡ startOf (length
         let p = v .keeps .each k h in
         let l = p .long in
         let m = part-long in
-        part-first ∙ put-first (partIn (v .old) k) (partIn kept k) (joined (inSection k es)) _ _ size p (getD-replicate 12 k 0 0 h) e (omega arith)
+        part-first ∙ put-first (partIn (v .old) k) (partIn kept k) (joined (inSection k es)) _ _ size p (getD-replicate SECTIONS k 0 0 h) e (omega arith)
 
     pub part-put : (declared : ℕ) (s w : List ℕ) (old new : Bytes) (at r : ℕ) → Held kept (allEntries declared s w) → size ≡ past 0 (length (joined (inSection k (allEntries declared s w))))
         → Put old at (take ((a + size) - a) (drop a kept)) r new → Writes (joined (inSection k (allEntries declared s w))) old at r new w w

@@ -1,23 +1,25 @@
 -- The lengths that a tally gives are those of the definition, up to 2 ^ 63.
 use Prim.Native.Nat.{ℕ, zero, suc, _+_, _-_, _^_, _≤_, _<_}
 use mathlib.Core.Path.{_≡_, refl, sym, _∙_, ap}
-use mathlib.Core.Bool.{Bool, true, false}
-use mathlib.Core.List.{List, [], _∷_, _++_}
+use mathlib.Core.Bool.{Bool, true, false, _||_}
+use mathlib.Core.List.{List, [], _∷_, _++_, append-assoc}
 use lib.Dec.{eqb}
 use lib.ListN.{length, getD, replicate, length-append}
 use native.Mathlib.Decide.{decLe}
 use native.Mathlib.Omega.{arith}
 use borrow.Author.Tests.{eq-eqb, ne-eqb}
-use Rattle.definition.specs.Basic.{if_then_else_, concatMap}
+use Rattle.definition.specs.Basic.{if_then_else_, concatMap, any}
 use Rattle.definition.specs.Syntax.{Bytes, Item}
-use Rattle.definition.specs.Binary.{u, sized, entries, inSection, joined, content, sectionOf, section, preamble, sectionNumbers, sections, module′}
+use Rattle.definition.specs.Binary.{u, sized, entries, inSection, namesData, joined, content, sectionOf, section, preamble, module′}
 use Rattle.emit.specs.Put.{past}
 use Rattle.deinline.specs.Entry.{Entries}
-use Rattle.kept.specs.Tally.{tallies, noTally, Twelve}
+use Rattle.kept.specs.Sections.{START, CODE, DATAS, DATA_COUNT, SECTIONS}
+use Rattle.kept.specs.Tally.{tallies, noTally, Slots}
 use Rattle.kept.specs.declared.tally.Tally.{Tally}
 use Rattle.kept.proofs.Tallies.{size-is, count-is}
-use Rattle.module.specs.Length.{Counted, contentLen, sizedLen, sectionLen, lensFrom, moduleLen, sectionsFrom}
+use Rattle.module.specs.Length.{Counted, contentLen, sizedLen, sectionLen, lensFrom, countLen, moduleLen, sectionsFrom, countSection, allSections}
 use Rattle.module.proofs.Full.{u-few, good-items}
+use Rattle.module.proofs.Order.{module-is, data-least}
 
 -- ## Numbers that saturate
 
@@ -54,6 +56,15 @@ exact : (n : ℕ) → n < 2 ^ 63 → past 0 n ≡ n
 unfolding past
 exact n h = omega arith
 
+past-most : (a n : ℕ) → a ≤ 2 ^ 63 → past a n ≤ 2 ^ 63
+unfolding past
+past-most a n h = omega arith
+
+-- whatever stands before bytes that have saturated
+saturated : (o c n m : ℕ) → o ≤ 2 ^ 63 → 2 ^ 63 ≤ n → n ≤ m → past (past o c) n ≡ past o m
+unfolding past
+saturated o c n m h g k = omega arith
+
 -- a number's groups before so many bytes: where the number may have saturated, the bytes have
 groups-before : (a m n p q : ℕ) → a ≤ 1 → m ≤ n → p ≡ a + length (u (past 0 m)) → q ≡ a + length (u m) → past p n ≡ past 0 (q + n)
 groups-before a m n p q g h x y = go (decLe (2 ^ 63) m)
@@ -67,12 +78,12 @@ groups-before a m n p q g h x y = go (decLe (2 ^ 63) m)
 
 -- ## One section
 
-pub content-long : (k size count : ℕ) (es : List Bytes) → length es ≤ length (joined es) → size ≡ past 0 (length (joined es)) → count ≡ past 0 (length es)
+pub content-long : (k size count : ℕ) (es : List Bytes) → k < SECTIONS → length es ≤ length (joined es) → size ≡ past 0 (length (joined es)) → count ≡ past 0 (length es)
     → contentLen k size count ≡ past 0 (length (content k es))
 unfolding contentLen content
-content-long k size count es g d e = go (eqb k 8)
+content-long k size count es h g d e = rw (ne-eqb k DATA_COUNT (λ z. omega arith)) (go (eqb k START))
   where
-    go : (t : Bool) → (if t then size else past (length (u count)) size) ≡ past 0 (length (if t then joined es else u (length es) ++ joined es))
+    go : (t : Bool) → (if t then size else past (length (u count)) size) ≡ past 0 (length (if t || false then joined es else u (length es) ++ joined es))
     go true = d
     go false =
         rw (d, e, length-append (u (length es)) (joined es))
@@ -90,50 +101,42 @@ sized-long k n bs e =
     more m n = omega arith
 
 -- a section of entries of which none is empty, by the numbers of a tally
-pub entries-long : (t : Tally) (k : ℕ) (bs : List Bytes) → getD (t .sizes) k 0 ≡ past 0 (length (joined bs)) → getD (t .counts) k 0 ≡ past 0 (length bs) → length bs ≤ length (joined bs)
+pub entries-long : (t : Tally) (k : ℕ) (bs : List Bytes) → k < SECTIONS → getD (t .sizes) k 0 ≡ past 0 (length (joined bs)) → getD (t .counts) k 0 ≡ past 0 (length bs) → length bs ≤ length (joined bs)
     → sectionLen t k ≡ past 0 (length (sectionOf k bs))
 unfolding sectionLen
-entries-long t k [] d e g =
+entries-long t k [] h d e g =
     let z : eqb (getD (t .counts) k 0) 0 ≡ true = eq-eqb _ _ (e ∙ past-none 0) in
     rw z (sym (past-none 0))
-entries-long t k (b ∷ bs) d e g =
+entries-long t k (b ∷ bs) h d e g =
     let z : eqb (getD (t .counts) k 0) 0 ≡ false = ne-eqb _ _ (λ x. not-none (length bs) (sym e ∙ x)) in
-    rw z (sized-long k _ (content k (b ∷ bs)) (content-long k _ _ (b ∷ bs) g d e))
+    rw z (sized-long k _ (content k (b ∷ bs)) (content-long k _ _ (b ∷ bs) h g d e))
 
 replicate-none : (n k : ℕ) → getD (replicate {A = ℕ} n 0) k 0 ≡ 0
 replicate-none zero k = refl
 replicate-none (suc n) zero = refl
 replicate-none (suc n) (suc k) = replicate-none n k
 
-twelve : Twelve noTally
-twelve = record { sizes = refl; counts = refl }
+slots : Slots noTally
+slots = record { sizes = refl; counts = refl }
 
 -- ## All sections
-
-pub sections-are : (es : Entries) → sectionsFrom 11 1 es ≡ concatMap (section es) sectionNumbers
-unfolding sectionsFrom concatMap sectionNumbers
-sections-are es = refl
-
-pub module-is : (is : List Item) → preamble ++ sectionsFrom 11 1 (concatMap entries is) ≡ module′ is
-unfolding module′ sections
-module-is is = rw (sections-are (concatMap entries is)) refl
 
 preamble-long : (bs : Bytes) → length (preamble ++ bs) ≡ 8 + length bs
 unfolding preamble
 preamble-long bs = omega arith
 
 module _ {t : Tally} {es : Entries} (c : Counted t es) where
-  pub size-of : (k : ℕ) → k < 12 → getD (t .sizes) k 0 ≡ past 0 (length (joined (inSection k es)))
-  size-of k h = rw (c .tally) (size-is k h noTally es twelve ∙ ap (λ n. past n (length (joined (inSection k es)))) (replicate-none 12 k))
+  pub size-of : (k : ℕ) → k < SECTIONS → getD (t .sizes) k 0 ≡ past 0 (length (joined (inSection k es)))
+  size-of k h = rw (c .tally) (size-is k h noTally es slots ∙ ap (λ n. past n (length (joined (inSection k es)))) (replicate-none SECTIONS k))
 
-  pub count-of : (k : ℕ) → k < 12 → getD (t .counts) k 0 ≡ past 0 (length (inSection k es))
-  count-of k h = rw (c .tally) (count-is k h noTally es twelve ∙ ap (λ n. past n (length (inSection k es))) (replicate-none 12 k))
+  pub count-of : (k : ℕ) → k < SECTIONS → getD (t .counts) k 0 ≡ past 0 (length (inSection k es))
+  count-of k h = rw (c .tally) (count-is k h noTally es slots ∙ ap (λ n. past n (length (inSection k es))) (replicate-none SECTIONS k))
 
-  pub section-long : (k : ℕ) → k < 12 → sectionLen t k ≡ past 0 (length (section es k))
+  pub section-long : (k : ℕ) → k < SECTIONS → sectionLen t k ≡ past 0 (length (section es k))
   unfolding section
-  section-long k h = entries-long t k (inSection k es) (size-of k h) (count-of k h) (c .good .each k)
+  section-long k h = entries-long t k (inSection k es) h (size-of k h) (count-of k h) (c .good .each k)
 
-  pub sections-from : (n k o : ℕ) → n + k ≤ 12 → lensFrom n k o t ≡ past o (length (sectionsFrom n k es))
+  pub sections-from : (n k o : ℕ) → n + k ≤ SECTIONS → lensFrom n k o t ≡ past o (length (sectionsFrom n k es))
   unfolding lensFrom sectionsFrom
   sections-from zero k o h = sym (past-none o)
   sections-from (suc n) k o h =
@@ -141,10 +144,41 @@ module _ {t : Tally} {es : Entries} (c : Counted t es) where
       ∙ rw (section-long k (omega arith), past-measured o (length (section es k)))
       (past-past o (length (section es k)) (length (sectionsFrom n (k + 1) es)) ∙ ap (past o) (sym (length-append (section es k) (sectionsFrom n (k + 1) es))))
 
+  -- the data count, which may have saturated if the data have
+  count-long : (named : Bool) (o : ℕ) → o ≤ 2 ^ 63
+      → past (past o (countLen named t)) (length (sectionsFrom (SECTIONS - CODE) CODE es)) ≡ past o (length (countSection named (length (inSection DATAS es)) ++ sectionsFrom (SECTIONS - CODE) CODE es))
+  unfolding countLen countSection
+  count-long false o h = rw (past-none o) refl
+  count-long true o h = go (decLe (2 ^ 63) m)
+    where
+      m : ℕ
+      m = length (inSection DATAS es)
+
+      bs : Bytes
+      bs = sectionsFrom (SECTIONS - CODE) CODE es
+
+      go : Dec (2 ^ 63 ≤ m) → past (past o (sizedLen (length (u (getD (t .counts) DATAS 0))))) (length bs) ≡ past o (length (DATA_COUNT ∷ sized (u m) ++ bs))
+      go (yes z) = let l = data-least es (c .good) in saturated o _ (length bs) _ h (omega arith) (omega (arith, length-append (sized (u m)) bs))
+      go (no z) =
+          let a : getD (t .counts) DATAS 0 ≡ m = count-of DATAS (omega arith) ∙ exact m (omega arith) in
+          let b : sizedLen (length (u m)) ≡ past 0 (length (DATA_COUNT ∷ sized (u m))) = sized-long DATA_COUNT _ (u m) (sym (exact _ (omega (arith, u-few m)))) in
+          rw (a, b, past-measured o (length (DATA_COUNT ∷ sized (u m)))) (past-past o _ (length bs) ∙ ap (past o) (sym (length-append (DATA_COUNT ∷ sized (u m)) bs)))
+
+  pub all-long : (named : Bool) → moduleLen named t ≡ past 8 (length (allSections named es))
+  unfolding moduleLen allSections
+  all-long named =
+      let before = sectionsFrom (CODE - 1) 1 es in
+      let count = countSection named (length (inSection DATAS es)) in
+      let last = sectionsFrom (SECTIONS - CODE) CODE es in
+      sections-from (SECTIONS - CODE) CODE _ (omega arith)
+      ∙ rw (sections-from (CODE - 1) 1 8 (omega arith))
+      (count-long named (past 8 (length before)) (past-most 8 (length before) (omega arith))
+      ∙ past-past 8 (length before) (length (count ++ last))
+      ∙ ap (past 8) (sym (length-append before (count ++ last)) ∙ ap length (sym (append-assoc before count last))))
+
 -- the module's length
-pub module-long : (t : Tally) (is : List Item) → t ≡ tallies noTally (concatMap entries is) → moduleLen t ≡ past 0 (length (module′ is))
-unfolding moduleLen
+pub module-long : (t : Tally) (is : List Item) → t ≡ tallies noTally (concatMap entries is) → moduleLen (any namesData is) t ≡ past 0 (length (module′ is))
 module-long t is e = rw (← module-is is)
-    (sections-from (record { tally = e; good = good-items is }) 11 1 8 (omega arith)
-    ∙ past-from 8 (length (sectionsFrom 11 1 (concatMap entries is))) (omega arith)
-    ∙ ap (past 0) (sym (preamble-long (sectionsFrom 11 1 (concatMap entries is)))))
+    (all-long (record { tally = e; good = good-items is }) (any namesData is)
+    ∙ past-from 8 (length (allSections (any namesData is) (concatMap entries is))) (omega arith)
+    ∙ ap (past 0) (sym (preamble-long (allSections (any namesData is) (concatMap entries is)))))

@@ -1,7 +1,7 @@
 -- A section: its entries, its content, its head; and all of them.
-use Prim.Native.Nat.{ℕ, zero, suc, _+_, _-_, _*_, _^_, _≤_, _<_}
+use Prim.Native.Nat.{ℕ, suc, _+_, _-_, _*_, _^_, _≤_, _<_}
 use mathlib.Core.Path.{_≡_, refl, sym, _∙_, ap}
-use mathlib.Core.Bool.{false}
+use mathlib.Core.Bool.{Bool, true, false}
 use mathlib.Core.List.{List, [], _∷_, _++_, map, append-assoc}
 use lib.Dec.{eqb}
 use lib.ListN.{length, drop, getD, length-append}
@@ -15,24 +15,29 @@ use Rattle.definition.specs.Binary.{u, sized, funcType, entries, inSection, joi
 use Rattle.emit.specs.Put.{Put, past}
 use Rattle.emit.proofs.Laws.{put-none, put-then, put-is, put-skip}
 use Rattle.binary.proofs.Putting.{Putting, putting-begin, putting-more, putting-done, putting-long}
-use Rattle.area.specs.Layout.{LOCALS, TYPES, WORDS}
+use Rattle.area.specs.Flags.{dataNamedIn}
+use Rattle.area.specs.Layout.{DATA_NAMED, LOCALS, TYPES, WORDS}
 use Rattle.area.specs.Kept.{Kept}
+use Rattle.area.proofs.Flags.{flag-kept}
 use Rattle.area.proofs.Kept.{kept-same, kept-then, kept-less}
 use Rattle.type_table.specs.Table.{typesIn}
 use Rattle.walk.specs.Walk.{begin, fieldsIn}
 use Rattle.walk.proofs.Steps.{ahead-kept}
 use Rattle.scope.specs.Scope.{scopeIn}
 use Rattle.deinline.specs.Entry.{Entries, entriesOf}
+use Rattle.kept.specs.Sections.{START, CODE, DATAS, DATA_COUNT, SECTIONS}
 use Rattle.kept.specs.Tally.{tallies, noTally}
 use Rattle.kept.specs.Content.{kept, bytesIn, typeEntries}
 use Rattle.kept.specs.declared.tally.Tally.{Tally}
 use Rattle.laws.proofs.TypeSection.{section-append}
 use Rattle.kept.proofs.Keeping.{joined-append}
-use Rattle.module.specs.Length.{Counted, contentLen, moduleLen, sectionsFrom}
+use Rattle.module.specs.Length.{Good, Counted, Supplied, contentLen, moduleLen, sectionsFrom, countSection, allSections}
 use Rattle.sections.specs.Added.{typeBytes}
 use Rattle.sections.specs.Write.{Writes, Writable, Held, Counts, allEntries, addedIn, keptItems, moduleItems}
 use Rattle.module.proofs.Full.{good-items}
-use Rattle.module.proofs.Lengths.{size-of, count-of, content-long, module-is, module-long}
+use Rattle.module.proofs.Lengths.{size-of, count-of, content-long, module-long}
+use Rattle.module.proofs.Naming.{named-items}
+use Rattle.module.proofs.Order.{module-is, data-least}
 use Rattle.sections.proofs.Emitting.{scope-same, types-same, recalled-same}
 
 -- ## The added types
@@ -112,10 +117,10 @@ module _ (k declared : ℕ) (s w w′ old : List ℕ) (at : ℕ) where
       ap (λ z. length (joined z)) (section-append k es ts) ∙ ap length (joined-append (inSection k es) (inSection k ts)) ∙ length-append (joined (inSection k es)) (joined (inSection k ts)) in
       rw (d, e, n) (past-more at (length (joined (inSection k es))) (length (joined (inSection k ts))))
 
-  pub content-start : (r : ℕ) (new : Bytes) → k ≡ 8 → Writes (joined (inSection k (allEntries declared s w))) old at r new w w′
+  pub content-start : (r : ℕ) (new : Bytes) → k ≡ START → Writes (joined (inSection k (allEntries declared s w))) old at r new w w′
       → Writes (content k (inSection k (allEntries declared s w))) old at r new w w′
   unfolding content
-  content-start r new h p = rw (eq-eqb k 8 h) p
+  content-start r new h p = rw (eq-eqb k START h) p
 
 -- where the count saturates, so does the place
 over : (at x y l r q : ℕ) → r ≡ past at x → q ≡ past r y → 2 ^ 63 ≤ y → q ≡ past at (l + y)
@@ -137,10 +142,10 @@ counted-put es {a} {b} {c} {n} {at} {r} {q} s m x y = go (decLe (2 ^ 63) (length
     }
 
 module _ (k declared : ℕ) (s w w′ old : List ℕ) (at : ℕ) where
-  pub content-counted : (n r q : ℕ) (mid new : Bytes) → (k ≡ 8 → ⊥) → Counts n k (allEntries declared s w) → Put old at (u n) r mid
+  pub content-counted : (n r q : ℕ) (mid new : Bytes) → k < SECTIONS → (k ≡ START → ⊥) → Counts n k (allEntries declared s w) → Put old at (u n) r mid
       → Writes (joined (inSection k (allEntries declared s w))) mid r q new w w′ → Writes (content k (inSection k (allEntries declared s w))) old at q new w w′
   unfolding content
-  content-counted n r q mid new h c x p = rw (ne-eqb k 8 h) (record {
+  content-counted n r q mid new l h c x p = rw (ne-eqb k START h, ne-eqb k DATA_COUNT (λ z. omega arith)) (record {
     put = counted-put (inSection k (allEntries declared s w)) (c .few) (c .number) x (p .put);
     area = p .area;
   })
@@ -172,7 +177,7 @@ pub past-some : (n : ℕ) → past 0 (suc n) ≡ 0 → ⊥
 unfolding past
 past-some n e = omega arith
 
-module _ (t : Tally) (es : Entries) (c : Counted t es) (k : ℕ) (h : k < 12) where
+module _ (t : Tally) (es : Entries) (c : Counted t es) (k : ℕ) (h : k < SECTIONS) where
   pub size-is : getD (t .sizes) k 0 ≡ past 0 (length (joined (inSection k es)))
   size-is = size-of c k h
 
@@ -191,7 +196,7 @@ module _ (t : Tally) (es : Entries) (c : Counted t es) (k : ℕ) (h : k < 12) wh
       → Put old at (k ∷ u n) a mid → Writes (content k (inSection k es)) mid a q new w w′ → Writes (section es k) old at q new w w′
   unfolding section
   section-some n a q old mid new at w w′ z d x p =
-      go (inSection k es) (count-of c k h) (d ∙ content-long k _ _ (inSection k es) (c .good .each k) (size-of c k h) (count-of c k h)) (p .put)
+      go (inSection k es) (count-of c k h) (d ∙ content-long k _ _ (inSection k es) h (c .good .each k) (size-of c k h) (count-of c k h)) (p .put)
     where
       go : (bs : List Bytes) → getD (t .counts) k 0 ≡ past 0 (length bs) → n ≡ past 0 (length (content k bs)) → Put mid a (content k bs) q new → Writes (sectionOf k bs) old at q new w w′
       go [] e m y = absurd (z (e ∙ past-none))
@@ -200,54 +205,41 @@ module _ (t : Tally) (es : Entries) (c : Counted t es) (k : ℕ) (h : k < 12) wh
 -- ## All sections
 
 -- those before section k are put
-pub record Sectioning (t : Tally) (declared : ℕ) (kept s w₀ old : List ℕ) (at left k o : ℕ) (out w : List ℕ) : Type 0 where
-  pub sum : left + k ≡ 12
-  pub writable : Writable s w
-  pub held : Held kept (allEntries declared s w)
-  pub counted : Counted t (allEntries declared s w)
+pub record Sectioning (t : Tally) (declared : ℕ) (kept s w₀ old : List ℕ) (at from to k o : ℕ) (out w : List ℕ) : Type 0 where
+  pub supplied : Supplied t declared kept s w
   pub area : Kept LOCALS w₀ w
-  pub put : Putting old at (sectionsFrom 11 1 (allEntries declared s w₀)) (sectionsFrom left k (allEntries declared s w)) o out
+  pub put : Putting old at (sectionsFrom (to - from) from (allEntries declared s w₀)) (sectionsFrom (to - k) k (allEntries declared s w)) o out
 
-pub sections-begin : (t : Tally) (declared : ℕ) (kept s w old : List ℕ) (at : ℕ) → Writable s w → Held kept (allEntries declared s w) → Counted t (allEntries declared s w) → length old * 1 < 2 ^ 63
-    → Sectioning t declared kept s w old at 11 1 at old w
-sections-begin t declared kept s w old at v k c h = record {
-  sum = omega arith;
-  writable = v;
-  held = k;
-  counted = c;
+pub sections-begin : (t : Tally) (declared : ℕ) (kept s w old : List ℕ) (at from to : ℕ) → Supplied t declared kept s w → length old * 1 < 2 ^ 63
+    → Sectioning t declared kept s w old at from to from at old w
+sections-begin t declared kept s w old at from to v h = record {
+  supplied = v;
   area = kept-same LOCALS w;
-  put = putting-begin old at (sectionsFrom 11 1 (allEntries declared s w)) (sectionsFrom 11 1 (allEntries declared s w)) h refl;
+  put = putting-begin old at (sectionsFrom (to - from) from (allEntries declared s w)) (sectionsFrom (to - from) from (allEntries declared s w)) h refl;
 }
 
-module _ (t : Tally) (declared : ℕ) (kept s w₀ old : List ℕ) (at left k o : ℕ) (out w : List ℕ) (v : Sectioning t declared kept s w₀ old at left k o out w) where
-  pub sections-again : (r : ℕ) (new w′ : List ℕ) → 0 < left → Writes (section (allEntries declared s w) k) out o r new w w′
-      → Sectioning t declared kept s w₀ old at (left - 1) (k + 1) r new w′
-  unfolding sectionsFrom
-  sections-again r new w′ h p = go left h (v .sum) (v .put)
-    where
-      go : (n : ℕ) → 0 < n → n + k ≡ 12 → Putting old at (sectionsFrom 11 1 (allEntries declared s w₀)) (sectionsFrom n k (allEntries declared s w)) o out
-          → Sectioning t declared kept s w₀ old at (n - 1) (k + 1) r new w′
-      go zero h d e = absurd (omega arith)
-      go (suc n) h d e =
-          let m : suc n - 1 ≡ n = omega arith in
-          let z = all-same declared s w w′ (p .area) in
-          rw m (record {
-            sum = omega arith;
-            writable = writable-same s w w′ (p .area) (v .writable);
-            held = rw z (v .held);
-            counted = rw z (v .counted);
-            area = kept-then (v .area) (p .area);
-            put = rw z (putting-more e (section (allEntries declared s w) k) (sectionsFrom n (k + 1) (allEntries declared s w)) r new refl (p .put));
-          })
+-- what the writer has is there still
+supplied-same : (t : Tally) (declared : ℕ) (kept s w w′ : List ℕ) → Kept LOCALS w w′ → Supplied t declared kept s w → Supplied t declared kept s w′
+supplied-same t declared kept s w w′ k v = let z = all-same declared s w w′ k in
+    record { writable = writable-same s w w′ k (v .writable); held = rw z (v .held); counted = rw z (v .counted) }
 
-  pub sections-done : left ≤ 0 → Writes (sectionsFrom 11 1 (allEntries declared s w₀)) old at o out w₀ w
+module _ (t : Tally) (declared : ℕ) (kept s w₀ old : List ℕ) (at from to k o : ℕ) (out w : List ℕ) (v : Sectioning t declared kept s w₀ old at from to k o out w) where
+  pub sections-again : (r : ℕ) (new w′ : List ℕ) → k < to → Writes (section (allEntries declared s w) k) out o r new w w′
+      → Sectioning t declared kept s w₀ old at from to (k + 1) r new w′
   unfolding sectionsFrom
-  sections-done h = go left h (v .put)
-    where
-      go : (n : ℕ) → n ≤ 0 → Putting old at (sectionsFrom 11 1 (allEntries declared s w₀)) (sectionsFrom n k (allEntries declared s w)) o out
-          → Writes (sectionsFrom 11 1 (allEntries declared s w₀)) old at o out w₀ w
-      go zero h e = record { put = putting-done e refl; area = v .area }
-      go (suc n) h e = absurd (omega arith)
+  sections-again r new w′ h p =
+      let m : to - k ≡ suc (to - (k + 1)) = omega arith in
+      let z = all-same declared s w w′ (p .area) in
+      let u = v .put in
+      record {
+        supplied = supplied-same t declared kept s w w′ (p .area) (v .supplied);
+        area = kept-then (v .area) (p .area);
+        put = rw z (putting-more (rw m at u) (section (allEntries declared s w) k) (sectionsFrom (to - (k + 1)) (k + 1) (allEntries declared s w)) r new refl (p .put));
+      }
+
+  pub sections-done : to ≤ k → Writes (sectionsFrom (to - from) from (allEntries declared s w₀)) old at o out w₀ w
+  unfolding sectionsFrom
+  sections-done h = let m : to - k ≡ 0 = omega arith in let u = v .put in record { put = putting-done (rw m at u) refl; area = v .area }
 
   pub sections-long : length out ≡ length old
   sections-long = putting-long (v .put)
@@ -255,8 +247,61 @@ module _ (t : Tally) (declared : ℕ) (kept s w₀ old : List ℕ) (at left k o 
   pub sections-area : length w ≡ length w₀
   sections-area = v .area .long
 
-  pub sections-few : 0 < left → k < 12
-  sections-few h = omega (arith, v .sum)
+-- ## The data count
+
+module _ (t : Tally) (w old : List ℕ) (at : ℕ) (b : Bool) (e : b ≡ dataNamedIn w) where
+  pub count-none : b ≡ false → length old * 1 < 2 ^ 63 → Put old at (countSection (dataNamedIn w) (getD (t .counts) DATAS 0)) at old
+  unfolding countSection
+  count-none f h = rw (← e, f) (put-none at (omega arith))
+
+  pub count-some : (n a q : ℕ) (mid new : Bytes) → b ≡ true → n ≡ length (u (getD (t .counts) DATAS 0)) → Put old at (DATA_COUNT ∷ u n) a mid → Put mid a (u (getD (t .counts) DATAS 0)) q new
+      → Put old at (countSection (dataNamedIn w) (getD (t .counts) DATAS 0)) q new
+  unfolding countSection sized
+  count-some n a q mid new f d x y = rw (← e, f, ← d) (put-then x y)
+
+-- after what stands before it, and before code and data: where it has saturated, so have the data
+count-put : (named : Bool) (es : Entries) {a b c d before : Bytes} {n at p r q : ℕ} → Good es → n ≡ past 0 (length (inSection DATAS es)) → Put a at before p b
+    → Put b p (countSection named n) r c → Put c r (sectionsFrom (SECTIONS - CODE) CODE es) q d
+    → Put a at (before ++ countSection named (length (inSection DATAS es)) ++ sectionsFrom (SECTIONS - CODE) CODE es) q d
+unfolding past
+count-put named es {a} {b} {c} {d} {before} {n} {at} {p} {r} {q} g m x y z = go (decLe (2 ^ 63) (length (inSection DATAS es)))
+  where
+    last : Bytes
+    last = sectionsFrom (SECTIONS - CODE) CODE es
+
+    first : Bytes
+    first = before ++ countSection named (length (inSection DATAS es))
+
+    go : Dec (2 ^ 63 ≤ length (inSection DATAS es)) → Put a at (first ++ last) q d
+    go (no h) = let e : n ≡ length (inSection DATAS es) = omega (arith, m) in rw (← e) (put-then (put-then x y) z)
+    go (yes h) =
+        let l = data-least es g in
+        let v = put-then x y in
+        record {
+          place = rw (length-append first last) (over at _ (length last) (length first) r q (v .place) (z .place) (omega arith));
+          bytes = λ k. absurd (omega (arith, length-append first last));
+          long = z .long ∙ v .long;
+          short = x .short;
+        }
+
+-- what the second run of sections needs
+pub after-supplied : (t : Tally) (declared : ℕ) (kept s w bs old mid w₁ : List ℕ) (at a : ℕ) → Writes bs old at a mid w w₁ → Supplied t declared kept s w → Supplied t declared kept s w₁
+after-supplied t declared kept s w bs old mid w₁ at a x v = supplied-same t declared kept s w w₁ (x .area) v
+
+module _ (t : Tally) (declared : ℕ) (kept s w old : List ℕ) (at a : ℕ) (mid w₁ : List ℕ) (v : Supplied t declared kept s w)
+    (x : Writes (sectionsFrom (CODE - 1) 1 (allEntries declared s w)) old at a mid w w₁) where
+  pub all-put : (b q : ℕ) (late new w₂ : List ℕ) → Put mid a (countSection (dataNamedIn w₁) (getD (t .counts) DATAS 0)) b late
+      → Writes (sectionsFrom (SECTIONS - CODE) CODE (allEntries declared s w₁)) late b q new w₁ w₂ → Writes (allSections (dataNamedIn w) (allEntries declared s w)) old at q new w w₂
+  unfolding allSections
+  all-put b q late new w₂ y z =
+      let c = v .counted in
+      let e = all-same declared s w w₁ (x .area) in
+      let f = flag-kept DATA_NAMED (x .area) (omega arith) in
+      let p = z .put in
+      record {
+        put = count-put (dataNamedIn w) (allEntries declared s w) (c .good) (count-of c DATAS (omega arith)) (x .put) (rw f at y) (rw e at p);
+        area = kept-then (x .area) (z .area);
+      }
 
 -- ## The module
 
@@ -287,16 +332,22 @@ items-are declared s w =
     ∙ ap (λ (z : Entries). concatMap entries (keptItems (resolveAll (scopeIn s w) (fieldsIn s))) ++ z) (sym (type-items ts))
     ∙ sym (concat-append (keptItems (resolveAll (scopeIn s w) (fieldsIn s))) (map typeI ts))
 
-pub counted-all : (t : Tally) (declared : ℕ) (s w : List ℕ) → t ≡ tallies noTally (allEntries declared s w) → Counted t (allEntries declared s w)
-counted-all t declared s w e = record { tally = e; good = rw (items-are declared s w) (good-items (moduleItems declared s w)) }
+pub supplied-all : (t : Tally) (declared : ℕ) (kept s w : List ℕ) → Writable s w → Held kept (allEntries declared s w) → t ≡ tallies noTally (allEntries declared s w)
+    → Supplied t declared kept s w
+supplied-all t declared kept s w v h e = record {
+  writable = v;
+  held = h;
+  counted = record { tally = e; good = rw (items-are declared s w) (good-items (moduleItems declared s w)) };
+}
 
-pub module-put : (declared : ℕ) (s w w′ old mid new : List ℕ) (a q : ℕ) → Put old 0 preamble a mid → Writes (sectionsFrom 11 1 (allEntries declared s w)) mid a q new w w′
-    → Writes (module′ (moduleItems declared s w)) old 0 q new w w′
-module-put declared s w w′ old mid new a q x p = record {
-  put = put-is (put-then x (p .put)) (ap (λ es. preamble ++ sectionsFrom 11 1 es) (items-are declared s w) ∙ module-is (moduleItems declared s w));
+pub module-put : (declared : ℕ) (s w w′ old mid new : List ℕ) (a q : ℕ) → Writable s w → Put old 0 preamble a mid
+    → Writes (allSections (dataNamedIn w) (allEntries declared s w)) mid a q new w w′ → Writes (module′ (moduleItems declared s w)) old 0 q new w w′
+module-put declared s w w′ old mid new a q v x p = record {
+  put = put-is (put-then x (p .put)) (rw (named-items declared s w v, items-are declared s w) (module-is (moduleItems declared s w)));
   area = p .area;
 }
 
 -- what the tally says of the module's length
-pub module-len-is : (t : Tally) (declared : ℕ) (s w : List ℕ) → t ≡ tallies noTally (allEntries declared s w) → moduleLen t ≡ past 0 (length (module′ (moduleItems declared s w)))
-module-len-is t declared s w e = module-long t (moduleItems declared s w) (rw (← items-are declared s w) e)
+pub module-len-is : (t : Tally) (declared : ℕ) (s w : List ℕ) → Writable s w → t ≡ tallies noTally (allEntries declared s w)
+    → moduleLen (dataNamedIn w) t ≡ past 0 (length (module′ (moduleItems declared s w)))
+module-len-is t declared s w v e = rw (named-items declared s w v) (module-long t (moduleItems declared s w) (rw (← items-are declared s w) e))

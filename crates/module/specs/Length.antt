@@ -1,16 +1,19 @@
 -- How long sections and the module are, by the tally of their entries.
-use Prim.Native.Nat.{ℕ, zero, suc, _+_, _≤_}
+use Prim.Native.Nat.{ℕ, zero, suc, _+_, _-_, _≤_}
 use mathlib.Core.Path.{_≡_}
-use mathlib.Core.List.{[], _++_}
+use mathlib.Core.Bool.{Bool}
+use mathlib.Core.List.{List, [], _∷_, _++_}
 use lib.Dec.{eqb}
 use lib.ListN.{length, getD}
 use Rattle.definition.specs.Basic.{if_then_else_}
 use Rattle.definition.specs.Syntax.{Bytes}
-use Rattle.definition.specs.Binary.{u, inSection, joined, section}
+use Rattle.definition.specs.Binary.{u, sized, inSection, joined, section}
 use Rattle.emit.specs.Put.{past}
 use Rattle.deinline.specs.Entry.{Entries}
+use Rattle.kept.specs.Sections.{START, CODE, DATAS, DATA_COUNT, SECTIONS}
 use Rattle.kept.specs.Tally.{tallies, noTally}
 use Rattle.kept.specs.declared.tally.Tally.{Tally}
+use Rattle.sections.specs.Write.{Writable, Held, allEntries}
 
 -- no section has more entries than bytes
 pub record Good (es : Entries) : Type 0 where
@@ -21,9 +24,15 @@ pub record Counted (t : Tally) (es : Entries) : Type 0 where
   pub tally : t ≡ tallies noTally es
   pub good : Good es
 
+-- what the writer of sections has: the entries resolve once more, their bytes are kept, and they are tallied
+pub record Supplied (t : Tally) (declared : ℕ) (kept s w : List ℕ) : Type 0 where
+  pub writable : Writable s w
+  pub held : Held kept (allEntries declared s w)
+  pub counted : Counted t (allEntries declared s w)
+
 -- a section's content: its count, but for the start section, and its entries
 unfoldable pub contentLen : ℕ → ℕ → ℕ → ℕ
-contentLen k size count = if eqb k 8 then size else past (length (u count)) size
+contentLen k size count = if eqb k START then size else past (length (u count)) size
 
 -- the number of the section and the length before its content
 unfoldable pub sizedLen : ℕ → ℕ
@@ -40,10 +49,21 @@ unfoldable pub lensFrom : ℕ → ℕ → ℕ → Tally → ℕ
 lensFrom zero k o t = o
 lensFrom (suc left) k o t = lensFrom left (k + 1) (past o (sectionLen t k)) t
 
-unfoldable pub moduleLen : Tally → ℕ
-moduleLen t = lensFrom 11 1 8 t
+-- the data count section, where a data segment is named: it holds how many there are
+unfoldable pub countLen : Bool → Tally → ℕ
+countLen named t = if named then sizedLen (length (u (getD (t .counts) DATAS 0))) else 0
+
+-- the preamble, sections 1 to 9, the data count, code and data
+unfoldable pub moduleLen : Bool → Tally → ℕ
+moduleLen named t = lensFrom (SECTIONS - CODE) CODE (past (lensFrom (CODE - 1) 1 8 t) (countLen named t)) t
 
 -- the bytes of `left` sections from k on
 unfoldable pub sectionsFrom : ℕ → ℕ → Entries → Bytes
 sectionsFrom zero k es = []
 sectionsFrom (suc left) k es = section es k ++ sectionsFrom left (k + 1) es
+
+unfoldable pub countSection : Bool → ℕ → Bytes
+countSection named n = if named then DATA_COUNT ∷ sized (u n) else []
+
+unfoldable pub allSections : Bool → Entries → Bytes
+allSections named es = sectionsFrom (CODE - 1) 1 es ++ countSection named (length (inSection DATAS es)) ++ sectionsFrom (SECTIONS - CODE) CODE es

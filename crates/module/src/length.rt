@@ -1,14 +1,16 @@
 // How long the module is, by the tally of its sections' entries. Lengths saturate, as places do.
 use kept::Tally;
 ghost use mathlib.Core.Path.{_≡_};
-ghost use Prim.Native.Nat.{_<_};
-ghost use Rattle.module.specs.Length.{contentLen, sizedLen, sectionLen, moduleLen};
+ghost use Prim.Native.Nat.{_-_, _≤_, _<_};
+ghost use Rattle.area.specs.Flags.{dataNamedIn};
+ghost use Rattle.module.specs.Length.{contentLen, sizedLen, sectionLen, lensFrom, countLen, moduleLen};
+ghost use Rattle.kept.specs.Sections.{SECTIONS};
 
 // The start section holds no count.
 pub fn content_len(k: u8, size: usize, count: u64) -> usize
     ensures { λ r. ⌜ r ≡ contentLen k size count ⌝ }
 {
-    if k == 8 {
+    if k == kept::START {
         return size;
     }
     emit::tally(leb::group_count(count), size)
@@ -23,7 +25,7 @@ pub fn sized_len(n: usize) -> usize
 
 // An empty section is omitted.
 pub fn section_len(t: Tally, k: u8) -> usize
-    requires { ⌜ k < 12 ⌝ }
+    requires { ⌜ k < SECTIONS ⌝ }
     ensures { λ r. ⌜ r ≡ sectionLen t k ⌝ }
 {
     let i = k as usize;
@@ -37,17 +39,36 @@ pub fn section_len(t: Tally, k: u8) -> usize
     sized_len(n)
 }
 
-// The preamble and all sections.
-pub fn module_len(t: Tally) -> usize
-    ensures { λ r. ⌜ r ≡ moduleLen t ⌝ }
+// The sections from one to before another, after `at` bytes.
+fn sections_len(t: Tally, from: u8, to: u8, at: usize) -> usize
+    requires { ⌜ to ≤ SECTIONS ⌝ }
+    ensures { λ r. ⌜ r ≡ lensFrom (to - from) from at t ⌝ }
 {
-    let mut o = 8;
-    let mut k: u8 = 1;
-    let mut left: u32 = 11;
-    while 0 < left {
+    let mut o = at;
+    let mut k = from;
+    while k < to {
         o = emit::tally(o, section_len(t, k));
         k += 1;
-        left -= 1;
     }
     o
+}
+
+// The data count section, where a data segment is named: how many there are.
+fn count_len(t: Tally, work: &[u32]) -> usize
+    ensures { λ r. ⌜ r ≡ countLen (dataNamedIn (now (work .entry))) t ⌝ }
+{
+    if area::flag(work, area::DATA_NAMED) {
+        let counts = t.counts;
+        return sized_len(leb::group_count(counts[kept::DATAS as usize]));
+    }
+    0
+}
+
+// The preamble and all sections: the data count stands before code and data.
+pub fn module_len(t: Tally, work: &[u32]) -> usize
+    ensures { λ r. ⌜ r ≡ moduleLen (dataNamedIn (now (work .entry))) t ⌝ }
+{
+    let a = sections_len(t, 1, kept::CODE, 8);
+    let b = emit::tally(a, count_len(t, work));
+    sections_len(t, kept::CODE, kept::DATA_COUNT, b)
 }

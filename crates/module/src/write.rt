@@ -5,13 +5,15 @@ use sections::emit_fields;
 use sections::put_types;
 ghost use mathlib.Core.Path.{_≡_};
 ghost use mathlib.Core.List.{_∷_};
-ghost use Prim.Native.Nat.{_≤_, _<_};
-ghost use lib.ListN.{length};
+ghost use Prim.Native.Nat.{_-_, _≤_, _<_};
+ghost use lib.ListN.{length, getD};
+ghost use Rattle.area.specs.Flags.{dataNamedIn};
 ghost use Rattle.area.specs.Layout.{WORDS};
 ghost use Rattle.definition.specs.Binary as Binary;
 ghost use Rattle.emit.specs.Put.{Put, past};
+ghost use Rattle.kept.specs.Sections.{DATAS, SECTIONS};
 ghost use Rattle.kept.specs.Tally.{tallies, noTally};
-ghost use Rattle.module.specs.Length.{Counted, sectionsFrom};
+ghost use Rattle.module.specs.Length.{Supplied, sectionsFrom, countSection, allSections};
 ghost use Rattle.sections.specs.Write.{Writes, Writable, Held, Counts, allEntries, addedIn, moduleItems};
 
 // The magic and the version.
@@ -60,7 +62,7 @@ fn put_entries(
     out: &mut [u8],
     at: usize,
 ) -> usize
-    requires { ⌜ (k < 12) × Writable (now s) (now work) × Held (now kept) (allEntries declared (now s) (now work)) × (size ≡ past 0 (length (Binary.joined (Binary.inSection k (allEntries declared (now s) (now work)))))) ⌝ }
+    requires { ⌜ (k < SECTIONS) × Writable (now s) (now work) × Held (now kept) (allEntries declared (now s) (now work)) × (size ≡ past 0 (length (Binary.joined (Binary.inSection k (allEntries declared (now s) (now work)))))) ⌝ }
     ensures { λ r. ⌜ Writes (Binary.joined (Binary.inSection k (allEntries declared (now (s .entry)) (now (work .entry))))) (now (out .entry)) at r (now (out .exit)) (now (work .entry)) (now (work .exit)) ⌝ }
 {
     let a = kept::start_of(kept.len(), k);
@@ -83,10 +85,10 @@ fn put_content(
     out: &mut [u8],
     at: usize,
 ) -> usize
-    requires { ⌜ (k < 12) × Writable (now s) (now work) × Held (now kept) (allEntries declared (now s) (now work)) × (size ≡ past 0 (length (Binary.joined (Binary.inSection k (allEntries declared (now s) (now work)))))) × Counts count k (allEntries declared (now s) (now work)) ⌝ }
+    requires { ⌜ (k < SECTIONS) × Writable (now s) (now work) × Held (now kept) (allEntries declared (now s) (now work)) × (size ≡ past 0 (length (Binary.joined (Binary.inSection k (allEntries declared (now s) (now work)))))) × Counts count k (allEntries declared (now s) (now work)) ⌝ }
     ensures { λ r. ⌜ Writes (Binary.content k (Binary.inSection k (allEntries declared (now (s .entry)) (now (work .entry))))) (now (out .entry)) at r (now (out .exit)) (now (work .entry)) (now (work .exit)) ⌝ }
 {
-    if k == 8 {
+    if k == kept::START {
         return put_entries(k, size, declared, kept, s, work, out, at);
     }
     let a = leb::put_u(out, at, count);
@@ -112,7 +114,7 @@ fn put_section(
     out: &mut [u8],
     at: usize,
 ) -> usize
-    requires { ⌜ (k < 12) × Writable (now s) (now work) × Held (now kept) (allEntries declared (now s) (now work)) × Counted t (allEntries declared (now s) (now work)) ⌝ }
+    requires { ⌜ (k < SECTIONS) × Supplied t declared (now kept) (now s) (now work) ⌝ }
     ensures { λ r. ⌜ Writes (Binary.section (allEntries declared (now (s .entry)) (now (work .entry))) k) (now (out .entry)) at r (now (out .exit)) (now (work .entry)) (now (work .exit)) ⌝ }
 {
     let i = k as usize;
@@ -128,8 +130,10 @@ fn put_section(
     put_content(k, size, count, declared, kept, s, work, out, a)
 }
 
-// Sections 1 to 11 in order.
+// The sections from one to before another.
 fn put_sections(
+    from: u8,
+    to: u8,
     t: Tally,
     declared: u32,
     kept: &[u8],
@@ -138,18 +142,57 @@ fn put_sections(
     out: &mut [u8],
     at: usize,
 ) -> usize
-    requires { ⌜ Writable (now s) (now work) × Held (now kept) (allEntries declared (now s) (now work)) × Counted t (allEntries declared (now s) (now work)) ⌝ }
-    ensures { λ r. ⌜ Writes (sectionsFrom 11 1 (allEntries declared (now (s .entry)) (now (work .entry)))) (now (out .entry)) at r (now (out .exit)) (now (work .entry)) (now (work .exit)) ⌝ }
+    requires { ⌜ (to ≤ SECTIONS) × Supplied t declared (now kept) (now s) (now work) ⌝ }
+    ensures { λ r. ⌜ Writes (sectionsFrom (to - from) from (allEntries declared (now (s .entry)) (now (work .entry)))) (now (out .entry)) at r (now (out .exit)) (now (work .entry)) (now (work .exit)) ⌝ }
 {
     let mut o = at;
-    let mut k: u8 = 1;
-    let mut left: u32 = 11;
-    while 0 < left {
+    let mut k = from;
+    while k < to {
         o = put_section(k, t, declared, kept, s, work, out, o);
         k += 1;
-        left -= 1;
     }
     o
+}
+
+// The data count section, where a data segment is named: how many there are.
+fn put_count(t: Tally, work: &[u32], out: &mut [u8], at: usize) -> usize
+    ensures { λ r. ⌜ Put (now (out .entry)) at (countSection (dataNamedIn (now (work .entry))) (getD (t .counts) DATAS 0)) r (now (out .exit)) ⌝ }
+{
+    if area::flag(work, area::DATA_NAMED) {
+        let counts = t.counts;
+        let n = counts[kept::DATAS as usize];
+        let a = put_head(kept::DATA_COUNT, leb::group_count(n), out, at);
+        return leb::put_u(out, a, n);
+    }
+    at
+}
+
+// All sections in their order: the data count stands before code and data.
+fn put_all(
+    t: Tally,
+    declared: u32,
+    kept: &[u8],
+    s: &[u8],
+    work: &mut [u32],
+    out: &mut [u8],
+    at: usize,
+) -> usize
+    requires { ⌜ Supplied t declared (now kept) (now s) (now work) ⌝ }
+    ensures { λ r. ⌜ Writes (allSections (dataNamedIn (now (work .entry))) (allEntries declared (now (s .entry)) (now (work .entry)))) (now (out .entry)) at r (now (out .exit)) (now (work .entry)) (now (work .exit)) ⌝ }
+{
+    let a = put_sections(1, kept::CODE, t, declared, kept, s, work, out, at);
+    let b = put_count(t, work, out, a);
+    put_sections(
+        kept::CODE,
+        kept::DATA_COUNT,
+        t,
+        declared,
+        kept,
+        s,
+        work,
+        out,
+        b,
+    )
 }
 
 // The module, from the first byte on.
@@ -165,5 +208,5 @@ pub fn put_module(
     ensures { λ r. ⌜ Writes (Binary.module′ (moduleItems declared (now (s .entry)) (now (work .entry)))) (now (out .entry)) 0 r (now (out .exit)) (now (work .entry)) (now (work .exit)) ⌝ }
 {
     let a = put_preamble(out, 0);
-    put_sections(t, declared, kept, s, work, out, a)
+    put_all(t, declared, kept, s, work, out, a)
 }

@@ -17,6 +17,7 @@ use Rattle.area.specs.Kept.{Kept}
 use Rattle.name_table.specs.Tables.{tableOf}
 use Rattle.walk.specs.Walk.{fieldsIn}
 use Rattle.scope.specs.Scope.{scopeIn}
+use Rattle.kept.specs.Sections.{START, DATA_COUNT}
 use Rattle.kept.specs.Tally.{reached, noTally}
 use Rattle.kept.specs.declared.tally.Tally.{Tally}
 use Rattle.module.specs.Length.{contentLen, sizedLen, sectionLen}
@@ -109,8 +110,8 @@ subsections-long : (s w : List ℕ) (t : Tally) → NameTally s w t → subsecti
 unfolding subsectionsLen
 subsections-long s w t v =
     rw (
-      entries-long t 1 (functionEntries s w) (v .functions .size) (v .functions .count) (functions-full s w),
-      entries-long t 2 (localEntries s w) (v .locals .size) (v .locals .count) (locals-full s w),
+      entries-long t 1 (functionEntries s w) (omega arith) (v .functions .size) (v .functions .count) (functions-full s w),
+      entries-long t 2 (localEntries s w) (omega arith) (v .locals .size) (v .locals .count) (locals-full s w),
       length-append (sectionOf 1 (functionEntries s w)) (sectionOf 2 (localEntries s w)),
     )
     (past-measured (past 0 (length (sectionOf 1 (functionEntries s w)))) (length (sectionOf 2 (localEntries s w)))
@@ -153,18 +154,18 @@ subsection-none t k es old here v z g = go es (v .count)
     go [] e = put-none here (omega arith)
     go (b ∷ bs) e = absurd (past-some (length bs) (sym e ∙ z))
 
-content-is : (k : ℕ) (es : List Bytes) → eqb k 8 ≡ false → content k es ≡ u (length es) ++ joined es
+content-is : (k : ℕ) (es : List Bytes) → k < START → content k es ≡ u (length es) ++ joined es
 unfolding content
-content-is k es c = rw c refl
+content-is k es c = rw (ne-eqb k START (λ e. omega arith), ne-eqb k DATA_COUNT (λ e. omega arith)) refl
 
-subsection-some : (t : Tally) (k : ℕ) (es : List Bytes) (old mid end new : Bytes) (here a b q : ℕ) → Measured t k es → eqb k 8 ≡ false → length es ≤ length (joined es) → (getD (t .counts) k 0 ≡ 0 → ⊥)
+subsection-some : (t : Tally) (k : ℕ) (es : List Bytes) (old mid end new : Bytes) (here a b q : ℕ) → Measured t k es → k < START → length es ≤ length (joined es) → (getD (t .counts) k 0 ≡ 0 → ⊥)
     → Put old here (lengthOf t k) a mid → Put mid a (u (getD (t .counts) k 0)) b end → Put end b (joined es) q new → Put old here (sectionOf k es) q new
 unfolding lengthOf
 subsection-some t k es old mid end new here a b q v c full z x y p = go es (v .size) (v .count) full p
   where
     go : (bs : List Bytes) → getD (t .sizes) k 0 ≡ past 0 (length (joined bs)) → getD (t .counts) k 0 ≡ past 0 (length bs) → length bs ≤ length (joined bs) → Put end b (joined bs) q new → Put old here (sectionOf k bs) q new
     go [] d e g p = absurd (z (e ∙ past-none 0))
-    go (e₁ ∷ bs) d e g p = headed-put k (content-long k _ _ (e₁ ∷ bs) g d e) x (put-is (counted-put (e₁ ∷ bs) g e y p) (sym (content-is k (e₁ ∷ bs) c)))
+    go (e₁ ∷ bs) d e g p = headed-put k (content-long k _ _ (e₁ ∷ bs) (omega arith) g d e) x (put-is (counted-put (e₁ ∷ bs) g e y p) (sym (content-is k (e₁ ∷ bs) c)))
 
 module _ (s w : List ℕ) (t : Tally) (v : NameTally s w t) (old : Bytes) (here : ℕ) where
   pub first-none : getD (t .counts) 1 0 ≡ 0 → length old * 1 < 2 ^ 63 → Put old here (sectionOf 1 (functionEntries s w)) here old
@@ -176,11 +177,11 @@ module _ (s w : List ℕ) (t : Tally) (v : NameTally s w t) (old : Bytes) (here 
   module _ (a b : ℕ) (r : Reached) (mid end new : Bytes) where
     pub first-put : (getD (t .counts) 1 0 ≡ 0 → ⊥) → Put old here (lengthOf t 1) a mid → Put mid a (u (getD (t .counts) 1 0)) b end → Names (tableOf funcs s w) (first b 0) end r new
         → Put old here (sectionOf 1 (functionEntries s w)) (r .at) new
-    first-put z x y p = subsection-some t 1 _ old mid end new here a b (r .at) (v .functions) refl (functions-full s w) z x y (put-is (p .put) (function-bytes s w))
+    first-put z x y p = subsection-some t 1 _ old mid end new here a b (r .at) (v .functions) (omega arith) (functions-full s w) z x y (put-is (p .put) (function-bytes s w))
 
     pub second-put : (getD (t .counts) 2 0 ≡ 0 → ⊥) → Put old here (lengthOf t 2) a mid → Put mid a (u (getD (t .counts) 2 0)) b end
         → LocalNames (functions (scopeIn s w) (fieldsIn s)) (first b 0) end r new → Put old here (sectionOf 2 (localEntries s w)) (r .at) new
-    second-put z x y p = subsection-some t 2 _ old mid end new here a b (r .at) (v .locals) refl (locals-full s w) z x y (put-is (p .put) (local-bytes s w))
+    second-put z x y p = subsection-some t 2 _ old mid end new here a b (r .at) (v .locals) (omega arith) (locals-full s w) z x y (put-is (p .put) (local-bytes s w))
 
   -- ## The section
 

@@ -15,6 +15,7 @@ ghost use Rattle.emit.specs.Put.{Put};
 ghost use Rattle.sections.specs.Write.{Writable};
 ghost use Rattle.definition.specs.NameSection.{sectionName};
 ghost use Rattle.name_section.specs.Section.{functionEntries, localEntries, NameTally, lengthOf, subsectionsLen, nameLen, namesIn, SizeOf};
+ghost use Rattle.kept.specs.Sections.{SECTIONS};
 
 // The entries of each subsection on an empty part: where they end is how long they are.
 fn measure_functions(s: &[u8], work: &[u32]) -> Reached
@@ -41,8 +42,8 @@ pub fn measure(s: &[u8], work: &[u32]) -> Tally
     let f = measure_functions(s, work);
     let l = measure_locals(s, work);
     let none = Tally {
-        sizes: [0; 12],
-        counts: [0; 12],
+        sizes: [0; kept::SECTIONS],
+        counts: [0; kept::SECTIONS],
     };
     let t = kept::reach(none, 1, f.at, f.count);
     kept::reach(t, 2, l.at, l.count)
@@ -71,7 +72,7 @@ pub fn section_len(t: Tally) -> usize
 
 // A subsection's number and the length of its content.
 fn put_length(k: u8, t: Tally, out: &mut [u8], at: usize) -> usize
-    requires { ⌜ k < 12 ⌝ }
+    requires { ⌜ k < SECTIONS ⌝ }
     ensures { λ r. ⌜ Put (now (out .entry)) at (lengthOf t k) r (now (out .exit)) ⌝ }
 {
     let i = k as usize;

@@ -6,7 +6,7 @@ use syntax::Index;
 ghost use mathlib.Core.Path.{_≡_};
 ghost use Prim.Native.Nat.{_+_, _*_, _≤_};
 ghost use lib.ListN.{length};
-ghost use Rattle.area.specs.Strict.{strictIn};
+ghost use Rattle.area.specs.Flags.{strictIn};
 ghost use Rattle.definition.specs.Basic.{sameBytes};
 ghost use Rattle.definition.specs.Names as Names;
 ghost use Rattle.syntax.specs.Tokens.{indexOf};

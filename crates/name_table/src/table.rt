@@ -5,7 +5,7 @@ use syntax::Refusal;
 ghost use mathlib.Core.Path.{_≡_};
 ghost use Prim.Native.Nat.{_+_, _*_, _≤_};
 ghost use lib.ListN.{length};
-ghost use Rattle.area.specs.Strict.{strictIn};
+ghost use Rattle.area.specs.Flags.{strictIn};
 ghost use Rattle.definition.specs.Basic.{sameBytes};
 ghost use Rattle.definition.specs.Names as Names;
 ghost use Rattle.syntax.specs.Tokens.{idOf, indexOf};
@@ -60,7 +60,7 @@ pub fn below(work: &[u32], limit: u32, n: u32, rec: u32) -> Resolved
     ensures { λ r. ⌜ Names.below (strictIn (now (work .entry))) limit rec n ≡ resolved r ⌝ }
 {
     if limit <= n {
-        if area::is_strict(work) {
+        if area::flag(work, area::STRICT) {
             return Resolved::Refused(syntax::refusal_at(20, rec));
         }
     }

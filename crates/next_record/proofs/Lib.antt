@@ -1,4 +1,5 @@
 pub mod Bits
+pub mod Naming
 pub mod Records
 pub mod Skims
 pub mod Steps

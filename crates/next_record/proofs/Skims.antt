@@ -4,9 +4,10 @@ use Prim.Native.Nat.{ℕ, zero, suc, _+_, _-_, _≤_, _<_}
 use mathlib.Core.Bool.{Bool, true, false, not}
 use mathlib.Core.Option.{Option, none, some}
 use lib.Dec.{eqb, ltb}
+use lib.ListN.{getD}
 use borrow.Author.Tests.{lt-ltb, le-ltb, ne-eqb}
 use native.Mathlib.Omega.{arith}
-use Rattle.definition.specs.Basic.{Answer, ok}
+use Rattle.definition.specs.Basic.{if_then_else_, Answer, ok}
 use Rattle.definition.specs.Syntax as Syntax
 use Rattle.definition.specs.Syntax.{Bytes, Identifier, instr}
 use Rattle.definition.specs.Reader.{Step, got, fault, onward, byte}
@@ -31,9 +32,9 @@ use Rattle.expr.proofs.Skips.{any-opcode}
 use Rattle.syntax.specs.Instructions.{formIs}
 use Rattle.syntax.specs.declared.Form as Code
 use Rattle.syntax.specs.declared.Form.the-variants as FM
-use Rattle.next_record.specs.Uses.{mayUse}
+use Rattle.next_record.specs.Uses.{mayUse, sortNames}
 use Rattle.next_record.specs.Places.{recordPast, placeAfter, movedBy, bodyRecordAt}
-use Rattle.next_record.specs.Answers.{Kept, an-instr, an-end, keptOf, keptAt, keptInstr, shiftOf, open-one, opensIn, elsesIn, endsIn, insideAnswer, onPast, refusedHere}
+use Rattle.next_record.specs.Answers.{Kept, an-instr, an-end, keptOf, keptAt, keptInstr, shiftOf, stay, name-data, open-one, opensIn, elsesIn, endsIn, plainInside, insideAnswer, onPast, refusedHere}
 use Rattle.next_record.specs.declared.record.Inside.{Inside}
 use Rattle.next_record.specs.declared.record.Inside.the-variants as N
 use Rattle.next_record.specs.declared.record.InsideAt.{InsideAt}
@@ -43,6 +44,7 @@ use Rattle.syntax.specs.declared.Marks.{Marks}
 use Rattle.next_record.specs.Marks.{markOf, innermostOf}
 use Rattle.next_record.specs.declared.marks.Innermost.{Innermost}
 use Rattle.next_record.proofs.Bits.{inside-length, innermost-same}
+use Rattle.next_record.proofs.Naming.{read-names}
 
 -- ## Instructions
 
@@ -139,6 +141,11 @@ unfolding insideOf marksIn isOpen
 inside-open zero m = refl
 inside-open (suc k) m = sym (lt-ltb 0 (suc k) (omega arith))
 
+-- whether it names a data segment
+named-kept : (t : Bool) (q : Place) → _≡_ {A = Answer Kept × Place} (ok (an-instr false (if t then name-data else stay)), q) (insideAnswer (if t then N.Data else N.On false) q)
+named-kept true q = refl
+named-kept false q = refl
+
 module _ (p : Place) (m : Marks) (s : Bytes) (at op : ℕ) (o : 1 ≤ p .depth) (x : InsideAt) (r : Code.Form) (told : formOf op ≡ formIs r) where
   pub form-none : r ≡ FM.NoOpcode → x ≡ refusedHere p 4 → keptInstr p (formed (insideOf (p .depth - 1) m) op (formOf op) s at) ≡ insideAnswer (x .what) (x .place)
   form-none d a = rw (told, d) (kept-not p s at o x 4 a)
@@ -160,11 +167,12 @@ module _ (p : Place) (m : Marks) (s : Bytes) (at op : ℕ) (o : 1 ≤ p .depth) 
   form-calling d a = rw (told, d) a
 
   module _ (w : Operands) (d : r ≡ FM.Operands w) (k : Skip) (e : stops (plainOf 0 (operandsIs w) s at) ≡ skip k) where
-    pub form-plain : (next : ℕ) → k ≡ S.Past next → x ≡ onPast p next (p .depth) (N.On false) → keptInstr p (formed (insideOf (p .depth - 1) m) op (formOf op) s at) ≡ insideAnswer (x .what) (x .place)
+    pub form-plain : (next : ℕ) (v : Inside) → k ≡ S.Past next → v ≡ plainInside (operandsIs w) (getD s at 0) → x ≡ onPast p next (p .depth) v → keptInstr p (formed (insideOf (p .depth - 1) m) op (formOf op) s at) ≡ insideAnswer (x .what) (x .place)
     unfolding admits instruction depthAfter mayUse
-    form-plain next g a =
+    form-plain next v g i a =
         let y = gave (plainOf op (operandsIs w) s at) k next (any-opcode op (operandsIs w) s at ∙ e) g in
-        rw (told, d, y .is) (kept-on p s at o x (Syntax.plain (y .value)) next (p .depth) (N.On false) (omega arith) (λ q. refl) a)
+        let n = read-names op (operandsIs w) s at (y .value) next (y .is) in
+        rw (told, d, y .is) (kept-on p s at o x (Syntax.plain (y .value)) next (p .depth) v (omega arith) (λ q. rw (i, n) (named-kept (sortNames (operandsIs w) (getD s at 0)) q)) a)
 
     pub form-no-plain : (n : ℕ) → k ≡ S.Fault n → x ≡ refusedHere p n → keptInstr p (formed (insideOf (p .depth - 1) m) op (formOf op) s at) ≡ insideAnswer (x .what) (x .place)
     unfolding admits instruction

@@ -2,11 +2,11 @@
 use Prim.Native.Nat.{ℕ}
 use mathlib.Core.Bool.{Bool, false}
 use lib.Dec.{eqb, ltb}
-use Rattle.definition.specs.Basic.{Answer, ok, fails, refused}
+use Rattle.definition.specs.Basic.{if_then_else_, Answer, ok, fails, refused}
 use Rattle.definition.specs.Syntax.{Bytes, Identifier, Instr, opens, elses, ends, indirect, plain, Rec, field, instr, bodyEnd}
 use mathlib.Core.Option.{Option}
 use Rattle.definition.specs.Reader.{Step, got, fault, Reader, _>>_, require}
-use Rattle.definition.specs.Instructions.{opening, elsing, ending, instruction, mayElse}
+use Rattle.definition.specs.Instructions.{Operands, opening, elsing, ending, instruction, mayElse}
 use Rattle.syntax.specs.Marks.{insideOf}
 use Rattle.syntax.specs.declared.Marks.{Marks}
 use Rattle.syntax.specs.declared.Own.{Own}
@@ -22,7 +22,7 @@ use Rattle.next_record.specs.declared.record.Outside.the-variants as U
 use Rattle.next_record.specs.declared.record.Inside.{Inside}
 use Rattle.next_record.specs.declared.record.Inside.the-variants as N
 use Rattle.next_record.specs.declared.record.InsideAt.{InsideAt}
-use Rattle.next_record.specs.Uses.{mayUse}
+use Rattle.next_record.specs.Uses.{mayUse, operandNames, sortNames}
 use Rattle.next_record.specs.Places.{recordPast, placeAfter}
 
 -- outside a body
@@ -30,9 +30,10 @@ abbrev pub outsideAnswer : Bytes → Outside → Place → Answer (Rec Identifie
 outsideAnswer s (U.Field f) q = (ok (field (fieldOf s f)), q)
 outsideAnswer s (U.Refused n) q = (refused n (q .rec), q)
 
--- what an instruction does to the open blocks; of one that opens, whether an else may come in it
+-- what an instruction does: to the open blocks, and of one that opens whether an else may come in it; or it names a data segment
 pub data Shift : Type 0 where
   stay : Shift
+  name-data : Shift
   open-one : Bool → Shift
   else-one : Shift
   end-one : Shift
@@ -42,9 +43,9 @@ shiftOf (opens op l t) = open-one (eqb op 0x04)
 shiftOf (elses l) = else-one
 shiftOf (ends l) = end-one
 shiftOf (indirect x t) = stay
-shiftOf (plain p) = stay
+shiftOf (plain p) = if operandNames (p .operand) then name-data else stay
 
--- what the pass keeps of a record in a body: of an instruction, whether it may use a type and what it does to the open blocks
+-- what the pass keeps of a record in a body: of an instruction, whether it may use a type and what it does
 pub data Kept : Type 0 where
   a-field : Kept
   an-instr : Bool → Shift → Kept
@@ -64,6 +65,7 @@ keptAt y = (keptAnswer (y .0), y .1)
 
 abbrev pub insideAnswer : Inside → Place → Answer Kept × Place
 insideAnswer (N.On u) q = (ok (an-instr u stay), q)
+insideAnswer N.Data q = (ok (an-instr false name-data), q)
 insideAnswer (N.Opens u e) q = (ok (an-instr u (open-one e)), q)
 insideAnswer N.Elses q = (ok (an-instr false else-one), q)
 insideAnswer N.Ends q = (ok (an-instr false end-one), q)
@@ -84,6 +86,10 @@ elsesIn k m = require 8 (mayElse (insideOf k m .blocks)) >> instruction 0x05 els
 
 unfoldable pub endsIn : ℕ → Reader (Instr Identifier)
 endsIn k = require 8 (ltb 0 k) >> instruction 0x0B ending
+
+-- an instruction with operands, by their sort and the byte after its opcode
+abbrev pub plainInside : Operands → ℕ → Inside
+plainInside w b = if sortNames w b then N.Data else N.On false
 
 -- an instruction was passed, or refused
 unfoldable pub onPast : Place → ℕ → ℕ → Inside → InsideAt

@@ -31,11 +31,13 @@ pub struct OutsideAt {
     pub place: Place,
 }
 
-// What stands in a body. Of an instruction the pass keeps whether it may use a type and what it does to the open blocks, so nothing larger is
-// handed on.
+// What stands in a body. Of an instruction the pass keeps whether it may use a type, what it does to the open blocks, and whether it names a data
+// segment, so nothing larger is handed on.
 pub enum Inside {
     // an instruction that leaves the blocks as they are: may it use a type?
     On(bool),
+    // one that names a data segment, and uses no type
+    Data,
     // a block opens: may it use a type, and may an else come in it?
     Opens(bool, bool),
     Elses,
@@ -98,7 +100,7 @@ fn begins(b: u8, depth: u32) -> bool
     }
 }
 
-fn byte_or_zero(s: &[u8], at: usize) -> u8
+pub fn byte_or_zero(s: &[u8], at: usize) -> u8
     ensures { λ r. ⌜ r ≡ getD (now (s .entry)) at 0 ⌝ }
 {
     if at < s.len() {

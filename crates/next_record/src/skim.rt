@@ -1,21 +1,25 @@
-// An instruction that is passed over. The pass needs where it ends, how deep the place is then, whether it may use a type and what it does to
-// the open blocks; nothing else of it is built.
+// An instruction that is passed over. The pass needs where it ends, how deep the place is then, whether it may use a type, what it does to the
+// open blocks, and whether it names a data segment; nothing else of it is built.
 use crate::marks::Innermost;
 use crate::marks::may_else;
 use crate::record::Inside;
 use crate::record::InsideAt;
+use crate::record::byte_or_zero;
 use crate::record::on;
 use crate::record::refused;
 use syntax::Form;
+use syntax::Operands;
 use syntax::Place;
 use syntax::Skip;
 use syntax::UseAt;
 ghost use mathlib.Core.Path.{_≡_};
 ghost use Prim.Native.Nat.{_-_, _≤_, _<_};
+ghost use lib.ListN.{getD};
 ghost use Rattle.definition.specs.Instructions as Instructions;
 ghost use Rattle.syntax.specs.Marks.{insideOf};
+ghost use Rattle.syntax.specs.Plain.{operandsIs};
 ghost use Rattle.next_record.specs.Marks.{markOf};
-ghost use Rattle.next_record.specs.Answers.{opensIn, elsesIn, endsIn, keptInstr, insideAnswer};
+ghost use Rattle.next_record.specs.Answers.{opensIn, elsesIn, endsIn, plainInside, keptInstr, insideAnswer};
 
 // A block opens, where fewer than 128 are open.
 fn opens(s: &[u8], p: Place, at: usize, opcode: u8) -> InsideAt
@@ -97,6 +101,27 @@ fn indirect(s: &[u8], p: Place, at: usize) -> InsideAt
     }
 }
 
+// An instruction with operands: after FC, memory.init and data.drop name a data segment.
+fn plain_inside(s: &[u8], at: usize, what: Operands) -> Inside
+    ensures { λ r. ⌜ r ≡ plainInside (operandsIs what) (getD (now (s .entry)) at 0) ⌝ }
+{
+    match what {
+        Operands::Bulk => {
+            let b = byte_or_zero(s, at);
+            if b == 0x08 {
+                return Inside::Data;
+            }
+            if b == 0x09 {
+                return Inside::Data;
+            }
+            return Inside::On(false);
+        }
+        _ => {
+            return Inside::On(false);
+        }
+    }
+}
+
 // What stands after an opcode.
 pub fn pass_instr(s: &[u8], p: Place, last: Innermost, at: usize, opcode: u8) -> InsideAt
     requires { ⌜ (p .rec < 4096) × (1 ≤ p .depth) ⌝ }
@@ -109,7 +134,7 @@ pub fn pass_instr(s: &[u8], p: Place, last: Innermost, at: usize, opcode: u8) ->
         Form::Ending => ends(s, p, at),
         Form::Calling => indirect(s, p, at),
         Form::Operands(what) => match expr::pass_plain(s, at, what) {
-            Skip::Past(next) => on(p, next, p.depth, Inside::On(false)),
+            Skip::Past(next) => on(p, next, p.depth, plain_inside(s, at, what)),
             Skip::Fault(n) => refused(p, n),
         },
     }

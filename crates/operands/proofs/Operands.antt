@@ -54,14 +54,9 @@ module _ (s w : List ℕ) (ls bs : Namespace Identifier) (rec : ℕ) (x : Syntax
     unfolding immediate _>>=_
     local-not q e = halts imm (immediate (scopeIn s w) ls bs rec (Syntax.local x)) old at new q (rw (told, e))
 
-  module _ (y : Resolved) (j : Syntax.Space) (told : itemNo (scopeIn s w) j rec x ≡ resolved y) where
-    pub item-to : (n r : ℕ) → y ≡ R.To n → Put old at (Binary.u n) r new → Says (Syntax.item j x) (E.To r)
-    unfolding immediate _>>=_ imm
-    item-to n r e p = wrote imm (immediate (scopeIn s w) ls bs rec (Syntax.item j x)) old at new (Syntax.itemImm n) r p (rw (told, e))
-
-    pub item-not : (q : Refusal) → y ≡ R.Refused q → Says (Syntax.item j x) (E.Refused q)
-    unfolding immediate _>>=_
-    item-not q e = halts imm (immediate (scopeIn s w) ls bs rec (Syntax.item j x)) old at new q (rw (told, e))
+  pub item-is : (q : Emitted) (j : Syntax.Space) → Emits Binary.u (itemNo (scopeIn s w) j rec x) old at q new → Says (Syntax.item j x) q
+  unfolding immediate imm
+  item-is q j e = emits-map Binary.u imm (λ n. Syntax.itemImm n) (itemNo (scopeIn s w) j rec x) old at q new (λ n. refl) e
 
   module _ (y : Resolved) (a o : ℕ) (told : itemNo (scopeIn s w) Syntax.mems rec x ≡ resolved y) where
     pub access-to : (m r : ℕ) → y ≡ R.To m → Put old at (Binary.memarg a o m) r new → Says (Syntax.access a o x) (E.To r)
@@ -121,11 +116,15 @@ module _ (s w : List ℕ) (l : Locals) (k rec : ℕ) (p : Operand) (old : List �
     unfolding immediate
     operand-item j x d e = rw d e
 
+    pub operand-items : (b here : ℕ) → p ≡ O.Items b here → Emits imm (immediate (scopeIn s w) [] [] rec (operandOf s (O.Items b here))) old at r new → Operates r new
+    unfolding immediate
+    operand-items b here d e = rw d e
+
     pub operand-access : (a o : ℕ) (x : Index) → p ≡ O.Access a o x → Emits imm (immediate (scopeIn s w) [] [] rec (Syntax.access a o (indexOf s x))) old at r new → Operates r new
     unfolding immediate
     operand-access a o x d e = rw d e
 
-pub ruleset operands = (operand-nothing, operand-int32, operand-int64, operand-raw, operand-heap, operand-label, operand-labels, operand-local, operand-item, operand-access)
+pub ruleset operands = (operand-nothing, operand-int32, operand-int64, operand-raw, operand-heap, operand-label, operand-labels, operand-local, operand-item, operand-items, operand-access)
 
 -- ## The opcode before it
 

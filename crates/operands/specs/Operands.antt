@@ -2,8 +2,8 @@
 use Prim.Native.Nat.{ℕ, _≤_}
 use mathlib.Core.Bool.{Bool}
 use mathlib.Core.List.{List, [], _∷_}
-use Rattle.definition.specs.Basic.{Answer, if_then_else_}
-use Rattle.definition.specs.Syntax.{Bytes, Depth, Identifier, Index, Op, funcs, int32Imm, int64Imm}
+use Rattle.definition.specs.Basic.{Answer, if_then_else_, each}
+use Rattle.definition.specs.Syntax.{Bytes, Depth, Identifier, Index, Op, Space, funcs, int32Imm, int64Imm}
 use Rattle.definition.specs.Names.{itemNo, depthOf}
 use Rattle.definition.specs.Binary.{u, expr}
 use Rattle.scope.specs.Scope.{scopeIn, labelsIn}
@@ -40,3 +40,9 @@ bytesOf (T.Label blocks) d = depthBytes d
 unfoldable pub targetOf : (s w : List ℕ) (to : Target) (rec : ℕ) → Index Identifier → Answer (Meant to)
 targetOf s w T.Func rec x = itemNo (scopeIn s w) funcs rec x
 targetOf s w (T.Label blocks) rec x = depthOf (scopeIn s w) (labelsIn s w blocks) rec x
+
+-- ## Indices of several spaces
+
+-- their numbers, each in its own space
+unfoldable pub numbersOf : (s w : List ℕ) (rec : ℕ) → List (Space × Index Identifier) → Answer (List ℕ)
+numbersOf s w rec xs = each (λ x. itemNo (scopeIn s w) (x .0) rec (x .1)) xs

@@ -16,7 +16,7 @@ ghost use Rattle.definition.specs.Syntax.{funcs, labels};
 ghost use Rattle.definition.specs.Token as Token;
 ghost use Rattle.definition.specs.Names as Names;
 ghost use Rattle.definition.specs.Binary as Binary;
-ghost use Rattle.syntax.specs.Tokens.{indexOf};
+ghost use Rattle.syntax.specs.Tokens.{spaceOf, indexOf};
 ghost use Rattle.syntax.specs.TypeUses.{listOf};
 ghost use Rattle.scope.specs.Scope.{scopeIn, labelsIn};
 ghost use Rattle.binary.specs.Emits.{Emits};
@@ -44,12 +44,20 @@ pub fn count_indices(s: &[u8], l: List) -> u64
     n
 }
 
-// A function's number.
-pub fn emit_func(s: &[u8], work: &[u32], out: &mut [u8], at: usize, x: Index, rec: u32) -> Emitted
+// An item's number.
+pub fn emit_number(
+    s: &[u8],
+    work: &[u32],
+    out: &mut [u8],
+    at: usize,
+    kind: Space,
+    x: Index,
+    rec: u32,
+) -> Emitted
     requires { ⌜ WORDS ≤ length (now work) ⌝ }
-    ensures { λ r. ⌜ Emits Binary.u (Names.itemNo (scopeIn (now (s .entry)) (now (work .entry))) funcs rec (indexOf (now (s .entry)) x)) (now (out .entry)) at r (now (out .exit)) ⌝ }
+    ensures { λ r. ⌜ Emits Binary.u (Names.itemNo (scopeIn (now (s .entry)) (now (work .entry))) (spaceOf kind) rec (indexOf (now (s .entry)) x)) (now (out .entry)) at r (now (out .exit)) ⌝ }
 {
-    match scope::item_no(s, work, Space::Funcs, x, rec) {
+    match scope::item_no(s, work, kind, x, rec) {
         Resolved::To(n) => Emitted::To(leb::put_u(out, at, n as u64)),
         Resolved::Refused(r) => Emitted::Refused(r),
     }
@@ -93,7 +101,7 @@ fn emit_index(
     ensures { λ r. ⌜ Emits (bytesOf to) (targetOf (now (s .entry)) (now (work .entry)) to rec (indexOf (now (s .entry)) x)) (now (out .entry)) at r (now (out .exit)) ⌝ }
 {
     match to {
-        Target::Func => emit_func(s, work, out, at, x, rec),
+        Target::Func => emit_number(s, work, out, at, Space::Funcs, x, rec),
         Target::Label(blocks) => emit_depth(s, work, out, at, blocks, x, rec),
     }
 }

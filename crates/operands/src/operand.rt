@@ -64,10 +64,7 @@ pub fn emit_item(
     requires { ⌜ WORDS ≤ length (now work) ⌝ }
     ensures { λ r. ⌜ Emits Binary.imm (Names.immediate (scopeIn (now (s .entry)) (now (work .entry))) [] [] rec (item (spaceOf kind) (indexOf (now (s .entry)) x))) (now (out .entry)) at r (now (out .exit)) ⌝ }
 {
-    match scope::item_no(s, work, kind, x, rec) {
-        Resolved::To(n) => Emitted::To(leb::put_u(out, at, n as u64)),
-        Resolved::Refused(q) => Emitted::Refused(q),
-    }
+    crate::indices::emit_number(s, work, out, at, kind, x, rec)
 }
 
 // A load's or store's alignment, offset and memory.
@@ -109,6 +106,7 @@ fn emit_operand(
         Operand::Labels(xs, x) => crate::indices::emit_labels(s, work, out, at, k, xs, x, rec),
         Operand::Local(x) => emit_local(s, work, out, at, l, x, rec),
         Operand::Item(kind, x) => emit_item(s, work, out, at, kind, x, rec),
+        Operand::Items(b, here) => crate::items::emit_items(s, work, out, at, b, here, rec),
         Operand::Access(e, o, x) => emit_access(s, work, out, at, e, o, x, rec),
         Operand::Int32(n) => Emitted::To(leb::put_i32(out, at, n)),
         Operand::Int64(n) => Emitted::To(leb::put_i64(out, at, n)),

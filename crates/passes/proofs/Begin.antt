@@ -12,7 +12,9 @@ use Rattle.definition.specs.Basic.{if_then_else_, Answer, ok, fails, refused}
 use Rattle.definition.specs.Syntax.{Bytes, Identifier, Rec}
 use Rattle.definition.specs.Read.{read}
 use Rattle.laws.specs.Steps.{total}
-use Rattle.area.specs.Layout.{BYTES, COUNTS, ENDS, STRICT, WORDS}
+use Rattle.area.specs.Flags.{dataNamedIn, flagPut}
+use Rattle.area.specs.Layout.{BYTES, COUNTS, DATA_NAMED, ENDS, STRICT, WORDS}
+use Rattle.area.proofs.Flags.{flag-put, put-kept}
 use Rattle.stream.specs.Pass.{passed, endWords, areaAfter, counted, reading, readingArea, Reads}
 use Rattle.counting.specs.Counting.{countWords}
 use Rattle.stream.specs.declared.pass.Count.{Count}
@@ -20,7 +22,7 @@ use Rattle.stream.specs.declared.pass.Count.the-variants as C
 use Rattle.stream.proofs.Model.{passed-says}
 use Rattle.walk.specs.Walk.{begin, endsFrom, Ahead}
 use Rattle.walk.specs.declared.Cursor.{Cursor}
-use Rattle.passes.proofs.Join.{ends-in, ends-few, sound-in}
+use Rattle.passes.proofs.Join.{ends-in, ends-few, named-in, sound-in}
 
 -- ## Words of the area
 
@@ -46,7 +48,7 @@ begins-with es more h = let e : 512 ≡ length es + (512 - length es) = omega ar
 
 -- the area that reading an accepted stream leaves
 pub area-is : (s : Bytes) (w : List ℕ) (rs : List (Rec Identifier)) → read s ≡ ok rs
-    → areaAfter (passed s) w ≡ sets (sets w ENDS (endsFrom 4096 begin s)) COUNTS (countWords (passed s .seen))
+    → areaAfter (passed s) w ≡ flagPut DATA_NAMED (sets (sets w ENDS (endsFrom 4096 begin s)) COUNTS (countWords (passed s .seen))) (passed s .named)
 unfolding areaAfter endWords
 area-is s w rs e =
     let a : passed s .says ≡ ok (0 + length rs) = passed-says s ∙ ap (total 0) e in
@@ -54,29 +56,36 @@ area-is s w rs e =
     rw (a, b)
 
 -- its words from `ENDS` up to `STRICT` begin with the ends
-module _ (s : Bytes) (w : List ℕ) (l : WORDS ≤ length w) (es cs : List ℕ) (few : length es ≤ 512) (seven : length cs ≡ 7) where
-  words-are : drop ENDS (take STRICT (sets (sets w ENDS es) COUNTS cs)) ≡ es ++ take (512 - length es) (drop (ENDS + length es) w)
+module _ (s : Bytes) (w : List ℕ) (l : WORDS ≤ length w) (es cs : List ℕ) (named : Bool) (few : length es ≤ 512) (seven : length cs ≡ 7) where
+  left-long : length (sets (sets w ENDS es) COUNTS cs) ≡ length w
+  left-long = length-sets (sets w ENDS es) COUNTS cs ∙ length-sets w ENDS es
+
+  words-are : drop ENDS (take STRICT (flagPut DATA_NAMED (sets (sets w ENDS es) COUNTS cs) named)) ≡ es ++ take (512 - length es) (drop (ENDS + length es) w)
+  unfolding flagPut
   words-are =
-      let a : ENDS ≤ length (sets (sets w ENDS es) COUNTS cs) = rw (length-sets (sets w ENDS es) COUNTS cs, length-sets w ENDS es) (omega arith) in
-      middle (sets (sets w ENDS es) COUNTS cs) a
-      ∙ ap (take 512) (drop-sets ENDS COUNTS (sets w ENDS es) cs (omega arith) ∙ written w es (omega arith))
+      let left = sets (sets w ENDS es) COUNTS cs in
+      let a : ENDS ≤ length (flagPut DATA_NAMED left named) = rw (put-kept left DATA_NAMED named .long, left-long) (omega arith) in
+      middle (flagPut DATA_NAMED left named) a
+      ∙ ap (take 512) (drop-set-lt ENDS left DATA_NAMED _ (omega arith) ∙ drop-sets ENDS COUNTS (sets w ENDS es) cs (omega arith) ∙ written w es (omega arith))
       ∙ begins-with es (drop (ENDS + length es) w) few
 
 seven-counts : (s : Bytes) → length (countWords (passed s .seen)) ≡ 7
 unfolding countWords
 seven-counts s = refl
 
--- the ends of bodies are in the work area
+-- the ends of bodies are in the work area, and a word says whether a data segment is named
 pub ahead-begin : (s : Bytes) (w : List ℕ) (rs : List (Rec Identifier)) → read s ≡ ok rs → WORDS ≤ length w → Ahead s (areaAfter (passed s) w) begin
 unfolding begin
 ahead-begin s w rs e h =
+    let left = sets (sets w ENDS (endsFrom 4096 begin s)) COUNTS (countWords (passed s .seen)) in
     record {
       ends = record {
         rest = take (512 - length (endsFrom 4096 begin s)) (drop (ENDS + length (endsFrom 4096 begin s)) w);
-        is = ap (λ z. drop ENDS (take STRICT z)) (area-is s w rs e) ∙ words-are s w h (endsFrom 4096 begin s) (countWords (passed s .seen)) (ends-few s rs e) (seven-counts s);
+        is = ap (λ z. drop ENDS (take STRICT z)) (area-is s w rs e) ∙ words-are s w h (endsFrom 4096 begin s) (countWords (passed s .seen)) (passed s .named) (ends-few s rs e) (seven-counts s);
       };
       few = omega arith;
       sound = sound-in s rs e;
+      named = ap dataNamedIn (area-is s w rs e) ∙ flag-put left DATA_NAMED (passed s .named) (rw (left-long s w h (endsFrom 4096 begin s) (countWords (passed s .seen)) (passed s .named) (ends-few s rs e) (seven-counts s)) (omega arith)) ∙ named-in s rs e;
     }
 
 -- ## What a caller of the reading pass has
@@ -122,7 +131,7 @@ module _ (s : Bytes) (w w′ : List ℕ) (r : Count) (v : Reads s w r w′) (n :
   pub reads-long : WORDS ≤ length w′
   unfolding areaAfter
   reads-long = let a = left .leaves in let b = area-is s w (left .recs) (left .is) in
-      rw (a, b, length-sets (sets w ENDS (endsFrom 4096 begin s)) COUNTS (countWords (passed s .seen)), length-sets w ENDS (endsFrom 4096 begin s)) (left .long)
+      rw (a, b, put-kept (sets (sets w ENDS (endsFrom 4096 begin s)) COUNTS (countWords (passed s .seen))) DATA_NAMED (passed s .named) .long, length-sets (sets w ENDS (endsFrom 4096 begin s)) COUNTS (countWords (passed s .seen)), length-sets w ENDS (endsFrom 4096 begin s)) (left .long)
 
   -- the stream is short enough
   pub reads-short : length s ≤ BYTES

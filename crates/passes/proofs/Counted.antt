@@ -12,7 +12,10 @@ use native.Mathlib.Decide.{decLe}
 use Rattle.laws.proofs.Declared.{declared-append, item-declares}
 use Rattle.definition.specs.Basic.{ok}
 use Rattle.definition.specs.Syntax as Syntax
-use Rattle.area.specs.Layout.{COUNTS, DECLARED, ENDS}
+use Rattle.area.specs.Layout.{COUNTS, DATA_NAMED, DECLARED, ENDS}
+use Rattle.area.specs.Flags.{flagPut}
+use Rattle.area.proofs.Kept.{kept-word}
+use Rattle.area.proofs.Flags.{put-kept}
 use Rattle.definition.specs.Syntax.{Bytes, Identifier, Space, types, ExternType, Instr, Own, Source}
 use Rattle.definition.specs.Syntax.{FieldRec, typeR, importR, itemR, exportR, startR, elemR, dataR, Rec, field, instr, bodyEnd}
 use Rattle.definition.specs.Reader.{got}
@@ -27,7 +30,7 @@ use Rattle.laws.proofs.Backwards.{came}
 use Rattle.laws.proofs.Bodies.{no-field}
 use Rattle.laws.proofs.Reading.{records-end, records-full, accepted-next}
 use Rattle.reread.proofs.Gives.{RoomyField, roomy}
-use Rattle.stream.specs.Pass.{usedAfter, endOf, pass, passed, Reads}
+use Rattle.stream.specs.Pass.{usedAfter, namedAfter, endOf, pass, passed, Reads}
 use Rattle.counting.specs.Counting.{countWords}
 use Rattle.stream.specs.declared.pass.Count.{Count}
 use Rattle.stream.specs.declared.pass.Count.the-variants as C
@@ -134,31 +137,31 @@ few-after seen (field f) s here next few e = few-types seen s here next few f e
 few-after seen (instr y) s here next few e = few
 few-after seen bodyEnd s here next few e = few
 
-counted-all : (left r : ℕ) (seen : Read.Seen) (used : Bool) (ends : List ℕ) (s : Bytes) (here : ℕ) (rs : List (Rec Identifier)) → count types (seen .items) ≤ 256
-    → records left r seen s here ≡ ok rs → Counted r seen (pass left r seen used ends s here .seen) rs
-counted-all zero r seen used ends s here rs few e = go (decLe (length s) here)
+counted-all : (left r : ℕ) (seen : Read.Seen) (used named : Bool) (ends : List ℕ) (s : Bytes) (here : ℕ) (rs : List (Rec Identifier)) → count types (seen .items) ≤ 256
+    → records left r seen s here ≡ ok rs → Counted r seen (pass left r seen used named ends s here .seen) rs
+counted-all zero r seen used named ends s here rs few e = go (decLe (length s) here)
   where
-    go : Dec (length s ≤ here) → Counted r seen (pass zero r seen used ends s here .seen) rs
-    go (yes h) = rw (pass-end r seen used ends s here zero h) (counted-end r seen rs few (sym (records-end r seen s here zero h) ∙ e))
+    go : Dec (length s ≤ here) → Counted r seen (pass zero r seen used named ends s here .seen) rs
+    go (yes h) = rw (pass-end r seen used named ends s here zero h) (counted-end r seen rs few (sym (records-end r seen s here zero h) ∙ e))
     go (no h) =
         let d = sym (records-full r seen s here zero (omega arith) refl) ∙ e in
         let z : _≡_ {A = ℕ} 0 1 = cc in absurd (omega arith)
-counted-all (suc n) r seen used ends s here rs few e = go (decLe (length s) here) (λ seen′ used′ ends′ next rest. counted-all n (r + 1) seen′ used′ ends′ s next rest)
+counted-all (suc n) r seen used named ends s here rs few e = go (decLe (length s) here) (λ seen′ used′ named′ ends′ next rest. counted-all n (r + 1) seen′ used′ named′ ends′ s next rest)
   where
     Again : Type 0
-    Again = (seen′ : Read.Seen) (used′ : Bool) (ends′ : List ℕ) (next : ℕ) (rest : List (Rec Identifier)) → count types (seen′ .items) ≤ 256
-        → records n (r + 1) seen′ s next ≡ ok rest → Counted (r + 1) seen′ (pass n (r + 1) seen′ used′ ends′ s next .seen) rest
+    Again = (seen′ : Read.Seen) (used′ named′ : Bool) (ends′ : List ℕ) (next : ℕ) (rest : List (Rec Identifier)) → count types (seen′ .items) ≤ 256
+        → records n (r + 1) seen′ s next ≡ ok rest → Counted (r + 1) seen′ (pass n (r + 1) seen′ used′ named′ ends′ s next .seen) rest
 
-    go : Dec (length s ≤ here) → Again → Counted r seen (pass (suc n) r seen used ends s here .seen) rs
-    go (yes h) ih = rw (pass-end r seen used ends s here (suc n) h) (counted-end r seen rs few (sym (records-end r seen s here (suc n) h) ∙ e))
+    go : Dec (length s ≤ here) → Again → Counted r seen (pass (suc n) r seen used named ends s here .seen) rs
+    go (yes h) ih = rw (pass-end r seen used named ends s here (suc n) h) (counted-end r seen rs few (sym (records-end r seen s here (suc n) h) ∙ e))
     go (no h) ih =
         let l : here < length s = omega arith in
         let v = accepted-next n r seen s here rs l e in
         let m : suc n - 1 ≡ n = omega arith in
         let i = v .is in
-        rw (i, pass-got r seen used ends s here (suc n) (v .rec) (v .next) l (omega arith) (v .reads), m)
+        rw (i, pass-got r seen used named ends s here (suc n) (v .rec) (v .next) l (omega arith) (v .reads), m)
         (counted-more r seen (v .rec) s here (v .next) _ (v .rest) (v .reads)
-        (ih (seenAfter seen (v .rec)) (usedAfter used (v .rec)) (ends ++ endOf used (v .rec) (v .next) (r + 1)) (v .next) (v .rest)
+        (ih (seenAfter seen (v .rec)) (usedAfter used (v .rec)) (namedAfter named (v .rec)) (ends ++ endOf used (v .rec) (v .next) (r + 1)) (v .next) (v .rest)
         (few-after seen (v .rec) s here (v .next) few (v .reads)) (v .goes-on)))
 
 -- ## A whole stream
@@ -166,7 +169,7 @@ counted-all (suc n) r seen used ends s here rs few e = go (decLe (length s) here
 types-counted : (s : Bytes) (rs : List (Rec Identifier)) → read s ≡ ok rs
     → (count types (passed s .seen .items) ≡ length (declared (deinline rs))) × (count types (passed s .seen .items) ≤ 256)
 unfolding read passed nothingSeen count deinline
-types-counted s rs e = let h = counted-all 4096 0 nothingSeen false [] s 0 rs (omega arith) e in (omega (arith, h .sum), h .few)
+types-counted s rs e = let h = counted-all 4096 0 nothingSeen false false [] s 0 rs (omega arith) e in (omega (arith, h .sum), h .few)
 
 -- the fifth of the words that are put first
 fifth : (w : List ℕ) (seen : Read.Seen) → 7 ≤ length w → getD (sets w COUNTS (countWords seen)) DECLARED 0 ≡ min (count types (seen .items)) 256
@@ -179,7 +182,8 @@ module _ (s : Bytes) (w w′ : List ℕ) (r : Count) (v : Reads s w r w′) (n :
   reads-declared =
       let x = left s w w′ r v n is in
       let t = types-counted s (x .recs) (x .is) in
-      let a : w′ ≡ sets (sets w ENDS (endsFrom 4096 begin s)) COUNTS (countWords (passed s .seen)) = x .leaves ∙ area-is s w (x .recs) (x .is) in
+      let counts = sets (sets w ENDS (endsFrom 4096 begin s)) COUNTS (countWords (passed s .seen)) in
+      let a : w′ ≡ flagPut DATA_NAMED counts (passed s .named) = x .leaves ∙ area-is s w (x .recs) (x .is) in
       let l : 7 ≤ length (sets w ENDS (endsFrom 4096 begin s)) = rw (length-sets w ENDS (endsFrom 4096 begin s)) (omega (arith, x .long)) in
       let c : min (count types (passed s .seen .items)) 256 ≡ count types (passed s .seen .items) = omega (arith, t .1) in
-      ap (λ l. getD l DECLARED 0) a ∙ fifth (sets w ENDS (endsFrom 4096 begin s)) (passed s .seen) l ∙ c ∙ t .0 ∙ sym (ap (λ (l : Numbered Identifier). length (declared l)) (fields-in s (x .recs) (x .is)))
+      ap (λ l. getD l DECLARED 0) a ∙ kept-word (put-kept counts DATA_NAMED (passed s .named)) DECLARED (omega arith) ∙ fifth (sets w ENDS (endsFrom 4096 begin s)) (passed s .seen) l ∙ c ∙ t .0 ∙ sym (ap (λ (l : Numbered Identifier). length (declared l)) (fields-in s (x .recs) (x .is)))

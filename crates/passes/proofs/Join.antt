@@ -2,14 +2,14 @@
 use mathlib.Core.Path.{_≡_, refl, ap, sym, _∙_, subst}
 use Prim.Native.Nat.{ℕ, zero, suc, _+_, _-_, _*_, _≤_, _<_}
 use mathlib.Core.Bool.{Bool, true, false, _||_}
-use mathlib.Core.List.{List, [], _∷_, _++_, append-nil, append-assoc}
+use mathlib.Core.List.{List, [], _∷_, _++_, map, append-nil, append-assoc}
 use mathlib.Core.Option.{Option, none, some}
 use lib.Dec.{leb, ltb}
 use lib.ListN.{length, length-append}
 use borrow.Author.Tests.{lt-leb, le-leb, ltb-true}
 use native.Mathlib.Omega.{arith}
 use native.Mathlib.Decide.{decLe}
-use Rattle.definition.specs.Basic.{if_then_else_, Answer, ok, refused}
+use Rattle.definition.specs.Basic.{if_then_else_, Answer, ok, refused, any}
 use Rattle.definition.specs.Syntax as Syntax
 use Rattle.definition.specs.Syntax.{Bytes, Identifier, Space, funcs, Source, own, imported, tableOf, memOf, ownFunc, ownTable, ownMem, ownGlobal}
 use Rattle.definition.specs.Syntax.{FieldRec, typeR, importR, itemR, exportR, startR, elemR, dataR, Rec, field, instr, bodyEnd}
@@ -19,7 +19,7 @@ use Rattle.definition.specs.Records.{fieldRec}
 use Rattle.definition.specs.Spaces.{sourceSpace, externSpace, ownSpace, segments, brings, count}
 use Rattle.definition.specs.Read as Read
 use Rattle.definition.specs.Read.{room, seenAfter, bodyAfter, itemsAfter, startedAfter, fieldBody, sourceBody, ownBody, instrBody, recordIn, oneRecord, atEnd, nothingSeen, records, read}
-use Rattle.definition.specs.Deinline.{fieldsOf, bodyOf, deinlineFrom, deinline}
+use Rattle.definition.specs.Deinline.{Numbered, sourceFields, fieldsOf, bodyOf, deinlineFrom, deinline}
 use Rattle.laws.specs.Depths.{depthAfter}
 use Rattle.laws.proofs.Backwards.{came}
 use Rattle.laws.proofs.Bodies.{no-field, after-length, reads-deep}
@@ -27,13 +27,13 @@ use Rattle.laws.proofs.Reading.{records-end, records-full, accepted-next, Next}
 use Rattle.syntax.specs.Items.{countOf, roomOf}
 use Rattle.syntax.specs.declared.Seen.{Seen}
 use Rattle.reread.proofs.Gives.{Roomy, RoomyField, roomy}
-use Rattle.next_record.specs.Uses.{mayUse, anyUse, endWord}
+use Rattle.next_record.specs.Uses.{mayUse, anyUse, namesData, endWord}
 use Rattle.stream.specs.Pass as Pass
 use Rattle.stream.specs.Pass.{Passed, pass}
 use Rattle.counting.specs.Counting.{oneMore}
 use Rattle.stream.proofs.Model.{pass-end, pass-got}
 use Rattle.counting.proofs.Counts.{Holds, Counts, holds-more, counts-none, room-same}
-use Rattle.walk.specs.Walk.{afterBody, bodyIn, afterField, bodies, counting, seenWith, begin, cursorAfter, wholeField, sound, Visited, visitAt, fieldsHere, fieldsFrom, fieldsAhead, fieldsIn, endOf, endHere, endsFrom}
+use Rattle.walk.specs.Walk.{afterBody, bodyIn, afterField, bodies, counting, seenWith, begin, cursorAfter, wholeField, sound, Visited, visitAt, fieldsHere, fieldsFrom, fieldsAhead, fieldsIn, fieldNames, dataNamed, endOf, endHere, endsFrom}
 use Rattle.instr.specs.Bodies.{bodyFrom, wholeBody}
 use Rattle.walk.specs.declared.Cursor.{Cursor}
 use Rattle.walk.specs.declared.Stop.{Stop}
@@ -79,8 +79,9 @@ record After (left k r : ℕ) (seen : Read.Seen) (s : Bytes) (here : ℕ) (rs : 
   whole : wholeBody left k s here ≡ true
   body : bodyFrom left k s here ≡ bodyOf rs
   fields : (seen : List Space) → deinlineFrom r seen rs ≡ deinlineFrom (stop .rec) seen rest
-  passes : (used : Bool) (ends : List ℕ)
-      → pass left r seen used ends s here ≡ pass later (stop .rec) seen′ false (ends ++ (stop .at ∷ endWord (stop .rec) (used || anyUse (bodyFrom left k s here)) ∷ [])) s (stop .at)
+  passes : (used named : Bool) (ends : List ℕ)
+      → pass left r seen used named ends s here
+      ≡ pass later (stop .rec) seen′ false (named || any namesData (bodyFrom left k s here)) (ends ++ (stop .at ∷ endWord (stop .rec) (used || anyUse (bodyFrom left k s here)) ∷ [])) s (stop .at)
 
 or-none : (u : Bool) → u ≡ u || false
 or-none true = refl
@@ -97,7 +98,7 @@ body-record j seen s here x next b e = ap (λ z. recordIn (room seen) z s here) 
 
 body-after : (left : ℕ) (j : Inside) (r : ℕ) (seen : Read.Seen) (s : Bytes) (here : ℕ) (rs : List (Rec Identifier)) → seen .body ≡ some j
     → records left r seen s here ≡ ok rs → After left (length (j .blocks)) r seen s here rs
-unfolding insideAfter bodyFrom afterBody wholeBody bodyOf deinlineFrom seenAfter bodyAfter itemsAfter startedAfter anyUse
+unfolding insideAfter bodyFrom afterBody wholeBody bodyOf deinlineFrom seenAfter bodyAfter itemsAfter startedAfter anyUse any
 body-after zero j r seen s here rs b e = go (decLe (length s) here)
   where
     go : Dec (length s ≤ here) → After zero (length (j .blocks)) r seen s here rs
@@ -132,9 +133,15 @@ body-after (suc n) j r seen s here rs b e = go (decLe (length s) here) (λ j′ 
           whole = rw d (v .whole);
           body = rw (d, i) (ap (λ z. x ∷ z) (v .body));
           fields = λ seen. rw i (v .fields seen);
-          passes = λ used ends.
-              pass-got r seen used ends s here (suc n) (instr x) next h (omega arith) e
-              ∙ rw (m, append-nil, d, ← or-more used (mayUse x) (anyUse (bodyFrom n (depthAfter x (length (j .blocks))) s next))) (v .passes (used || mayUse x) ends);
+          passes = λ used named ends.
+              pass-got r seen used named ends s here (suc n) (instr x) next h (omega arith) e
+              ∙ rw (
+                m,
+                append-nil,
+                d,
+                ← or-more used (mayUse x) (anyUse (bodyFrom n (depthAfter x (length (j .blocks))) s next)),
+                ← or-more named (namesData x) (any namesData (bodyFrom n (depthAfter x (length (j .blocks))) s next)),
+              ) (v .passes (used || mayUse x) (named || namesData x) ends);
         }
     on h ih bodyEnd next rest e i g =
         let d = reads-deep j s next here bodyEnd (body-record j seen s here bodyEnd next b e) in
@@ -154,7 +161,7 @@ body-after (suc n) j r seen s here rs b e = go (decLe (length s) here) (λ j′ 
           whole = rw d;
           body = rw (d, i);
           fields = λ seen. rw i;
-          passes = λ used ends. pass-got r seen used ends s here (suc n) bodyEnd next h (omega arith) e ∙ rw (m, d, ← or-none used);
+          passes = λ used named ends. pass-got r seen used named ends s here (suc n) bodyEnd next h (omega arith) e ∙ rw (m, d, ← or-none used, ← or-none named);
         }
 
     go : Dec (length s ≤ here) → Again → After (suc n) (length (j .blocks)) r seen s here rs
@@ -280,14 +287,14 @@ record Onward (c : Cursor) (f : FieldRec Identifier) (s : Bytes) (next n : ℕ) 
   whole : wholeField (fieldBody f) (c .rec + 1) s next ≡ true
   body : bodyIn (fieldBody f) (c .rec + 1) s next ≡ bodyOf rest
   fields : deinlineFrom (c .rec + 1) (brings f ++ seen .items) rest ≡ deinlineFrom (cursorAfter c f s next .rec) (seen′ .items) rest′
-  passes : (es : List ℕ) → pass n (c .rec + 1) (seenAfter seen (field f)) false es s next
-      ≡ pass later (cursorAfter c f s next .rec) seen′ false (es ++ endOf (fieldBody f) (cursorAfter c f s next) (bodyIn (fieldBody f) (c .rec + 1) s next)) s (cursorAfter c f s next .at)
+  passes : (named : Bool) (es : List ℕ) → pass n (c .rec + 1) (seenAfter seen (field f)) false named es s next
+      ≡ pass later (cursorAfter c f s next .rec) seen′ false (named || any namesData (bodyIn (fieldBody f) (c .rec + 1) s next)) (es ++ endOf (fieldBody f) (cursorAfter c f s next) (bodyIn (fieldBody f) (c .rec + 1) s next)) s (cursorAfter c f s next .at)
   more : count funcs (seen .items) + bodies (fieldBody f) ≤ count funcs (seen′ .items)
 
 module _ (c : Cursor) (f : FieldRec Identifier) (s : Bytes) (next n : ℕ) (seen : Read.Seen) (rest : List (Rec Identifier))
     (v : Counts seen (c .seen)) (l : n + (c .rec + 1) ≡ 4096) (k : Funcs (seen .items) f) (g : records n (c .rec + 1) (seenAfter seen (field f)) s next ≡ ok rest) where
   onward-none : fieldBody f ≡ none → Onward c f s next n seen rest
-  unfolding cursorAfter seenAfter bodyAfter itemsAfter
+  unfolding cursorAfter seenAfter bodyAfter itemsAfter any
   onward-none b =
       let q : afterField (fieldBody f) (c .rec + 1) s next ≡ record { at = next; rec = c .rec + 1 } = ap (λ z. afterField z (c .rec + 1) s next) b in
       record {
@@ -305,10 +312,11 @@ module _ (c : Cursor) (f : FieldRec Identifier) (s : Bytes) (next n : ℕ) (seen
         whole = ap (λ z. wholeField z (c .rec + 1) s next) b;
         body = ap (λ z. bodyIn z (c .rec + 1) s next) b ∙ sym (no-body n (c .rec + 1) (seenAfter seen (field f)) s next rest b g);
         fields = sym (ap (λ (z : Stop). deinlineFrom (z .rec) (brings f ++ seen .items) rest) q);
-        passes = λ es.
-            ap (λ z. pass n (c .rec + 1) (seenAfter seen (field f)) false z s next) (sym (append-nil es))
-            ∙ sym (ap (λ (z : Stop). pass n (z .rec) (seenAfter seen (field f)) false (es ++ []) s (z .at)) q)
-            ∙ ap (λ z. pass n (cursorAfter c f s next .rec) (seenAfter seen (field f)) false (es ++ endOf z (cursorAfter c f s next) (bodyIn z (c .rec + 1) s next)) s (cursorAfter c f s next .at)) (sym b);
+        passes = λ named es.
+            ap (λ z. pass n (c .rec + 1) (seenAfter seen (field f)) false named z s next) (sym (append-nil es))
+            ∙ ap (λ z. pass n (c .rec + 1) (seenAfter seen (field f)) false z (es ++ []) s next) (or-none named)
+            ∙ sym (ap (λ (z : Stop). pass n (z .rec) (seenAfter seen (field f)) false (named || false) (es ++ []) s (z .at)) q)
+            ∙ ap (λ z. pass n (cursorAfter c f s next .rec) (seenAfter seen (field f)) false (named || any namesData (bodyIn z (c .rec + 1) s next)) (es ++ endOf z (cursorAfter c f s next) (bodyIn z (c .rec + 1) s next)) s (cursorAfter c f s next .at)) (sym b);
         more = k .more;
       }
 
@@ -338,11 +346,11 @@ module _ (c : Cursor) (f : FieldRec Identifier) (s : Bytes) (next n : ℕ) (seen
             a .fields (brings f ++ seen .items)
             ∙ sym (ap (λ (z : Stop). deinlineFrom (z .rec) (brings f ++ seen .items) (a .rest)) q)
             ∙ ap (λ z. deinlineFrom (cursorAfter c f s next .rec) z (a .rest)) (sym i);
-        passes = λ es.
-            a .passes false es
-            ∙ sym (ap (λ (z : Stop). pass (a .later) (z .rec) (a .seen′) false (es ++ (z .at ∷ endWord (z .rec) (anyUse (bodyFrom n (length (j .blocks)) s next)) ∷ [])) s (z .at)) q)
-            ∙ ap (λ i. pass (a .later) (cursorAfter c f s next .rec) (a .seen′) false (es ++ endOf (some j) (cursorAfter c f s next) (bodyFrom i (length (j .blocks)) s next)) s (cursorAfter c f s next .at)) (sym m)
-            ∙ ap (λ z. pass (a .later) (cursorAfter c f s next .rec) (a .seen′) false (es ++ endOf z (cursorAfter c f s next) (bodyIn z (c .rec + 1) s next)) s (cursorAfter c f s next .at)) (sym b);
+        passes = λ named es.
+            a .passes false named es
+            ∙ sym (ap (λ (z : Stop). pass (a .later) (z .rec) (a .seen′) false (named || any namesData (bodyFrom n (length (j .blocks)) s next)) (es ++ (z .at ∷ endWord (z .rec) (anyUse (bodyFrom n (length (j .blocks)) s next)) ∷ [])) s (z .at)) q)
+            ∙ ap (λ i. pass (a .later) (cursorAfter c f s next .rec) (a .seen′) false (named || any namesData (bodyFrom i (length (j .blocks)) s next)) (es ++ endOf (some j) (cursorAfter c f s next) (bodyFrom i (length (j .blocks)) s next)) s (cursorAfter c f s next .at)) (sym m)
+            ∙ ap (λ z. pass (a .later) (cursorAfter c f s next .rec) (a .seen′) false (named || any namesData (bodyIn z (c .rec + 1) s next)) (es ++ endOf z (cursorAfter c f s next) (bodyIn z (c .rec + 1) s next)) s (cursorAfter c f s next .at)) (sym b);
         more = rw i (k .more);
       }
 
@@ -357,10 +365,44 @@ module _ (c : Cursor) (f : FieldRec Identifier) (s : Bytes) (next n : ℕ) (seen
       go none b = onward-none b
       go (some j) b = onward-some j b (in-body j b)
 
--- the fields and the ends from a cursor on, and how many ends there are; nothing is a fault
+-- ## Data segments that are named
+
+named-append : (xs ys : Numbered Identifier) → dataNamed (xs ++ ys) ≡ dataNamed xs || dataNamed ys
+unfolding dataNamed any
+named-append [] ys = refl
+named-append (x ∷ xs) ys = rw (named-append xs ys) (sym (or-more (fieldNames (x .1)) (dataNamed xs) (dataNamed ys)))
+
+exports-name : (r : ℕ) (k : Space) (n : ℕ) (es : List Bytes) (fs : List (Syntax.Field Identifier))
+    → dataNamed (map (λ x. (r, x)) (map (λ e. Syntax.exportF e k (Syntax.ownIndex n)) es ++ fs)) ≡ dataNamed (map (λ x. (r, x)) fs)
+unfolding dataNamed any
+exports-name r k n [] fs = refl
+exports-name r k n (e ∷ es) fs = exports-name r k n es fs
+
+-- by the fields of one record, if by its body
+fields-name : (r : ℕ) (next : Space → ℕ) (f : FieldRec Identifier) (s : Bytes) (here : ℕ)
+    → dataNamed (map (λ x. (r, x)) (fieldsOf next f (bodyIn (fieldBody f) (r + 1) s here))) ≡ any namesData (bodyIn (fieldBody f) (r + 1) s here)
+unfolding fieldsOf sourceFields fieldBody sourceBody ownBody dataNamed any
+fields-name r next (typeR i t) s here = refl
+fields-name r next (importR n i d) s here = refl
+fields-name r next (itemR i es (own (ownFunc t ls))) s here = exports-name r _ _ es _ ∙ sym (or-none _)
+fields-name r next (itemR i es (own (ownTable t))) s here = exports-name r _ _ es _
+fields-name r next (itemR i es (own (ownMem l))) s here = exports-name r _ _ es _
+fields-name r next (itemR i es (own (ownGlobal t c))) s here = exports-name r _ _ es _
+fields-name r next (itemR i es (imported n d)) s here = exports-name r _ _ es _
+fields-name r next (itemR i es (tableOf w xs)) s here = exports-name r _ _ es _
+fields-name r next (itemR i es (memOf w d)) s here = exports-name r _ _ es _
+fields-name r next (exportR n k x) s here = refl
+fields-name r next (startR x) s here = refl
+fields-name r next (elemR i m xs) s here = refl
+fields-name r next (dataR i m d) s here = refl
+
+-- ## The walk and the pass, from a cursor on
+
+-- the fields and the ends from a cursor on, how many ends there are, and whether a data segment is named; nothing is a fault
 record Joined (fuel : ℕ) (c : Cursor) (s : Bytes) (left : ℕ) (seen : Read.Seen) (rs : List (Rec Identifier)) : Type 0 where
   fields : fieldsFrom fuel c s ≡ deinlineFrom (c .rec) (seen .items) rs
-  ends : (es : List ℕ) → pass left (c .rec) seen false es s (c .at) .ends ≡ es ++ endsFrom fuel c s
+  ends : (named : Bool) (es : List ℕ) → pass left (c .rec) seen false named es s (c .at) .ends ≡ es ++ endsFrom fuel c s
+  names : (named : Bool) (es : List ℕ) → pass left (c .rec) seen false named es s (c .at) .named ≡ named || dataNamed (fieldsFrom fuel c s)
   few : length (endsFrom fuel c s) + 2 * count funcs (seen .items) ≤ 512
   sound : sound fuel c s ≡ true
 
@@ -398,26 +440,29 @@ ends-long (some i) c xs = refl
 -- nothing is left
 joined-end : (fuel : ℕ) (c : Cursor) (s : Bytes) (left : ℕ) (seen : Read.Seen) (rs : List (Rec Identifier)) → length s ≤ c .at
     → Stands c s left seen rs → Joined fuel c s left seen rs
-unfolding fieldsFrom endsFrom deinlineFrom
+unfolding fieldsFrom endsFrom deinlineFrom dataNamed any
 joined-end fuel c s left seen rs h v = go fuel
   where
     none-left : rs ≡ []
     none-left = at-end (c .rec) seen s (c .at) rs left h (v .goes-on) (v .outside)
 
-    ends-same : (es : List ℕ) → pass left (c .rec) seen false es s (c .at) .ends ≡ es
-    ends-same es = ap (λ (z : Passed). z .ends) (pass-end (c .rec) seen false es s (c .at) left h)
+    ends-same : (named : Bool) (es : List ℕ) → pass left (c .rec) seen false named es s (c .at) .ends ≡ es
+    ends-same named es = ap (λ (z : Passed). z .ends) (pass-end (c .rec) seen false named es s (c .at) left h)
+
+    names-same : (named : Bool) (es : List ℕ) → pass left (c .rec) seen false named es s (c .at) .named ≡ named || false
+    names-same named es = ap (λ (z : Passed). z .named) (pass-end (c .rec) seen false named es s (c .at) left h) ∙ or-none named
 
     go : (fuel : ℕ) → Joined fuel c s left seen rs
-    go zero = record { fields = rw none-left; ends = λ es. ends-same es ∙ sym (append-nil es); few = omega (arith, v .funcs); sound = sound-nothing c s zero h }
+    go zero = record { fields = rw none-left; ends = λ named es. ends-same named es ∙ sym (append-nil es); names = names-same; few = omega (arith, v .funcs); sound = sound-nothing c s zero h }
     go (suc m) =
         let d = visit-nothing c s h in
-        record { fields = rw (d, none-left); ends = λ es. ends-same es ∙ rw d (sym (append-nil es)); few = rw d (omega (arith, v .funcs)); sound = sound-nothing c s (suc m) h }
+        record { fields = rw (d, none-left); ends = λ named es. ends-same named es ∙ rw d (sym (append-nil es)); names = λ named es. names-same named es ∙ rw d refl; few = rw d (omega (arith, v .funcs)); sound = sound-nothing c s (suc m) h }
 
 -- one field is read, and the rest is joined
 joined-field : (m : ℕ) (c : Cursor) (s : Bytes) (n : ℕ) (seen : Read.Seen) (rs rest : List (Rec Identifier)) (f : FieldRec Identifier) (next : ℕ)
     → Counts seen (c .seen) → RoomyField (room seen) f
     → visitAt c s ≡ some (record { field = f; head-end = next; next = cursorAfter c f s next })
-    → ((es : List ℕ) → pass (suc n) (c .rec) seen false es s (c .at) ≡ pass n (c .rec + 1) (seenAfter seen (field f)) false es s next)
+    → ((named : Bool) (es : List ℕ) → pass (suc n) (c .rec) seen false named es s (c .at) ≡ pass n (c .rec + 1) (seenAfter seen (field f)) false named es s next)
     → rs ≡ field f ∷ rest
     → (o : Onward c f s next n seen rest)
     → Joined m (cursorAfter c f s next) s (o .later) (o .seen′) (o .rest′)
@@ -432,10 +477,16 @@ joined-field m c s n seen rs rest f next v k d p i o j =
     let e = ends-long (fieldBody f) (cursorAfter c f s next) (bodyIn (fieldBody f) (c .rec + 1) s next) in
     record {
       fields = rw (d, i, a, b, g);
-      ends = λ es.
-          ap (λ (z : Passed). z .ends) (p es ∙ o .passes es)
-          ∙ j .ends (es ++ x)
+      ends = λ named es.
+          ap (λ (z : Passed). z .ends) (p named es ∙ o .passes named es)
+          ∙ j .ends _ (es ++ x)
           ∙ append-assoc es x (endsFrom m (cursorAfter c f s next) s)
+          ∙ rw d;
+      names = λ named es.
+          ap (λ (z : Passed). z .named) (p named es ∙ o .passes named es)
+          ∙ j .names _ (es ++ x)
+          ∙ or-more named (any namesData (bodyIn (fieldBody f) (c .rec + 1) s next)) (dataNamed (fieldsFrom m (cursorAfter c f s next) s))
+          ∙ ap (λ t. named || t) (ap (λ t. t || dataNamed (fieldsFrom m (cursorAfter c f s next) s)) (sym (fields-name (c .rec) (countOf (c .seen)) f s next)) ∙ sym (named-append _ (fieldsFrom m (cursorAfter c f s next) s)))
           ∙ rw d;
       few = rw d (omega (arith, l, e, j .few, o .more));
       sound = sound-met s c _ d m ∙ rw (o .whole) (j .sound);
@@ -466,7 +517,7 @@ joined (suc m) c s left seen rs h v = go (decLe (length s) (c .at)) left h v (λ
         let t : suc n - 1 ≡ n = omega arith in
         let o = onward-is c (f .rec) s (x .next) n seen (x .rest) (v .counts) (omega (arith, v .sum)) (field-funcs seen (v .funcs) (f .rec) k) w in
         joined-field m c s n seen rs (x .rest) (f .rec) (x .next) (v .counts) k d
-        (λ es. pass-got (c .rec) seen false es s (c .at) (suc n) (field (f .rec)) (x .next) g (omega arith) y ∙ rw (t, append-nil))
+        (λ named es. pass-got (c .rec) seen false named es s (c .at) (suc n) (field (f .rec)) (x .next) g (omega arith) y ∙ rw (t, append-nil))
         i o (ih (cursorAfter c (f .rec) s (x .next)) (o .later) (o .seen′) (o .rest′) (omega (arith, o .fewer)) (o .stands))
 
     go : Dec (length s ≤ c .at) → (left : ℕ) → left ≤ suc m → Stands c s left seen rs → Again → Joined (suc m) c s left seen rs
@@ -494,7 +545,12 @@ fields-in s rs e = joined-begin s rs e .fields
 -- the ends of bodies are those that reading finds, for 256 functions at most
 pub ends-in : (s : Bytes) (rs : List (Rec Identifier)) → read s ≡ ok rs → Pass.passed s .ends ≡ endsFrom 4096 begin s
 unfolding Pass.passed begin
-ends-in s rs e = joined-begin s rs e .ends []
+ends-in s rs e = joined-begin s rs e .ends false []
+
+-- so is whether a data segment is named
+pub named-in : (s : Bytes) (rs : List (Rec Identifier)) → read s ≡ ok rs → Pass.passed s .named ≡ dataNamed (fieldsIn s)
+unfolding Pass.passed fieldsIn fieldsAhead begin
+named-in s rs e = joined-begin s rs e .names false []
 
 pub ends-few : (s : Bytes) (rs : List (Rec Identifier)) → read s ≡ ok rs → length (endsFrom 4096 begin s) ≤ 512
 ends-few s rs e = omega (arith, joined-begin s rs e .few)

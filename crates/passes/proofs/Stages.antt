@@ -21,14 +21,14 @@ use Rattle.walk.proofs.Steps.{ahead-kept}
 use Rattle.scope.specs.Scope.{scopeIn}
 use Rattle.scope.proofs.Frames.{scope-kept, recalled-scope}
 use Rattle.deinline.specs.Entry.{Entries, entriesOf}
-use Rattle.kept.specs.Tally.{tallies, noTally, Twelve, ChecksIn}
+use Rattle.kept.specs.Tally.{tallies, noTally, Slots, ChecksIn}
 use Rattle.kept.specs.Content.{Fine, kept, typeEntries}
 use Rattle.kept.specs.declared.tally.Tally.{Tally}
 use Rattle.kept.specs.declared.tally.Verdict.{Verdict}
 use Rattle.kept.specs.declared.tally.Verdict.the-variants as V′
 use Rattle.kept.specs.declared.tally.Checked.{Checked}
 use Rattle.kept.proofs.Tallies.{tallies-append}
-use Rattle.resolve.proofs.Checking.{was-fine, fine-kept, was-not, not-long, tallied-twelve}
+use Rattle.resolve.proofs.Checking.{was-fine, fine-kept, was-not, not-long, tallied-slots}
 use Rattle.kept.proofs.Keeping.{keeps-then}
 use Rattle.sections.specs.Added.{KeepsTypes}
 use Rattle.sections.specs.Write.{Writable, Held, allEntries, keptItems, moduleItems}
@@ -45,8 +45,8 @@ passes-on a b count s w w₁ p w′ k e l h = record { says = rw e (h .says); lo
 
 -- ## The fields, resolved
 
-no-twelve : Twelve noTally
-no-twelve = record { sizes = refl; counts = refl }
+none-slots : Slots noTally
+none-slots = record { sizes = refl; counts = refl }
 
 -- entries that are there come from items that are there
 items-of : (a : Answer (List Item)) (es : Entries) → (a >>= λ is. ok (concatMap entries is)) ≡ ok es → a ≡ ok (keptItems a)
@@ -110,8 +110,8 @@ module _ (s w : List ℕ) (d count : ℕ) (r : Checked) (w₁ b₀ b₁ : List �
         let y : entriesOf (scopeIn s w₁) (fieldsIn s) ≡ ok (x .entries) = ap (λ z. entriesOf z (fieldsIn s)) scope ∙ x .is in
         record { old = b₀; keeps = rw y (keeps-then b₀ b₁ b₂ noTally (r .tally) (x .entries) (typeEntries (drop d (typesIn s w₁))) (x .tally) (x .keeps) (i .keeps)) }
 
-    pub resolve-twelve : Twelve (r .tally)
-    resolve-twelve = tallied-twelve (was-fine h (sym g ∙ e)) no-twelve
+    pub resolve-slots : Slots (r .tally)
+    resolve-slots = tallied-slots (was-fine h (sym g ∙ e)) none-slots
 
     -- the items
     found : d ≡ length (declared (fieldsIn s)) → fromNames (fieldsIn s) (scopeIn s w) ≡ ok (scopeIn s w₁, moduleItems d s w₁)

@@ -42,8 +42,8 @@ use Rattle.passes.specs.Passes.{Found, fromNames, fromTypes, fromFields,
 use Rattle.passes.specs.Passes.{makes, writes, saidBy, ReadyBy, Prepares}
 use Rattle.passes.specs.declared.Passed.{Passed}
 use Rattle.passes.proofs.Stages.{refuses, passes-on}
-use Rattle.area.specs.Strict.{strictIn, strictPut}
-use Rattle.area.proofs.Strict.{strict-put, put-kept, strict-kept}
+use Rattle.area.specs.Flags.{strictIn}
+use Rattle.area.proofs.Flags.{flag-kept}
 use Rattle.area.proofs.Kept.{kept-less, kept-word}
 use Rattle.area.specs.Lent.{Lent}
 
@@ -73,7 +73,7 @@ module _ (s w : List ℕ) (q : Surveyed) (w₁ : List ℕ) (h : Surveys s w q w�
 
     scope-is : _≡_ {A = Scope Identifier} (record { strict = strictIn w; eq = sameBytes; names = λ k. space k (stands .items); definers = λ k. definers k (stands .items); allTypes = typesIn s w₁ }) (scopeIn s w₁)
     unfolding scopeIn
-    scope-is = let k = sym (strict-kept (stands .kept) (omega arith)) in λ i. record { strict = k i; eq = sameBytes; names = λ k. stands .tables .each k i; definers = λ k. stands .tables .made k i; allTypes = typesIn s w₁ }
+    scope-is = let k = sym (flag-kept STRICT (stands .kept) (omega arith)) in λ i. record { strict = k i; eq = sameBytes; names = λ k. stands .tables .each k i; definers = λ k. stands .tables .made k i; allTypes = typesIn s w₁ }
 
     pub survey-done : (count : ℕ) (p : Passed) (w₂ b : List ℕ) → Passes (fromNames (fieldsIn s) (scopeIn s w₁)) count s w₁ p w₂ b → Passes (fromFields (strictIn w) (fieldsIn s)) count s w p w₂ b
     unfolding fromFields fromTypes _>>=_
@@ -100,7 +100,7 @@ module _ (s w : List ℕ) (d : ℕ) (w₁ : List ℕ) (h : DeclaredAll s w d w�
 
   -- the call is as strict as before
   pub declared-on : (count : ℕ) (p : Passed) (w₂ b : List ℕ) → Passes (fromFields (strictIn w₁) (fieldsIn s)) count s w₁ p w₂ b → Passes (fromFields (strictIn w) (fieldsIn s)) count s w p w₂ b
-  declared-on count p w₂ b y = passes-on _ _ count s w w₁ p w₂ b (ap (λ t. fromFields t (fieldsIn s)) (sym (strict-kept (h .kept) (omega arith)))) (h .kept .long) y
+  declared-on count p w₂ b y = passes-on _ _ count s w w₁ p w₂ b (ap (λ t. fromFields t (fieldsIn s)) (sym (flag-kept STRICT (h .kept) (omega arith)))) (h .kept .long) y
 
 -- ## The records
 

@@ -9,7 +9,7 @@ ghost use Prim.Native.Nat.{_≤_};
 ghost use lib.ListN.{length, getD};
 ghost use Rattle.area.specs.Layout.{DECLARED, TYPES};
 ghost use Rattle.area.specs.Lent.{Lent};
-ghost use Rattle.area.specs.Strict.{strictIn};
+ghost use Rattle.area.specs.Flags.{strictIn};
 ghost use Rattle.definition.specs.Types as Types;
 ghost use Rattle.type_table.specs.Table.{typeTable, typesIn, Indexed, Recalled};
 ghost use Rattle.walk.specs.Walk.{Ahead, begin, fieldsIn};
@@ -28,8 +28,8 @@ fn refuse(q: Refusal) -> Passed
     ensures { λ r. ⌜ r .verdict ≡ Verdict.Refused q ⌝ }
 {
     let tally = Tally {
-        sizes: [0; 12],
-        counts: [0; 12],
+        sizes: [0; kept::SECTIONS],
+        counts: [0; kept::SECTIONS],
     };
     Passed {
         count: 0,
@@ -86,7 +86,7 @@ fn with_strictness(s: &[u8], work: &mut [u32], kept: &mut [u8], count: u32, stri
     requires { ⌜ Lent (now s) (now work) × Ahead (now s) (now work) begin × (getD (now work) DECLARED 0 ≡ length (Types.declared (fieldsIn (now s)))) ⌝ }
     ensures { λ r. ⌜ Passes (fromFields strict (fieldsIn (now (s .entry)))) count (now (s .entry)) (now (work .entry)) r (now (work .exit)) (now (kept .exit)) ⌝ }
 {
-    area::put_strict(work, strict);
+    area::put_flag(work, area::STRICT, strict);
     declare(s, work, kept, count)
 }
 

@@ -29,7 +29,7 @@ use Rattle.renaming.proofs.Decide.{renamed-by-test, alike-of}
 -- `unfolding computing` opens what the examples compute with
 unfoldable pub computing : Unit {0}
 unfolding
-    Basic._>>=_ Basic.each Basic.concatMap Basic.same Basic.sameBytes Basic.firstAt Basic.at Basic.isSome Basic.between
+    Basic._>>=_ Basic.each Basic.concatMap Basic.any Basic.same Basic.sameBytes Basic.firstAt Basic.at Basic.isSome Basic.between
     Reader.byte Reader.many
     Token.needed Token.groups Token.u32 Token.upTo Token.counted Token.idchar Token.idByte Token.identifier Token.identifier₁ Token.stringByte Token.string
     Token.isVal Token.valType Token.namedIndex Token.present Token.optional Token.param Token.typeUse
@@ -46,7 +46,7 @@ unfolding
     Names.blocksAfter Names.countIn Names.itemNo Names.checked Names.typeNoOf Names.typeNo Names.blockType Names.localNo Names.depthOf Names.immediate
     Names.plainOp Names.closes Names.instrOp Names.body Names.distinctLocals Names.ownItem Names.externNo Names.resolve Names.resolveAll
     Binary.unsigned Binary.u Binary.vec Binary.sized Binary.byte Binary.funcType Binary.externType Binary.blockType Binary.imm Binary.instruction
-    Binary.expr Binary.runs Binary.func-code Binary.entries Binary.inSection Binary.joined Binary.content Binary.section Binary.preamble
+    Binary.expr Binary.runs Binary.func-code Binary.entries Binary.inSection Binary.immNamesData Binary.namesData Binary.dataCount Binary.joined Binary.content Binary.section Binary.preamble
     Binary.sectionNumbers Binary.sections Binary.module′
     Assemble.scope Assemble.itemsIn Assemble.items Assemble.resolved Assemble.fitting Assemble.moduleIn Assemble.say Assemble.sayRead Assemble.assembleBy
     Assemble.assemble

@@ -6,10 +6,10 @@ use mathlib.Core.Option.{Option, none, some}
 use Rattle.definition.specs.Basic.{concatMap}
 use Rattle.definition.specs.Syntax.{Space, funcs, tables, mems, types, ExternType, func, table, mem, global, Mode, passive, active}
 use Rattle.definition.specs.Syntax.{Index, absent, number, named, ownIndex, Local, TypeUse, Own, ownFunc, ownTable, ownMem, ownGlobal}
-use Rattle.definition.specs.Syntax.{Operand, nothing, label, labels, local, item, access, int32, int64, raw, Plain, Instr, opens, elses, ends, indirect, plain}
+use Rattle.definition.specs.Syntax.{Operand, nothing, label, labels, local, item, items, access, int32, int64, raw, Plain, Instr, opens, elses, ends, indirect, plain}
 use Rattle.definition.specs.Syntax.{Source, own, imported, tableOf, memOf, FieldRec, typeR, importR, itemR, exportR, startR, elemR, dataR, Rec, field, instr, bodyEnd}
-use Rattle.renaming.specs.Shape.{mapId, mapIndex, mapLocal, mapTypeUse, mapOperand, mapInstr, mapExtern, mapOwn, mapSource, mapMode, mapFieldRec, mapRec}
-use Rattle.renaming.specs.Kinds.{Kind, inSpace, localOf, labelOf, Names, idNames, indexNames, indicesNames, localNames, typeNames, operandNames, instrNames, externNames, ownNames, sourceNames, modeNames, fieldNames, namesFrom, names}
+use Rattle.renaming.specs.Shape.{mapId, mapIndex, mapPair, mapLocal, mapTypeUse, mapOperand, mapInstr, mapExtern, mapOwn, mapSource, mapMode, mapFieldRec, mapRec}
+use Rattle.renaming.specs.Kinds.{Kind, inSpace, localOf, labelOf, Names, idNames, indexNames, indicesNames, itemsNames, localNames, typeNames, operandNames, instrNames, externNames, ownNames, sourceNames, modeNames, fieldNames, namesFrom, names}
 use Rattle.renaming.proofs.Maps.{externSpace-map, sourceSpace-map}
 
 module _ {I J : Type 0} (f : I → J) where
@@ -33,6 +33,11 @@ module _ {I J : Type 0} (f : I → J) where
   indicesNames-map k [] = refl
   indicesNames-map k (x ∷ xs) = rw (indexNames-map k x, indicesNames-map k xs, map-append)
 
+  itemsNames-map : (xs : List (Space × Index I)) → itemsNames (map (mapPair f) xs) ≡ mapNames (itemsNames xs)
+  unfolding itemsNames concatMap
+  itemsNames-map [] = refl
+  itemsNames-map ((k, x) ∷ xs) = rw (indexNames-map (inSpace k) x, itemsNames-map xs, map-append)
+
   localNames-map : (r : ℕ) (ls : List (Local I)) → localNames r (map (mapLocal f) ls) ≡ mapNames (localNames r ls)
   unfolding localNames concatMap
   localNames-map r [] = refl
@@ -49,6 +54,7 @@ module _ {I J : Type 0} (f : I → J) where
   operandNames-map r (labels xs x) = rw (indicesNames-map (labelOf r) xs, indexNames-map (labelOf r) x, map-append)
   operandNames-map r (local x) = indexNames-map (localOf r) x
   operandNames-map r (item k x) = indexNames-map (inSpace k) x
+  operandNames-map r (items b xs) = itemsNames-map xs
   operandNames-map r (access e o x) = indexNames-map (inSpace mems) x
   operandNames-map r (int32 n) = refl
   operandNames-map r (int64 n) = refl

@@ -6,11 +6,11 @@ use mathlib.Core.List.{List, [], _∷_, _++_, map, append-assoc, append-nil}
 use mathlib.Core.Option.{Option, none, some}
 use lib.ListN.{getD}
 use native.Mathlib.Nat.{add-zero, zero-add, add-suc, suc-add}
-use Rattle.definition.specs.Syntax.{ExternType, func, table, mem, global, Mode, passive, active, Index, absent, number, named, ownIndex, Local, TypeUse}
-use Rattle.definition.specs.Syntax.{Operand, nothing, label, labels, local, item, access, int32, int64, raw, Plain, Instr, opens, elses, ends, indirect, plain}
+use Rattle.definition.specs.Syntax.{Space, ExternType, func, table, mem, global, Mode, passive, active, Index, absent, number, named, ownIndex, Local, TypeUse}
+use Rattle.definition.specs.Syntax.{Operand, nothing, label, labels, local, item, items, access, int32, int64, raw, Plain, Instr, opens, elses, ends, indirect, plain}
 use Rattle.definition.specs.Syntax.{Own, ownFunc, ownTable, ownMem, ownGlobal, Source, own, imported, tableOf, memOf}
 use Rattle.definition.specs.Syntax.{FieldRec, typeR, importR, itemR, exportR, startR, elemR, dataR, Rec, field, instr, bodyEnd}
-use Rattle.renaming.specs.Shape.{mapId, mapIndex, mapLocal, mapTypeUse, mapOperand, mapPlain, mapInstr, mapExtern, mapOwn, mapSource, mapMode, mapFieldRec, mapRec, shape}
+use Rattle.renaming.specs.Shape.{mapId, mapIndex, mapPair, mapLocal, mapTypeUse, mapOperand, mapPlain, mapInstr, mapExtern, mapOwn, mapSource, mapMode, mapFieldRec, mapRec, shape}
 
 -- ## Numbering
 
@@ -45,6 +45,9 @@ numberIndex (number n) = zero-of (number n)
 numberIndex (named i) = λ n. (named n, suc n)
 numberIndex (ownIndex n) = zero-of (ownIndex n)
 
+abbrev numberPair : Space × Index U → Count (Space × Index ℕ)
+numberPair x = one-of (λ y. (x .0, y)) (numberIndex (x .1))
+
 abbrev numberLocal : Local U → Count (Local ℕ)
 numberLocal l = one-of (λ i. record { id = i; type = l .type }) (numberId (l .id))
 
@@ -57,6 +60,7 @@ numberOperand (label x) = one-of label (numberIndex x)
 numberOperand (labels xs x) = two-of labels (list-of numberIndex xs) (numberIndex x)
 numberOperand (local x) = one-of local (numberIndex x)
 numberOperand (item k x) = one-of (item k) (numberIndex x)
+numberOperand (items b xs) = one-of (items b) (list-of numberPair xs)
 numberOperand (access e o x) = one-of (access e o) (numberIndex x)
 numberOperand (int32 n) = zero-of (int32 n)
 numberOperand (int64 n) = zero-of (int64 n)
@@ -167,6 +171,9 @@ module _ {I : Type 0} where
   back-indices : (xs : List (Index I)) → Back (list-of numberIndex (map (mapIndex (λ _. tt)) xs)) (λ f. map (mapIndex f)) xs
   back-indices = back-list numberIndex (mapIndex (λ _. tt)) back-index
 
+  back-pair : (x : Space × Index I) → Back (numberPair (mapPair (λ _. tt) x)) mapPair x
+  back-pair x = back-one (λ y. (x .0, y)) (λ y. (x .0, y)) (λ f a. refl) (back-index (x .1))
+
   back-local : (l : Local I) → Back (numberLocal (mapLocal (λ _. tt) l)) mapLocal l
   back-local l = back-one (λ i. record { id = i; type = l .type }) (λ i. record { id = i; type = l .type }) (λ f a. refl) (back-id (l .id))
 
@@ -184,6 +191,7 @@ module _ {I : Type 0} where
   back-operand (labels xs x) = back-two labels labels (λ f a b. refl) (back-indices xs) (back-index x)
   back-operand (local x) = back-one local local (λ f a. refl) (back-index x)
   back-operand (item k x) = back-one (item k) (item k) (λ f a. refl) (back-index x)
+  back-operand (items b xs) = back-one (items b) (items b) (λ f a. refl) (back-list numberPair (mapPair (λ _. tt)) back-pair xs)
   back-operand (access e o x) = back-one (access e o) (access e o) (λ f a. refl) (back-index x)
   back-operand (int32 n) = back-zero (λ f. refl)
   back-operand (int64 n) = back-zero (λ f. refl)

@@ -9,14 +9,14 @@ use lib.ListN.{replicate, length, length-map}
 use Rattle.definition.specs.Basic.{if_then_else_, Answer, _>>=_, each, firstAt, isSome, at, concatMap}
 use Rattle.definition.specs.Syntax.{Space, funcs, tables, mems, types, FuncType, ExternType, func, table, mem, global, Mode, passive, active}
 use Rattle.definition.specs.Syntax.{Index, absent, number, named, ownIndex, Local, TypeUse, TypeNo, Own, ownFunc, ownTable, ownMem, ownGlobal}
-use Rattle.definition.specs.Syntax.{Operand, nothing, label, labels, local, item, access, int32, int64, raw, Plain, Instr, opens, elses, ends, indirect, plain}
+use Rattle.definition.specs.Syntax.{Operand, nothing, label, labels, local, item, items, access, int32, int64, raw, Plain, Instr, opens, elses, ends, indirect, plain}
 use Rattle.definition.specs.Syntax.{Field, typeF, importF, ownF, exportF, startF, elemF, dataF}
 use Rattle.definition.specs.Types.{isInline, signature}
 use Rattle.definition.specs.Names.{Namespace, Items, Scope, carries, find, taken, distinct, space, definers, definedAt, holder, foundAt, numberIn, countIn, paramCount, paramNames, localsOf, blocksAfter}
 use Rattle.definition.specs.Names.{itemNo, checked, typeNoOf, typeNo, blockType, localNo, depthOf, immediate, plainOp, constOp, closes, instrOp, body}
 use Rattle.definition.specs.Names.{distinctLocals, ownItem, externNo, tableNo, modeOf, resolve}
-use Rattle.renaming.specs.Shape.{mapId, mapIndex, mapTypeUse, mapOperand, mapPlain, mapInstr, mapExtern, mapOwn, mapMode}
-use Rattle.renaming.specs.Kinds.{Kind, inSpace, localOf, labelOf, Names, idNames, indexNames, indicesNames, localNames, typeNames, operandNames, instrNames, externNames, ownNames, modeNames}
+use Rattle.renaming.specs.Shape.{mapId, mapIndex, mapPair, mapTypeUse, mapOperand, mapPlain, mapInstr, mapExtern, mapOwn, mapMode}
+use Rattle.renaming.specs.Kinds.{Kind, inSpace, localOf, labelOf, Names, idNames, indexNames, indicesNames, itemsNames, localNames, typeNames, operandNames, instrNames, externNames, ownNames, modeNames}
 use Rattle.renaming.proofs.Every.{Every, parts, only, nothing-said, All, all-append}
 use Rattle.renaming.proofs.Maps.{mapField, mapAll, mapItems, types-map, signature-map, isInline-map, isShort-map, isAbsent-map, space-map, localsOf-map, blocksAfter-map}
 
@@ -137,6 +137,12 @@ module _ {P I : Type 0} (eq : I → I → Bool) (f g : P → I) (M : Kind → P 
     unfolding itemNo countIn
     itemNo-same k r x h = rw (space-map f k xs, space-map g k xs, length-map (space k xs) (mapId f), length-map (space k xs) (mapId g)) (numberIn-same strict (inSpace k) (space k xs) _ r x (well k) h)
 
+    itemNos-same : (r : ℕ) (xs : List (Space × Index P)) → Every M (itemsNames xs)
+        → each (λ x. itemNo Γ₁ (x .0) r (x .1)) (map (mapPair f) xs) ≡ each (λ x. itemNo Γ₂ (x .0) r (x .1)) (map (mapPair g) xs)
+    unfolding each itemsNames concatMap
+    itemNos-same r [] h = refl
+    itemNos-same r ((k, x) ∷ xs) h = bind-same (itemNo-same k r x (search parts)) (λ y. bind-same (itemNos-same r xs (search parts)) (λ ys. refl))
+
     checked-same : (r : ℕ) (t : Bool) (s : FuncType) (n : ℕ) → checked Γ₁ r t s n ≡ checked Γ₂ r t s n
     unfolding checked
     checked-same r t s n = refl
@@ -182,6 +188,7 @@ module _ {P I : Type 0} (eq : I → I → Bool) (f g : P → I) (M : Kind → P 
           bind-same (depthOf-same blocks w r x (search parts)) λ d. refl
       immediate-same blocks w r (local x) h = bind-same (localNo-same r x h) (λ n. refl)
       immediate-same blocks w r (item k x) h = bind-same (itemNo-same k r x h) (λ n. refl)
+      immediate-same blocks w r (items b xs) h = bind-same (itemNos-same r xs h) (λ ns. refl)
       immediate-same blocks w r (access e o x) h = bind-same (itemNo-same mems r x h) (λ n. refl)
       immediate-same blocks w r (int32 n) h = refl
       immediate-same blocks w r (int64 n) h = refl

@@ -6,7 +6,7 @@ use mathlib.Core.Option.{Option, none, some}
 use Rattle.definition.specs.Basic.{concatMap}
 use Rattle.definition.specs.Syntax.{Space, funcs, tables, mems, types, elems, datas, ExternType, func, table, mem, global, Mode, passive, active}
 use Rattle.definition.specs.Syntax.{Index, absent, number, named, ownIndex, Local, TypeUse, Own, ownFunc, ownTable, ownMem, ownGlobal}
-use Rattle.definition.specs.Syntax.{Operand, nothing, label, labels, local, item, access, int32, int64, raw, Plain, Instr, opens, elses, ends, indirect, plain}
+use Rattle.definition.specs.Syntax.{Operand, nothing, label, labels, local, item, items, access, int32, int64, raw, Plain, Instr, opens, elses, ends, indirect, plain}
 use Rattle.definition.specs.Syntax.{Source, own, imported, tableOf, memOf, FieldRec, typeR, importR, itemR, exportR, startR, elemR, dataR, Rec, field, instr, bodyEnd}
 use Rattle.definition.specs.Spaces.{externSpace, sourceSpace}
 
@@ -33,6 +33,9 @@ module _ {I : Type 0} where
   unfoldable pub indicesNames : Kind → List (Index I) → Names I
   indicesNames k xs = concatMap (indexNames k) xs
 
+  unfoldable pub itemsNames : List (Space × Index I) → Names I
+  itemsNames xs = concatMap (λ x. indexNames (inSpace (x .0)) (x .1)) xs
+
   unfoldable pub localNames : ℕ → List (Local I) → Names I
   localNames r ls = concatMap (λ l. idNames (localOf r) (l .id)) ls
 
@@ -46,6 +49,7 @@ module _ {I : Type 0} where
   operandNames r (labels xs x) = indicesNames (labelOf r) xs ++ indexNames (labelOf r) x
   operandNames r (local x) = indexNames (localOf r) x
   operandNames r (item k x) = indexNames (inSpace k) x
+  operandNames r (items b xs) = itemsNames xs
   operandNames r (access e o x) = indexNames (inSpace mems) x
   operandNames r (int32 n) = []
   operandNames r (int64 n) = []

@@ -1,8 +1,8 @@
 -- `mapRec f` puts f of each identifier in its place. The shape of some records says of an identifier only that it is there.
 use mathlib.Core.List.{List, map}
 use mathlib.Core.Option.{Option, none, some}
-use Rattle.definition.specs.Syntax.{ExternType, func, table, mem, global, Mode, passive, active, Index, absent, number, named, ownIndex, Local, TypeUse}
-use Rattle.definition.specs.Syntax.{Operand, nothing, label, labels, local, item, access, int32, int64, raw, Plain, Instr, opens, elses, ends, indirect, plain}
+use Rattle.definition.specs.Syntax.{Space, ExternType, func, table, mem, global, Mode, passive, active, Index, absent, number, named, ownIndex, Local, TypeUse}
+use Rattle.definition.specs.Syntax.{Operand, nothing, label, labels, local, item, items, access, int32, int64, raw, Plain, Instr, opens, elses, ends, indirect, plain}
 use Rattle.definition.specs.Syntax.{Own, ownFunc, ownTable, ownMem, ownGlobal, Source, own, imported, tableOf, memOf}
 use Rattle.definition.specs.Syntax.{FieldRec, typeR, importR, itemR, exportR, startR, elemR, dataR, Rec, field, instr, bodyEnd}
 
@@ -17,6 +17,9 @@ module _ {I J : Type 0} (f : I → J) where
   mapIndex (named i) = named (f i)
   mapIndex (ownIndex n) = ownIndex n
 
+  abbrev pub mapPair : Space × Index I → Space × Index J
+  mapPair x = (x .0, mapIndex (x .1))
+
   abbrev pub mapLocal : Local I → Local J
   mapLocal l = record { id = mapId (l .id); type = l .type }
 
@@ -29,6 +32,7 @@ module _ {I J : Type 0} (f : I → J) where
   mapOperand (labels xs x) = labels (map mapIndex xs) (mapIndex x)
   mapOperand (local x) = local (mapIndex x)
   mapOperand (item k x) = item k (mapIndex x)
+  mapOperand (items b xs) = items b (map mapPair xs)
   mapOperand (access e o x) = access e o (mapIndex x)
   mapOperand (int32 n) = int32 n
   mapOperand (int64 n) = int64 n

@@ -26,22 +26,23 @@ use Rattle.deinline.specs.declared.entry.ItemIn.{ItemIn}
 use Rattle.deinline.specs.declared.entry.ItemIn.the-variants as I
 use Rattle.entries.specs.declared.EndsAt.{EndsAt}
 use Rattle.entries.specs.declared.EndsAt.the-variants as A
+use Rattle.kept.specs.Sections.{SECTIONS}
 use Rattle.kept.specs.Emit.{EmitsKept}
 use Rattle.kept.specs.Parts.{partIn}
-use Rattle.kept.specs.Tally.{reached, tallies, tallyOf, Twelve, Tallied, NotTallied, Checks, Ready, ReadyThree, ChecksIn}
+use Rattle.kept.specs.Tally.{reached, tallies, tallyOf, Slots, Tallied, NotTallied, Checks, Ready, ReadyThree, ChecksIn}
 use Rattle.kept.specs.declared.tally.Tally.{Tally}
 use Rattle.kept.specs.declared.tally.Verdict.{Verdict}
 use Rattle.kept.specs.declared.tally.Verdict.the-variants as V′
 use Rattle.kept.specs.declared.tally.Checked.{Checked}
-use Rattle.kept.proofs.Tallies.{tallies-append, tallies-twelve}
+use Rattle.kept.proofs.Tallies.{tallies-append, tallies-slots}
 use Rattle.kept.proofs.Keeping.{reached-is, keeps-none, keeps-one, keeps-then}
 use Rattle.kept.proofs.Emitting.{section-below}
 
 -- ## One answer
 
 -- entries of one section were kept, and its place reached
-pub tallied-one : (t : Tally) (k to n : ℕ) (a : Answer (List Bytes)) (es : List Bytes) (old new : Bytes) → k < 12 → Twelve t → length old * 1 < 2 ^ 63 → a ≡ ok es
-    → Put (partIn old k) (getD (t .sizes) k 0) (joined es) to (partIn new k) → n ≡ length es → ((j : ℕ) → j < 12 → (j ≡ k → ⊥) → partIn new j ≡ partIn old j) → length new ≡ length old
+pub tallied-one : (t : Tally) (k to n : ℕ) (a : Answer (List Bytes)) (es : List Bytes) (old new : Bytes) → k < SECTIONS → Slots t → length old * 1 < 2 ^ 63 → a ≡ ok es
+    → Put (partIn old k) (getD (t .sizes) k 0) (joined es) to (partIn new k) → n ≡ length es → ((j : ℕ) → j < SECTIONS → (j ≡ k → ⊥) → partIn new j ≡ partIn old j) → length new ≡ length old
     → Tallied (tagged k a) t old (reached t k to n) new
 unfolding tagged
 tallied-one t k to n a es old new h w f e p d o l =
@@ -77,8 +78,8 @@ pub refused-first : (a b : Answer Entries) (r : Refusal) → a ≡ refusedBy r �
 unfolding both
 refused-first a b r e = rw e refl
 
-pub tallied-twelve : {a : Answer Entries} {t t′ : Tally} {old new : Bytes} → Tallied a t old t′ new → Twelve t → Twelve t′
-tallied-twelve {t = t} x w = rw (x .tally) (tallies-twelve t (x .entries) w)
+pub tallied-slots : {a : Answer Entries} {t t′ : Tally} {old new : Bytes} → Tallied a t old t′ new → Slots t → Slots t′
+tallied-slots {t = t} x w = rw (x .tally) (tallies-slots t (x .entries) w)
 
 -- ## What the code answers
 
@@ -157,12 +158,12 @@ unfolding entryIn tagged answerOf tallies
 entry-none s w r e k t old d z l =
     checks-fine _ t t w w old old (record { entries = []; is = rw (nothing-is e (sym d ∙ z)) refl; tally = refl; keeps = keeps-none old t l }) (kept-same LOCALS w)
 
--- its section is one of the twelve
-pub in-sizes : (e : Entry) (k : ℕ) (sizes counts : List ℕ) → k ≡ sectionNo e → Twelve (tallyOf sizes counts) → k < length sizes
+-- its section has a slot
+pub in-sizes : (e : Entry) (k : ℕ) (sizes counts : List ℕ) → k ≡ sectionNo e → Slots (tallyOf sizes counts) → k < length sizes
 in-sizes e k sizes counts d h = rw (h .sizes) (section-below e k d)
 
 module _ (s w : List ℕ) (r : ℕ) (e : Entry) (t : Tally) (old : Bytes) (from : ℕ) (q : EndsAt) (w′ : List ℕ) (new : Bytes) (h : EmitsKept s w r e old from q w′ new) where
-  pub entry-fine : (k to n : ℕ) (t′ : Tally) → Twelve t → length old * 1 < 2 ^ 63 → q ≡ A.Ends to n → k ≡ sectionNo e → from ≡ getD (t .sizes) k 0 → t′ ≡ reached t k to n
+  pub entry-fine : (k to n : ℕ) (t′ : Tally) → Slots t → length old * 1 < 2 ^ 63 → q ≡ A.Ends to n → k ≡ sectionNo e → from ≡ getD (t .sizes) k 0 → t′ ≡ reached t k to n
       → ChecksIn (entryIn (scopeIn s w) s r e) t w old (record { tally = t′; verdict = V′.Fine }) w′ new
   unfolding Answers entryIn
   entry-fine k to n t′ y f d g u z =
@@ -204,8 +205,8 @@ pub after-item : (a : Answer Entries) (t : Tally) (w : List ℕ) (old : Bytes) (
 after-item a t w old q w₁ mid s r e e′ g x d h = rw g (after-ready a t w old q w₁ mid s r e′ x d h)
 
 -- slices of the same lengths are a tally too
-pub after-twelve : (sizes counts sizes′ counts′ : List ℕ) → Twelve (tallyOf sizes counts) → length sizes′ ≡ length sizes → length counts′ ≡ length counts → Twelve (tallyOf sizes′ counts′)
-after-twelve sizes counts sizes′ counts′ h d e = record { sizes = d ∙ h .sizes; counts = e ∙ h .counts }
+pub after-slots : (sizes counts sizes′ counts′ : List ℕ) → Slots (tallyOf sizes counts) → length sizes′ ≡ length sizes → length counts′ ≡ length counts → Slots (tallyOf sizes′ counts′)
+after-slots sizes counts sizes′ counts′ h d e = record { sizes = d ∙ h .sizes; counts = e ∙ h .counts }
 
 -- the scope after what was written
 scope-same : (s w w′ : List ℕ) → Kept LOCALS w w′ → scopeIn s w′ ≡ scopeIn s w

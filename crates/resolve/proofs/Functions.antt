@@ -47,8 +47,9 @@ use Rattle.function.specs.Function.{typedAnswer, EmitsTyped}
 use Rattle.deinline.specs.Entry.{oneOf, typeBytes, usesOf, tagged, both, answerOf, entryIn, secondOf, thirdOf}
 use Rattle.syntax.specs.declared.Entry.{Entry}
 use Rattle.syntax.specs.declared.Entry.the-variants as E
+use Rattle.kept.specs.Sections.{SECTIONS}
 use Rattle.kept.specs.Parts.{startOf, partIn}
-use Rattle.kept.specs.Tally.{reached, Twelve, Tallied, Ready, ChecksIn}
+use Rattle.kept.specs.Tally.{reached, Slots, Tallied, Ready, ChecksIn}
 use Rattle.resolve.specs.Func.{funcIn, typeEntry, codeEntry, KeepsCode}
 use Rattle.kept.specs.declared.tally.Tally.{Tally}
 use Rattle.kept.specs.declared.tally.Verdict.{Verdict}
@@ -63,7 +64,7 @@ use Rattle.resolve.proofs.Checking.{tallied-one, checks-fine, checks-no
 -- ## A part that is lent
 
 -- one entry was put into it
-tallied-lent : (t t′ : Tally) (k a b to : ℕ) (x old new : Bytes) → k < 12 → Twelve t → length old * 1 < 2 ^ 63 → a ≡ startOf (length old) k → b ≡ startOf (length old) (k + 1)
+tallied-lent : (t t′ : Tally) (k a b to : ℕ) (x old new : Bytes) → k < SECTIONS → Slots t → length old * 1 < 2 ^ 63 → a ≡ startOf (length old) k → b ≡ startOf (length old) (k + 1)
     → Put (take (b - a) (drop a old)) (getD (t .sizes) k 0) x to new → t′ ≡ reached t k to 1 → Tallied (tagged k (ok (x ∷ []))) t old t′ (putMid a (b - a) old new)
 unfolding tagged joined concatMap
 tallied-lent t t′ k a b to x old new h w f d e p z =
@@ -77,7 +78,7 @@ tallied-lent t t′ k a b to x old new h w f d e p z =
 
 -- ## The number of the type
 
-pub number-kept : (n : TypeNo) (t t′ : Tally) (from a b to : ℕ) (old new : Bytes) → Twelve t → length old * 1 < 2 ^ 63 → from ≡ getD (t .sizes) 3 0
+pub number-kept : (n : TypeNo) (t t′ : Tally) (from a b to : ℕ) (old new : Bytes) → Slots t → length old * 1 < 2 ^ 63 → from ≡ getD (t .sizes) 3 0
     → a ≡ startOf (length old) 3 → b ≡ startOf (length old) 4 → Put (take (b - a) (drop a old)) from (u (typeNoOf n .type-no)) to new → t′ ≡ reached t 3 to 1
     → Tallied (typeEntry (typeNoOf n)) t old t′ (putMid a (b - a) old new)
 unfolding typeEntry oneOf typeBytes
@@ -105,8 +106,8 @@ code-kept s w r n t ls here old a b from q w′ new h d e l =
     }
 
 -- it is one entry more
-code-tallied : (a : Answer Syntax.Item) (x : Tally) (old new : Bytes) (from to : ℕ) → Wrote codeOf a (partIn old 10) from to (partIn new 10) → Twelve x → length old * 1 < 2 ^ 63 → from ≡ getD (x .sizes) 10 0
-    → ((k : ℕ) → k < 12 → (k ≡ 10 → ⊥) → partIn new k ≡ partIn old k) → length new ≡ length old → Tallied (tagged 10 (oneOf codeOf a)) x old (reached x 10 to 1) new
+code-tallied : (a : Answer Syntax.Item) (x : Tally) (old new : Bytes) (from to : ℕ) → Wrote codeOf a (partIn old 10) from to (partIn new 10) → Slots x → length old * 1 < 2 ^ 63 → from ≡ getD (x .sizes) 10 0
+    → ((k : ℕ) → k < SECTIONS → (k ≡ 10 → ⊥) → partIn new k ≡ partIn old k) → length new ≡ length old → Tallied (tagged 10 (oneOf codeOf a)) x old (reached x 10 to 1) new
 unfolding oneOf joined concatMap
 code-tallied a x old new from to v y f i o l =
     let p : Put (partIn old 10) from (codeOf (v .value) ++ []) to (partIn new 10) = put-is (v .put) (sym (append-nil (codeOf (v .value)))) in
@@ -114,7 +115,7 @@ code-tallied a x old new from to v y f i o l =
 
 module _ (s w : List ℕ) (r : ℕ) (n : Syntax.TypeNo) (t : TypeUse) (ls : Code.List) (here : ℕ) (old : Bytes) (from : ℕ) (q : Emitted) (w′ new : List ℕ)
     (h : KeepsCode s w r n t ls here old from q w′ new) (x : Tally) where
-  pub code-fine : (to : ℕ) (x′ : Tally) → q ≡ T.To to → Twelve x → length old * 1 < 2 ^ 63 → from ≡ getD (x .sizes) 10 0 → x′ ≡ reached x 10 to 1
+  pub code-fine : (to : ℕ) (x′ : Tally) → q ≡ T.To to → Slots x → length old * 1 < 2 ^ 63 → from ≡ getD (x .sizes) 10 0 → x′ ≡ reached x 10 to 1
       → ChecksIn (codeEntry s w r n t ls here) x w old (record { tally = x′; verdict = V′.Fine }) w′ new
   unfolding Emits codeEntry
   code-fine to x′ d y f i z =

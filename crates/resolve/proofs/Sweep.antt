@@ -27,12 +27,12 @@ use Rattle.scope.proofs.Frames.{scope-kept, recalled-left, recalled-right, reca
 use Rattle.deinline.specs.Entry.{Entries, entriesOf, both, three, threeIn}
 use Rattle.deinline.proofs.Fields.{entries-append, entries-here}
 use Rattle.deinline.proofs.Uses.{recalled-here, head-here, whole-here}
-use Rattle.kept.specs.Tally.{tallies, noTally, tallyOf, Twelve, Keeps, Tallied, ReadyThree, ChecksIn}
+use Rattle.kept.specs.Tally.{tallies, noTally, tallyOf, Slots, Keeps, Tallied, ReadyThree, ChecksIn}
 use Rattle.kept.specs.declared.tally.Tally.{Tally}
 use Rattle.kept.specs.declared.tally.Verdict.{Verdict}
 use Rattle.kept.specs.declared.tally.Verdict.the-variants as V′
 use Rattle.kept.specs.declared.tally.Checked.{Checked}
-use Rattle.kept.proofs.Tallies.{tallies-append, tallies-twelve}
+use Rattle.kept.proofs.Tallies.{tallies-append, tallies-slots}
 use Rattle.kept.proofs.Keeping.{keeps-none, keeps-then}
 use Rattle.resolve.proofs.Checking.{was-fine, fine-kept, was-not, area-long, kept-long, checks-fine, checks-not}
 
@@ -85,8 +85,8 @@ sweep-begin s w old c t e d f a h =
       recalled = rw e h;
     }
 
-no-twelve : Twelve noTally
-no-twelve = record { sizes = refl; counts = refl }
+none-slots : Slots noTally
+none-slots = record { sizes = refl; counts = refl }
 
 module _ (s w₀ w : List ℕ) (old mid : Bytes) (c : Cursor) (t₀ t : Tally) (v : Sweeping s w₀ w old mid c t₀ t) where
   pub sweep-long : WORDS ≤ length w₀ → WORDS ≤ length w
@@ -95,8 +95,8 @@ module _ (s w₀ w : List ℕ) (old mid : Bytes) (c : Cursor) (t₀ t : Tally) (
   pub sweep-ahead : Ahead s w c
   sweep-ahead = v .ahead
 
-  pub sweep-twelve : Twelve t
-  sweep-twelve = rw (v .tally) (tallies-twelve noTally (v .done) no-twelve)
+  pub sweep-slots : Slots t
+  sweep-slots = rw (v .tally) (tallies-slots noTally (v .done) none-slots)
 
   module _ (m : Met) (told : visitIn (c .left) c s ≡ visitOf s m) where
     -- no field is left
@@ -162,10 +162,10 @@ module _ (s w₀ w : List ℕ) (old mid : Bytes) (c : Cursor) (t₀ t : Tally) (
 -- the slices are as long as they were
 module _ (s w₀ w : List ℕ) (old mid : Bytes) (c : Cursor) (sizes₀ counts₀ sizes counts : List ℕ) (v : Sweeping s w₀ w old mid c (tallyOf sizes₀ counts₀) (tallyOf sizes counts)) (l : List ℕ) where
   pub sweep-sizes : length l ≡ length sizes → length l ≡ length sizes₀
-  sweep-sizes d = d ∙ sweep-twelve s w₀ w old mid c (tallyOf sizes₀ counts₀) (tallyOf sizes counts) v .sizes ∙ sym (ap (λ (t : Tally). length (t .sizes)) (v .start))
+  sweep-sizes d = d ∙ sweep-slots s w₀ w old mid c (tallyOf sizes₀ counts₀) (tallyOf sizes counts) v .sizes ∙ sym (ap (λ (t : Tally). length (t .sizes)) (v .start))
 
   pub sweep-counts : length l ≡ length counts → length l ≡ length counts₀
-  sweep-counts d = d ∙ sweep-twelve s w₀ w old mid c (tallyOf sizes₀ counts₀) (tallyOf sizes counts) v .counts ∙ sym (ap (λ (t : Tally). length (t .counts)) (v .start))
+  sweep-counts d = d ∙ sweep-slots s w₀ w old mid c (tallyOf sizes₀ counts₀) (tallyOf sizes counts) v .counts ∙ sym (ap (λ (t : Tally). length (t .counts)) (v .start))
 
 -- ## What the code answers
 

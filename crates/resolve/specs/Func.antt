@@ -15,6 +15,7 @@ use Rattle.binary.specs.declared.Emitted.{Emitted}
 use Rattle.binary.specs.Code.{codeOf}
 use Rattle.function.specs.Function.{typedAnswer, EmitsTyped}
 use Rattle.deinline.specs.Entry.{Entries, oneOf, typeBytes, tagged}
+use Rattle.kept.specs.Sections.{SECTIONS}
 use Rattle.kept.specs.Parts.{partIn}
 use Rattle.resolve.specs.declared.func.FuncIn.{FuncIn}
 use Rattle.resolve.specs.declared.func.FuncIn.the-variants as F
@@ -38,5 +39,5 @@ codeEntry s w r n t ls here = tagged 10 (oneOf codeOf (typedAnswer s w r n t ls 
 -- the code in its part: the other parts stay
 pub record KeepsCode (s w : List ℕ) (r : ℕ) (n : Syntax.TypeNo) (t : TypeUse) (ls : Code.List) (here : ℕ) (old : List ℕ) (from : ℕ) (q : Emitted) (w′ new : List ℕ) : Type 0 where
   pub part : EmitsTyped s w r n t ls here (partIn old 10) from q w′ (partIn new 10)
-  pub there : (k : ℕ) → k < 12 → (k ≡ 10 → ⊥) → partIn new k ≡ partIn old k
+  pub there : (k : ℕ) → k < SECTIONS → (k ≡ 10 → ⊥) → partIn new k ≡ partIn old k
   pub long : length new ≡ length old

@@ -7,7 +7,7 @@ use syntax::Source;
 ghost use Rattle.area.specs.Lent.{At};
 ghost use Rattle.scope.specs.Scope.{scopeIn};
 ghost use Rattle.deinline.specs.Entry.{both, entryIn, secondOf, thirdOf};
-ghost use Rattle.kept.specs.Tally.{Twelve, Ready, ChecksIn, tallyOf, checkedOf};
+ghost use Rattle.kept.specs.Tally.{Slots, Ready, ChecksIn, tallyOf, checkedOf};
 
 // One entry, which may be nothing: it is kept, and tallied.
 pub fn check_entry(
@@ -19,7 +19,7 @@ pub fn check_entry(
     e: Entry,
     rec: u32,
 ) -> Verdict
-    requires { ⌜ At (now s) (now work) rec × Ready (now s) (now work) rec e × Twelve (tallyOf (now sizes) (now counts)) ⌝ }
+    requires { ⌜ At (now s) (now work) rec × Ready (now s) (now work) rec e × Slots (tallyOf (now sizes) (now counts)) ⌝ }
     ensures { λ r. ⌜ ChecksIn (entryIn (scopeIn (now (s .entry)) (now (work .entry))) (now (s .entry)) rec e) (tallyOf (now (sizes .entry)) (now (counts .entry))) (now (work .entry)) (now (kept .entry)) (checkedOf (now (sizes .exit)) (now (counts .exit)) r) (now (work .exit)) (now (kept .exit)) ⌝ }
 {
     let k = deinline::section_of(e);
@@ -46,7 +46,7 @@ pub fn check_two(
     x: Source,
     p: Spot,
 ) -> Verdict
-    requires { ⌜ At (now s) (now work) (p .rec) × Ready (now s) (now work) (p .rec) (secondOf x (p .seen)) × Ready (now s) (now work) (p .rec) (thirdOf x (p .here)) × Twelve (tallyOf (now sizes) (now counts)) ⌝ }
+    requires { ⌜ At (now s) (now work) (p .rec) × Ready (now s) (now work) (p .rec) (secondOf x (p .seen)) × Ready (now s) (now work) (p .rec) (thirdOf x (p .here)) × Slots (tallyOf (now sizes) (now counts)) ⌝ }
     ensures { λ r. ⌜ ChecksIn (both (entryIn (scopeIn (now (s .entry)) (now (work .entry))) (now (s .entry)) (p .rec) (secondOf x (p .seen))) (entryIn (scopeIn (now (s .entry)) (now (work .entry))) (now (s .entry)) (p .rec) (thirdOf x (p .here)))) (tallyOf (now (sizes .entry)) (now (counts .entry))) (now (work .entry)) (now (kept .entry)) (checkedOf (now (sizes .exit)) (now (counts .exit)) r) (now (work .exit)) (now (kept .exit)) ⌝ }
 {
     let seen = p.seen;

@@ -13,7 +13,7 @@ ghost use Rattle.syntax.specs.Resolved.{typeNoOf};
 ghost use Rattle.scope.specs.Scope.{scopeIn};
 ghost use Rattle.deinline.specs.Entry.{both, entryIn};
 ghost use Rattle.syntax.specs.declared.Entry.the-variants as E;
-ghost use Rattle.kept.specs.Tally.{Twelve, Ready, Tallied, ChecksIn, tallyOf, checkedOf};
+ghost use Rattle.kept.specs.Tally.{Slots, Ready, Tallied, ChecksIn, tallyOf, checkedOf};
 ghost use Rattle.resolve.specs.Func.{funcIn, typeEntry, codeEntry, KeepsCode};
 
 // An own function, or any other item.
@@ -44,7 +44,7 @@ pub struct Func {
 
 // The number of its type, in the function section's part.
 fn keep_type_no(kept: &mut [u8], sizes: &mut [u64], counts: &mut [u64], n: TypeNo)
-    requires { ⌜ Twelve (tallyOf (now sizes) (now counts)) ⌝ }
+    requires { ⌜ Slots (tallyOf (now sizes) (now counts)) ⌝ }
     ensures { λ r. ⌜ Tallied (typeEntry (typeNoOf n)) (tallyOf (now (sizes .entry)) (now (counts .entry))) (now (kept .entry)) (tallyOf (now (sizes .exit)) (now (counts .exit))) (now (kept .exit)) ⌝ }
 {
     let from = sizes[3] as usize;
@@ -83,7 +83,7 @@ fn check_code(
     n: TypeNo,
     f: Func,
 ) -> Verdict
-    requires { ⌜ At (now s) (now work) (f .rec) × Ready (now s) (now work) (f .rec) (E.Code (f .ty) (f .locals) (f .body)) × Twelve (tallyOf (now sizes) (now counts)) ⌝ }
+    requires { ⌜ At (now s) (now work) (f .rec) × Ready (now s) (now work) (f .rec) (E.Code (f .ty) (f .locals) (f .body)) × Slots (tallyOf (now sizes) (now counts)) ⌝ }
     ensures { λ r. ⌜ ChecksIn (codeEntry (now (s .entry)) (now (work .entry)) (f .rec) (typeNoOf n) (f .ty) (f .locals) (f .body)) (tallyOf (now (sizes .entry)) (now (counts .entry))) (now (work .entry)) (now (kept .entry)) (checkedOf (now (sizes .exit)) (now (counts .exit)) r) (now (work .exit)) (now (kept .exit)) ⌝ }
 {
     let from = sizes[10] as usize;
@@ -105,7 +105,7 @@ pub fn check_func(
     counts: &mut [u64],
     f: Func,
 ) -> Verdict
-    requires { ⌜ At (now s) (now work) (f .rec) × Ready (now s) (now work) (f .rec) (E.Func (f .ty)) × Ready (now s) (now work) (f .rec) (E.Code (f .ty) (f .locals) (f .body)) × Twelve (tallyOf (now sizes) (now counts)) ⌝ }
+    requires { ⌜ At (now s) (now work) (f .rec) × Ready (now s) (now work) (f .rec) (E.Func (f .ty)) × Ready (now s) (now work) (f .rec) (E.Code (f .ty) (f .locals) (f .body)) × Slots (tallyOf (now sizes) (now counts)) ⌝ }
     ensures { λ r. ⌜ ChecksIn (both (entryIn (scopeIn (now (s .entry)) (now (work .entry))) (now (s .entry)) (f .rec) (E.Func (f .ty))) (entryIn (scopeIn (now (s .entry)) (now (work .entry))) (now (s .entry)) (f .rec) (E.Code (f .ty) (f .locals) (f .body)))) (tallyOf (now (sizes .entry)) (now (counts .entry))) (now (work .entry)) (now (kept .entry)) (checkedOf (now (sizes .exit)) (now (counts .exit)) r) (now (work .exit)) (now (kept .exit)) ⌝ }
 {
     let ty = f.ty;

@@ -19,7 +19,7 @@ ghost use Rattle.type_table.specs.Table.{typesIn, Recalled};
 ghost use Rattle.walk.specs.Walk.{Ahead, begin, fieldsIn};
 ghost use Rattle.scope.specs.Scope.{scopeIn};
 ghost use Rattle.deinline.specs.Entry.{both, entryIn, secondOf, thirdOf, three, threeIn, entriesOf};
-ghost use Rattle.kept.specs.Tally.{Twelve, Ready, ReadyThree, ChecksIn, noTally, tallyOf, checkedOf};
+ghost use Rattle.kept.specs.Tally.{Slots, Ready, ReadyThree, ChecksIn, noTally, tallyOf, checkedOf};
 
 // What an item has beside its exports. An own function's type is resolved once.
 fn check_item(
@@ -31,7 +31,7 @@ fn check_item(
     x: Source,
     p: Spot,
 ) -> Verdict
-    requires { ⌜ At (now s) (now work) (p .rec) × Ready (now s) (now work) (p .rec) (secondOf x (p .seen)) × Ready (now s) (now work) (p .rec) (thirdOf x (p .here)) × Twelve (tallyOf (now sizes) (now counts)) ⌝ }
+    requires { ⌜ At (now s) (now work) (p .rec) × Ready (now s) (now work) (p .rec) (secondOf x (p .seen)) × Ready (now s) (now work) (p .rec) (thirdOf x (p .here)) × Slots (tallyOf (now sizes) (now counts)) ⌝ }
     ensures { λ r. ⌜ ChecksIn (both (entryIn (scopeIn (now (s .entry)) (now (work .entry))) (now (s .entry)) (p .rec) (secondOf x (p .seen))) (entryIn (scopeIn (now (s .entry)) (now (work .entry))) (now (s .entry)) (p .rec) (thirdOf x (p .here)))) (tallyOf (now (sizes .entry)) (now (counts .entry))) (now (work .entry)) (now (kept .entry)) (checkedOf (now (sizes .exit)) (now (counts .exit)) r) (now (work .exit)) (now (kept .exit)) ⌝ }
 {
     match crate::func::func_in(x) {
@@ -58,7 +58,7 @@ fn check_rest(
     f: Field,
     p: Spot,
 ) -> Verdict
-    requires { ⌜ At (now s) (now work) (p .rec) × Ready (now s) (now work) (p .rec) (three f (p .seen) (p .here) .second) × Ready (now s) (now work) (p .rec) (three f (p .seen) (p .here) .third) × Twelve (tallyOf (now sizes) (now counts)) ⌝ }
+    requires { ⌜ At (now s) (now work) (p .rec) × Ready (now s) (now work) (p .rec) (three f (p .seen) (p .here) .second) × Ready (now s) (now work) (p .rec) (three f (p .seen) (p .here) .third) × Slots (tallyOf (now sizes) (now counts)) ⌝ }
     ensures { λ r. ⌜ ChecksIn (both (entryIn (scopeIn (now (s .entry)) (now (work .entry))) (now (s .entry)) (p .rec) (three f (p .seen) (p .here) .second)) (entryIn (scopeIn (now (s .entry)) (now (work .entry))) (now (s .entry)) (p .rec) (three f (p .seen) (p .here) .third))) (tallyOf (now (sizes .entry)) (now (counts .entry))) (now (work .entry)) (now (kept .entry)) (checkedOf (now (sizes .exit)) (now (counts .exit)) r) (now (work .exit)) (now (kept .exit)) ⌝ }
 {
     match deinline::item_in(f) {
@@ -77,7 +77,7 @@ fn check_field(
     f: Field,
     p: Spot,
 ) -> Verdict
-    requires { ⌜ At (now s) (now work) (p .rec) × ReadyThree (now s) (now work) (p .rec) (three f (p .seen) (p .here)) × Twelve (tallyOf (now sizes) (now counts)) ⌝ }
+    requires { ⌜ At (now s) (now work) (p .rec) × ReadyThree (now s) (now work) (p .rec) (three f (p .seen) (p .here)) × Slots (tallyOf (now sizes) (now counts)) ⌝ }
     ensures { λ r. ⌜ ChecksIn (threeIn (scopeIn (now (s .entry)) (now (work .entry))) (now (s .entry)) (p .rec) (three f (p .seen) (p .here))) (tallyOf (now (sizes .entry)) (now (counts .entry))) (now (work .entry)) (now (kept .entry)) (checkedOf (now (sizes .exit)) (now (counts .exit)) r) (now (work .exit)) (now (kept .exit)) ⌝ }
 {
     let seen = p.seen;
@@ -132,8 +132,8 @@ pub fn check_fields(s: &[u8], work: &mut [u32], kept: &mut [u8]) -> Checked
     requires { ⌜ Lent (now s) (now work) × Ahead (now s) (now work) begin × Recalled (now work) (typesIn (now s) (now work)) (Types.uses (fieldsIn (now s))) ⌝ }
     ensures { λ r. ⌜ ChecksIn (entriesOf (scopeIn (now (s .entry)) (now (work .entry))) (fieldsIn (now (s .entry)))) noTally (now (work .entry)) (now (kept .entry)) r (now (work .exit)) (now (kept .exit)) ⌝ }
 {
-    let mut sizes = [0u64; 12];
-    let mut counts = [0u64; 12];
+    let mut sizes = [0u64; kept::SECTIONS];
+    let mut counts = [0u64; kept::SECTIONS];
     let verdict = check_all(s, work, kept, &mut sizes, &mut counts);
     Checked {
         tally: Tally { sizes, counts },

@@ -24,8 +24,8 @@ use Rattle.name_table.proofs.Holders.{definers-low, definers-same}
 use Rattle.name_table.proofs.Tables.{base-low, code-small, words-kept, entry-kept, names-kept}
 use Rattle.scope.specs.Scope.{scopeIn, localsIn, labelsIn}
 use Rattle.scope.specs.declared.Locals.{Locals}
-use Rattle.area.specs.Strict.{strictIn}
-use Rattle.area.proofs.Strict.{strict-kept}
+use Rattle.area.specs.Flags.{strictIn}
+use Rattle.area.proofs.Flags.{flag-kept}
 
 -- ## Words that are kept
 
@@ -54,7 +54,7 @@ module _ (s w w′ : List ℕ) where
   pub scope-kept : Kept LOCALS w w′ → scopeIn s w′ ≡ scopeIn s w
   unfolding scopeIn
   scope-kept k =
-      rw (strict-kept k (omega arith), types-kept s w w′ LOCALS k (omega arith))
+      rw (flag-kept STRICT k (omega arith), types-kept s w w′ LOCALS k (omega arith))
       (ap (λ (f : Space → Namespace Identifier). record { strict = strictIn w; eq = sameBytes; names = f; definers = λ j. definersOf j w′; allTypes = typesIn s w }) (fun-ext (table-kept s w w′ LOCALS k (omega arith)))
       ∙ ap (λ (f : Space → List ℕ). record { strict = strictIn w; eq = sameBytes; names = λ j. tableOf j s w; definers = f; allTypes = typesIn s w }) (fun-ext (definers-kept s w w′ LOCALS k (omega arith))))
 

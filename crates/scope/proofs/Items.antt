@@ -6,7 +6,7 @@ use mathlib.Core.List.{List}
 use lib.ListN.{length, getD}
 use native.Mathlib.Omega.{arith}
 use Rattle.area.specs.Layout.{TOTAL, TYPES, WORDS}
-use Rattle.area.specs.Strict.{strictIn}
+use Rattle.area.specs.Flags.{strictIn}
 use Rattle.definition.specs.Basic.{Answer, sameBytes}
 use Rattle.definition.specs.Syntax.{Identifier, Index, Space, types, sameSpace, code}
 use Rattle.definition.specs.Names.{numberIn, countIn, itemNo}

@@ -18,7 +18,7 @@ use Rattle.name_table.specs.Area.{entry, labels, resolved}
 use Rattle.name_table.specs.declared.table.Resolved.{Resolved}
 use Rattle.name_table.specs.declared.table.Resolved.the-variants as R
 use Rattle.scope.specs.Scope.{scopeIn, labelsIn}
-use Rattle.area.specs.Strict.{strictIn}
+use Rattle.area.specs.Flags.{strictIn}
 use Rattle.name_table.proofs.Walk.{labels-length}
 
 -- the labels lie in the area

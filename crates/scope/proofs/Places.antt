@@ -24,7 +24,7 @@ use Rattle.name_table.specs.declared.table.Found.the-variants as F
 use Rattle.name_table.proofs.Walk.{shifted, names-length}
 use Rattle.scope.specs.Scope.{scopeIn, localsIn, FewLocals, toldLocal}
 use Rattle.scope.specs.declared.Locals.{Locals}
-use Rattle.area.specs.Strict.{strictIn}
+use Rattle.area.specs.Flags.{strictIn}
 use Rattle.name_table.specs.declared.table.Resolved.{Resolved}
 use Rattle.name_table.specs.declared.table.Resolved.the-variants as R
 

@@ -4,7 +4,7 @@ use mathlib.Core.List.{List, _++_}
 use mathlib.Core.Option.{none}
 use lib.ListN.{getD, replicate}
 use Rattle.area.specs.Layout.{BYTES, LABELS, LOCALS, TOTAL}
-use Rattle.area.specs.Strict.{strictIn}
+use Rattle.area.specs.Flags.{strictIn}
 use Rattle.definition.specs.Basic.{if_then_else_, sameBytes, Answer, ok, _>>=_}
 use Rattle.definition.specs.Syntax.{Bytes, Identifier, Space, types, sameSpace, LocalNo, TypeNo, TypeUse, Index}
 use Rattle.definition.specs.Names.{Namespace, Scope, below, itemNo, checked}

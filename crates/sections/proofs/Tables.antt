@@ -18,10 +18,10 @@ use Rattle.deinline.specs.Entry.{Entries}
 use Rattle.type_table.specs.Table.{signatureOf, entryIn, typeTable, typesIn}
 use Rattle.type_table.specs.declared.entry.Signature.{Signature}
 use Rattle.kept.specs.Parts.{startOf}
-use Rattle.kept.specs.Tally.{reached, tallies, Twelve}
+use Rattle.kept.specs.Tally.{reached, tallies, Slots}
 use Rattle.kept.specs.Content.{typeEntries}
 use Rattle.kept.specs.declared.tally.Tally.{Tally}
-use Rattle.kept.proofs.Tallies.{tallies-append, tallies-twelve}
+use Rattle.kept.proofs.Tallies.{tallies-append, tallies-slots}
 use Rattle.kept.proofs.Keeping.{reached-is, keeps-none, keeps-then, keeps-lent}
 use Rattle.sections.specs.Added.{typeBytes, KeepsTypes}
 
@@ -96,7 +96,7 @@ module _ {s : Bytes} {w : List ℕ} {declared : ℕ} {old : Bytes} {at left plac
 -- ## Kept and tallied
 
 -- one type more in the part of section 1
-pub type-kept : (f : FuncType) (t : Tally) (old new : Bytes) (a b o : ℕ) (r : Tally) → Twelve t → length old * 1 < 2 ^ 63 → a ≡ startOf (length old) 1 → b ≡ startOf (length old) 2
+pub type-kept : (f : FuncType) (t : Tally) (old new : Bytes) (a b o : ℕ) (r : Tally) → Slots t → length old * 1 < 2 ^ 63 → a ≡ startOf (length old) 1 → b ≡ startOf (length old) 2
     → Put (take (b - a) (drop a old)) (getD (t .sizes) 1 0) (funcType f) o new → r ≡ reached t 1 o 1 → KeepsTypes (f ∷ []) t old r (putMid a (b - a) old new)
 unfolding typeEntries joined concatMap
 type-kept f t old new a b o r w s from to p e =
@@ -121,16 +121,16 @@ types-then ts us {t} {q} {r} {a} {b} {c} x y = record {
 pub record Keeping (s : Bytes) (w : List ℕ) (declared : ℕ) (t : Tally) (old : Bytes) (left place : ℕ) (r : Tally) (kept : Bytes) : Type 0 where
   pub done : List FuncType
   pub low : 0 < left → place + 5 * left ≤ USES
-  pub twelve : Twelve t
+  pub slots : Slots t
   pub so-far : KeepsTypes done t old r kept
   pub same : done ++ typeTable left s w place ≡ drop declared (typesIn s w)
 
-pub keeping-begin : {s : Bytes} {w : List ℕ} {d : ℕ} {t : Tally} {old : Bytes} {n : ℕ} → n ≡ min (getD w TOTAL 0) 256 - d → Twelve t → length old * 1 < 2 ^ 63
+pub keeping-begin : {s : Bytes} {w : List ℕ} {d : ℕ} {t : Tally} {old : Bytes} {n : ℕ} → n ≡ min (getD w TOTAL 0) 256 - d → Slots t → length old * 1 < 2 ^ 63
     → Keeping s w d t old n (TYPES + 5 * d) t old
 keeping-begin {s} {w} {d} {t} {old} {n} e h g = record {
   done = [];
   low = λ l. low-begin (getD w TOTAL 0) d n e l;
-  twelve = h;
+  slots = h;
   so-far = unfold typeEntries tallies in (record { tally = refl; keeps = keeps-none old t g });
   same = rw e (sym (types-rest s w d));
 }
@@ -147,7 +147,7 @@ module _ {s : Bytes} {w : List ℕ} {declared : ℕ} {t : Tally} {old : Bytes} {
           rw z (record {
             done = v .done ++ (signatureOf s (entryIn w place) ∷ []);
             low = λ _. omega (arith, l (omega arith));
-            twelve = v .twelve;
+            slots = v .slots;
             so-far = types-then (v .done) (signatureOf s (entryIn w place) ∷ []) (v .so-far) x;
             same = append-assoc (v .done) (signatureOf s (entryIn w place) ∷ []) (typeTable n s w (place + 5)) ∙ p;
           })
@@ -160,8 +160,8 @@ module _ {s : Bytes} {w : List ℕ} {declared : ℕ} {t : Tally} {old : Bytes} {
       go zero h p = (let x = v .so-far in let d : v .done ≡ drop declared (typesIn s w) = sym (append-nil (v .done)) ∙ p in rw d at x)
       go (suc n) h p = absurd (omega arith)
 
-  pub keeping-twelve : Twelve r
-  keeping-twelve = rw (v .so-far .tally) (tallies-twelve t (typeEntries (v .done)) (v .twelve))
+  pub keeping-slots : Slots r
+  keeping-slots = rw (v .so-far .tally) (tallies-slots t (typeEntries (v .done)) (v .slots))
 
   pub keeping-long : length kept ≡ length old
   keeping-long = v .so-far .keeps .long

@@ -8,7 +8,7 @@ ghost use Rattle.area.specs.Layout.{TOTAL, WORDS};
 ghost use Rattle.definition.specs.Binary as Binary;
 ghost use Rattle.emit.specs.Put.{Put};
 ghost use Rattle.type_table.specs.Table.{signatureOf, entryIn, typesIn};
-ghost use Rattle.kept.specs.Tally.{Twelve};
+ghost use Rattle.kept.specs.Tally.{Slots};
 ghost use Rattle.sections.specs.Added.{typeBytes, KeepsTypes};
 
 // How many there are: the table has 256 types at most, whatever its word says.
@@ -56,7 +56,7 @@ pub fn put_types(s: &[u8], work: &[u32], out: &mut [u8], at: usize, declared: u3
 
 // One of them is kept and tallied.
 fn keep_type(s: &[u8], work: &[u32], kept: &mut [u8], t: Tally, place: usize) -> Tally
-    requires { ⌜ (place + 4 < length (now work)) × Twelve t ⌝ }
+    requires { ⌜ (place + 4 < length (now work)) × Slots t ⌝ }
     ensures { λ r. ⌜ KeepsTypes (signatureOf (now (s .entry)) (entryIn (now (work .entry)) place) ∷ []) t (now (kept .entry)) r (now (kept .exit)) ⌝ }
 {
     let a = kept::start_of(kept.len(), 1);
@@ -69,7 +69,7 @@ fn keep_type(s: &[u8], work: &[u32], kept: &mut [u8], t: Tally, place: usize) ->
 
 // They are kept and tallied after the entries of the fields.
 pub fn keep_types(s: &[u8], work: &[u32], kept: &mut [u8], declared: u32, t: Tally) -> Tally
-    requires { ⌜ (WORDS ≤ length (now work)) × Twelve t ⌝ }
+    requires { ⌜ (WORDS ≤ length (now work)) × Slots t ⌝ }
     ensures { λ r. ⌜ KeepsTypes (drop declared (typesIn (now (s .entry)) (now (work .entry)))) t (now (kept .entry)) r (now (kept .exit)) ⌝ }
 {
     let mut left = added(work, declared);

@@ -28,7 +28,8 @@ use Rattle.laws.proofs.Bodies.{end-inside, read-fits}
 use Rattle.laws.proofs.Sets.{sets-append}
 use Rattle.syntax.specs.Refusals.{refusal, refusedBy}
 use Rattle.syntax.specs.declared.Refusal.{Refusal}
-use Rattle.area.specs.Layout.{BYTES, COUNTS, ENDS, WORDS, endAt}
+use Rattle.area.specs.Layout.{BYTES, COUNTS, DATA_NAMED, ENDS, WORDS, endAt}
+use Rattle.area.specs.Flags.{flagPut}
 use Rattle.syntax.specs.Items.{roomOf, noneSeen}
 use Rattle.syntax.specs.Marks.{noMarks, bitsOf, marksIn, insideOf}
 use Rattle.syntax.specs.declared.Marks.{Marks}
@@ -38,12 +39,12 @@ use Rattle.syntax.specs.declared.Own.the-variants as O
 use Rattle.syntax.specs.declared.Source.the-variants as S
 use Rattle.syntax.specs.declared.Field.{Field}
 use Rattle.syntax.specs.declared.Field.the-variants as F
-use Rattle.next_record.specs.Uses.{mayUse, endWord}
-use Rattle.stream.specs.Pass.{Passed, usedAfter, endOf, pass, passed, endWords, areaAfter, reading, readingArea, firstPlace, refusedAt, Ends, Walks, Reads}
+use Rattle.next_record.specs.Uses.{mayUse, namesData, operandNames, endWord}
+use Rattle.stream.specs.Pass.{Passed, usedAfter, namedAfter, endOf, pass, passed, endWords, areaAfter, reading, readingArea, firstPlace, refusedAt, Ends, Walks, Reads}
 use Rattle.next_record.specs.Places.{bodyOf, depthOf, depthPast, recordPast, placeAfter, movedBy, fieldRecordAt, bodyRecordAt}
 use Rattle.next_record.specs.Marks.{Opened, Elsed, Ended}
 use Rattle.counting.specs.Counting.{fieldSeen}
-use Rattle.next_record.specs.Answers.{outsideAnswer, Shift, stay, open-one, else-one, end-one, shiftOf, Kept, an-instr, an-end, keptOf, keptAnswer, keptAt, insideAnswer}
+use Rattle.next_record.specs.Answers.{outsideAnswer, Shift, stay, name-data, open-one, else-one, end-one, shiftOf, Kept, an-instr, an-end, keptOf, keptAnswer, keptAt, insideAnswer}
 use Rattle.stream.specs.Pass.{endPut}
 use Rattle.syntax.specs.declared.Place.{Place}
 use Rattle.next_record.specs.declared.record.Outside.{Outside}
@@ -123,11 +124,33 @@ on-end (field f) e = let z : _≡_ {A = ℕ} 0 1 = cc in absurd (omega arith)
 on-end (instr x) e = let z : _≡_ {A = ℕ} 0 1 = cc in absurd (omega arith)
 on-end bodyEnd e = refl
 
+-- ## Data segments that are named
+
+abbrev naming : Shift → Bool
+naming stay = false
+naming name-data = true
+naming (open-one may) = false
+naming else-one = false
+naming end-one = false
+
+naming-of : (x : Syntax.Instr Identifier) → namesData x ≡ naming (shiftOf x)
+unfolding namesData
+naming-of (Syntax.opens op l t) = refl
+naming-of (Syntax.elses l) = refl
+naming-of (Syntax.ends l) = refl
+naming-of (Syntax.indirect x t) = refl
+naming-of (Syntax.plain p) = go (operandNames (p .operand))
+  where
+    go : (t : Bool) → t ≡ naming (if t then name-data else stay)
+    go true = refl
+    go false = refl
+
 -- ## Marks
 
 -- what an instruction does to the blocks the marks have done
 abbrev Shifted : Shift → Marks → Marks → Type 0
 Shifted stay m r = m ≡ r
+Shifted name-data m r = m ≡ r
 Shifted (open-one may) m r = Opened m may r
 Shifted else-one m r = Elsed m r
 Shifted end-one m r = Ended m r
@@ -138,7 +161,11 @@ blocks-shift k m r (Syntax.opens op l t) g f = g .each k (let e = f in rw (marks
 blocks-shift k m r (Syntax.elses l) g f = g .each k
 blocks-shift k m r (Syntax.ends l) g f = g .each k
 blocks-shift k m r (Syntax.indirect x t) g f = rw g
-blocks-shift k m r (Syntax.plain p) g f = rw g
+blocks-shift k m r (Syntax.plain p) g f = rw (go (operandNames (p .operand)) g)
+  where
+    go : (t : Bool) → Shifted (if t then name-data else stay) m r → m ≡ r
+    go true g = g
+    go false g = g
 
 body-shifts : (d : ℕ) (m r : Marks) (x : Syntax.Instr Identifier) → 1 ≤ d → Shifted (shiftOf x) m r → Bodies.Fits (insideOf (d - 1) m .blocks) x → bodyOf (depthAfter x (d - 1) + 1) r ≡ instrBody x (bodyOf d m)
 unfolding insideOf insideAfter
@@ -174,21 +201,25 @@ or-none : (u : Bool) → u ≡ u || false
 or-none true = refl
 or-none false = refl
 
+or-one : (u : Bool) → true ≡ u || true
+or-one true = refl
+or-one false = refl
+
 -- ## The loop
 
-pub record Going (s : Bytes) (w₀ : List ℕ) (p : Place) (m : Marks) (c : Seen) (ended : ℕ) (used : Bool) (w : List ℕ) : Type 0 where
+pub record Going (s : Bytes) (w₀ : List ℕ) (p : Place) (m : Marks) (c : Seen) (ended : ℕ) (used named : Bool) (w : List ℕ) : Type 0 where
   pub seen : Read.Seen
   pub ends : List ℕ
   pub few : p .rec ≤ 4096
   pub body : seen .body ≡ bodyOf (p .depth) m
   pub counts : Counts seen c
-  pub same : passed s ≡ pass (4096 - p .rec) (p .rec) seen used ends s (p .at)
+  pub same : passed s ≡ pass (4096 - p .rec) (p .rec) seen used named ends s (p .at)
   pub area : w ≡ sets w₀ ENDS (endWords ends)
   pub number : length ends ≡ 2 * ended
   pub fewer : ended ≤ p .rec
   pub long : length w ≡ length w₀
 
-pub begin : (s : Bytes) (w : List ℕ) (p : Place) (m : Marks) (c : Seen) → p ≡ firstPlace → c ≡ noneSeen → Going s w p m c 0 false w
+pub begin : (s : Bytes) (w : List ℕ) (p : Place) (m : Marks) (c : Seen) → p ≡ firstPlace → c ≡ noneSeen → Going s w p m c 0 false false w
 unfolding passed nothingSeen endWords
 begin s w p m c d e = rw d (record {
   seen = nothingSeen;
@@ -203,19 +234,19 @@ begin s w p m c d e = rw d (record {
   long = refl;
 })
 
-module _ (s : Bytes) (w₀ : List ℕ) (p : Place) (m : Marks) (c : Seen) (ended : ℕ) (used : Bool) (w : List ℕ) (v : Going s w₀ p m c ended used w) (h : p .at < length s) where
+module _ (s : Bytes) (w₀ : List ℕ) (p : Place) (m : Marks) (c : Seen) (ended : ℕ) (used named : Bool) (w : List ℕ) (v : Going s w₀ p m c ended used named w) (h : p .at < length s) where
   -- the definition reads the same record
   one-read : (x : Rec Identifier) (q : Place) → Was (roomOf c) p m s x q → oneRecord (v .seen) s (p .at) ≡ got x (q .at)
   unfolding oneRecord
   one-read x q a = rw (room-same (v .counts), v .body) (a .reads)
 
   turned : (x : Rec Identifier) (q : Place) → Was (roomOf c) p m s x q
-      → passed s ≡ pass (4096 - q .rec) (q .rec) (seenAfter (v .seen) x) (usedAfter used x) (v .ends ++ endOf used x (q .at) (q .rec)) s (q .at)
+      → passed s ≡ pass (4096 - q .rec) (q .rec) (seenAfter (v .seen) x) (usedAfter used x) (namedAfter named x) (v .ends ++ endOf used x (q .at) (q .rec)) s (q .at)
   turned x q a =
       let l : 0 < 4096 - p .rec = omega (arith, a .few) in
       let d : 4096 - p .rec - 1 ≡ 4096 - q .rec = omega (arith, a .next) in
       let n = a .next in
-      v .same ∙ pass-got (p .rec) (v .seen) used (v .ends) s (p .at) (4096 - p .rec) x (q .at) h l (one-read x q a) ∙ rw (d, ← n)
+      v .same ∙ pass-got (p .rec) (v .seen) used named (v .ends) s (p .at) (4096 - p .rec) x (q .at) h l (one-read x q a) ∙ rw (d, ← n)
 
   -- where the body stands after it, by the marks after it
   body-on : (x : Rec Identifier) (q : Place) (m′ : Marks) → bodyOf (q .depth) m′ ≡ bodyAfter (bodyOf (p .depth) m) x → seenAfter (v .seen) x .body ≡ bodyOf (q .depth) m′
@@ -223,7 +254,7 @@ module _ (s : Bytes) (w₀ : List ℕ) (p : Place) (m : Marks) (c : Seen) (ended
   body-on x q m′ e = ap (λ b. bodyAfter b x) (v .body) ∙ sym e
 
   -- a refusal ends the pass
-  stopped : (r : Refusal) → passed s ≡ record { says = refusedBy r; seen = v .seen; ends = v .ends } → Walks s w₀ (C.Refused r) w
+  stopped : (r : Refusal) → passed s ≡ record { says = refusedBy r; seen = v .seen; ends = v .ends; named = named } → Walks s w₀ (C.Refused r) w
   unfolding areaAfter
   stopped r g = record { says = sym (passed-says s) ∙ ap (λ (x : Passed). x .says) g; leaves = v .area ∙ rw g }
 
@@ -232,7 +263,7 @@ module _ (s : Bytes) (w₀ : List ℕ) (p : Place) (m : Marks) (c : Seen) (ended
   full-walk n l e =
       let z : 4096 - p .rec ≡ 0 = omega arith in
       let b = v .body in
-      stopped (refusal n (p .rec)) (v .same ∙ pass-full (p .rec) (v .seen) used (v .ends) s (p .at) (4096 - p .rec) h z ∙ rw (b, begins-any (getD s (p .at) 0) (p .depth) m noMarks, e))
+      stopped (refusal n (p .rec)) (v .same ∙ pass-full (p .rec) (v .seen) used named (v .ends) s (p .at) (4096 - p .rec) h z ∙ rw (b, begins-any (getD s (p .at) 0) (p .depth) m noMarks, e))
 
   module _ (l : p .rec < 4096) (q : Place) where
     -- a record that is not read
@@ -243,7 +274,7 @@ module _ (s : Bytes) (w₀ : List ℕ) (p : Place) (m : Marks) (c : Seen) (ended
     faulted n (fault m) f e =
         let j : Basic.refusal m (p .rec) ≡ Basic.refusal n (q .rec) = cc in
         let g : oneRecord (v .seen) s (p .at) ≡ fault m = rw (room-same (v .counts), v .body) f in
-        stopped (refusal n (q .rec)) (v .same ∙ pass-fault (p .rec) (v .seen) used (v .ends) s (p .at) (4096 - p .rec) m h (omega arith) g ∙ ap (λ (z : Basic.Refusal). record { says = fails z; seen = v .seen; ends = v .ends }) j)
+        stopped (refusal n (q .rec)) (v .same ∙ pass-fault (p .rec) (v .seen) used named (v .ends) s (p .at) (4096 - p .rec) m h (omega arith) g ∙ ap (λ (z : Basic.Refusal). record { says = fails z; seen = v .seen; ends = v .ends; named = named }) j)
 
     -- ### Outside a body
 
@@ -260,7 +291,7 @@ module _ (s : Bytes) (w₀ : List ℕ) (p : Place) (m : Marks) (c : Seen) (ended
       unfolding bodyAfter
       after-field f q a = ap (λ d. bodyOf d m) (a .deep) ∙ field-body s f m
 
-      pub again-field : (f : Field) (c′ : Seen) → what ≡ U.Field f → c′ ≡ fieldSeen c f → Going s w₀ q m c′ ended used w
+      pub again-field : (f : Field) (c′ : Seen) → what ≡ U.Field f → c′ ≡ fieldSeen c f → Going s w₀ q m c′ ended used named w
       again-field f c′ k g =
           let a = was-field f k in
           record {
@@ -308,6 +339,9 @@ module _ (s : Bytes) (w₀ : List ℕ) (p : Place) (m : Marks) (c : Seen) (ended
       pub less-on : (u : Bool) → what ≡ N.On u → 4097 - q .rec < 4097 - p .rec
       less-on u k = less u stay (ap (λ y. insideAnswer y q) k)
 
+      pub less-data : what ≡ N.Data → 4097 - q .rec < 4097 - p .rec
+      less-data k = less false name-data (ap (λ y. insideAnswer y q) k)
+
       pub less-opens : (u may : Bool) → what ≡ N.Opens u may → 4097 - q .rec < 4097 - p .rec
       less-opens u may k = less u (open-one may) (ap (λ y. insideAnswer y q) k)
 
@@ -321,11 +355,12 @@ module _ (s : Bytes) (w₀ : List ℕ) (p : Place) (m : Marks) (c : Seen) (ended
       less-end k = omega (arith, was-end k .next, l)
 
       -- an instruction, with the marks after it
-      again-instr : (u : Bool) (j : Shift) (m′ : Marks) → insideAnswer what q ≡ (ok (an-instr u j), q) → Shifted j m m′ → Going s w₀ q m′ c ended (used || u) w
+      again-instr : (u : Bool) (j : Shift) (m′ : Marks) → insideAnswer what q ≡ (ok (an-instr u j), q) → Shifted j m m′ → Going s w₀ q m′ c ended (used || u) (named || naming j) w
       unfolding bodyAfter
       again-instr u j m′ k g =
           let a = was-instr u j k in
           let b = a .uses in
+          let n = naming-of (a .it) ∙ ap naming (a .shifts) in
           let r = ap (λ b. recordIn (roomOf c) b s (p .at)) (sym (inside (p .depth) m d)) ∙ a .was .reads in
           let i : bodyOf (q .depth) m′ ≡ bodyAfter (bodyOf (p .depth) m) (instr (a .it)) =
           ap (λ z. bodyOf z m′) (a .was .deep) ∙ body-shifts (p .depth) m m′ (a .it) d (subst (λ z. Shifted z m m′) (sym (a .shifts)) g) (read-fits (insideOf (p .depth - 1) m) s (q .at) (a .it) (p .at) r) in
@@ -335,38 +370,49 @@ module _ (s : Bytes) (w₀ : List ℕ) (p : Place) (m : Marks) (c : Seen) (ended
             few = omega (arith, a .was .next);
             body = body-on _ q m′ i;
             counts = counts-instr (v .seen) c (a .it) (v .counts);
-            same = rw (append-nil, b) at (turned _ q (a .was));
+            same = rw (append-nil, b, n) at (turned _ q (a .was));
             area = v .area;
             number = v .number;
             fewer = omega (arith, a .was .next, v .fewer);
             long = v .long;
           }
 
-      -- the body may use a type by an instruction before, or not before this one
-      first : (u : Bool) (m′ : Marks) → used ≡ true → Going s w₀ q m′ c ended (used || u) w → Going s w₀ q m′ c ended used w
-      first u m′ t g = rw t (subst (λ z. Going s w₀ q m′ c ended (z || u) w) t g)
+      -- no data segment was named
+      unnamed : (u : Bool) (m′ : Marks) → Going s w₀ q m′ c ended u (named || false) w → Going s w₀ q m′ c ended u named w
+      unnamed u m′ g = subst (λ z. Going s w₀ q m′ c ended u z w) (sym (or-none named)) g
 
-      second : (u : Bool) (m′ : Marks) → used ≡ false → Going s w₀ q m′ c ended (used || u) w → Going s w₀ q m′ c ended u w
-      second u m′ t g = subst (λ z. Going s w₀ q m′ c ended (z || u) w) t g
+      -- the body may use a type by an instruction before, or not before this one
+      first : (u : Bool) (m′ : Marks) → used ≡ true → Going s w₀ q m′ c ended (used || u) (named || false) w → Going s w₀ q m′ c ended used named w
+      first u m′ t g = rw t (subst (λ z. Going s w₀ q m′ c ended (z || u) named w) t (unnamed (used || u) m′ g))
+
+      second : (u : Bool) (m′ : Marks) → used ≡ false → Going s w₀ q m′ c ended (used || u) (named || false) w → Going s w₀ q m′ c ended u named w
+      second u m′ t g = subst (λ z. Going s w₀ q m′ c ended (z || u) named w) t (unnamed (used || u) m′ g)
+
+      -- the body uses no type by this one
+      third : (b : Bool) (m′ : Marks) → Going s w₀ q m′ c ended (used || false) b w → Going s w₀ q m′ c ended used b w
+      third b m′ g = subst (λ z. Going s w₀ q m′ c ended z b w) (sym (or-none used)) g
 
       -- the marks stay
-      pub on-first : (u : Bool) (m′ : Marks) → what ≡ N.On u → m ≡ m′ → used ≡ true → Going s w₀ q m′ c ended used w
+      pub on-first : (u : Bool) (m′ : Marks) → what ≡ N.On u → m ≡ m′ → used ≡ true → Going s w₀ q m′ c ended used named w
       on-first u m′ k g t = first u m′ t (again-instr u stay m′ (ap (λ y. insideAnswer y q) k) g)
 
-      pub on-second : (u : Bool) (m′ : Marks) → what ≡ N.On u → m ≡ m′ → used ≡ false → Going s w₀ q m′ c ended u w
+      pub on-second : (u : Bool) (m′ : Marks) → what ≡ N.On u → m ≡ m′ → used ≡ false → Going s w₀ q m′ c ended u named w
       on-second u m′ k g t = second u m′ t (again-instr u stay m′ (ap (λ y. insideAnswer y q) k) g)
 
-      pub opens-first : (u may : Bool) (m′ : Marks) → what ≡ N.Opens u may → Opened m may m′ → used ≡ true → Going s w₀ q m′ c ended used w
+      pub again-data : (m′ : Marks) → what ≡ N.Data → m ≡ m′ → Going s w₀ q m′ c ended used true w
+      again-data m′ k g = subst (λ z. Going s w₀ q m′ c ended used z w) (sym (or-one named)) (third (named || true) m′ (again-instr false name-data m′ (ap (λ y. insideAnswer y q) k) g))
+
+      pub opens-first : (u may : Bool) (m′ : Marks) → what ≡ N.Opens u may → Opened m may m′ → used ≡ true → Going s w₀ q m′ c ended used named w
       opens-first u may m′ k g t = first u m′ t (again-instr u (open-one may) m′ (ap (λ y. insideAnswer y q) k) g)
 
-      pub opens-second : (u may : Bool) (m′ : Marks) → what ≡ N.Opens u may → Opened m may m′ → used ≡ false → Going s w₀ q m′ c ended u w
+      pub opens-second : (u may : Bool) (m′ : Marks) → what ≡ N.Opens u may → Opened m may m′ → used ≡ false → Going s w₀ q m′ c ended u named w
       opens-second u may m′ k g t = second u m′ t (again-instr u (open-one may) m′ (ap (λ y. insideAnswer y q) k) g)
 
-      pub again-elses : (m′ : Marks) → what ≡ N.Elses → Elsed m m′ → Going s w₀ q m′ c ended used w
-      again-elses m′ k g = subst (λ z. Going s w₀ q m′ c ended z w) (sym (or-none used)) (again-instr false else-one m′ (ap (λ y. insideAnswer y q) k) g)
+      pub again-elses : (m′ : Marks) → what ≡ N.Elses → Elsed m m′ → Going s w₀ q m′ c ended used named w
+      again-elses m′ k g = third named m′ (unnamed (used || false) m′ (again-instr false else-one m′ (ap (λ y. insideAnswer y q) k) g))
 
-      pub again-ends : (m′ : Marks) → what ≡ N.Ends → Ended m m′ → Going s w₀ q m′ c ended used w
-      again-ends m′ k g = subst (λ z. Going s w₀ q m′ c ended z w) (sym (or-none used)) (again-instr false end-one m′ (ap (λ y. insideAnswer y q) k) g)
+      pub again-ends : (m′ : Marks) → what ≡ N.Ends → Ended m m′ → Going s w₀ q m′ c ended used named w
+      again-ends m′ k g = third named m′ (unnamed (used || false) m′ (again-instr false end-one m′ (ap (λ y. insideAnswer y q) k) g))
 
       -- a body's end: its place fits a word, and two words are stored while there is room for them
       pub end-fits : what ≡ N.End → length s ≤ BYTES → q .at < 2 ^ 32
@@ -380,7 +426,7 @@ module _ (s : Bytes) (w₀ : List ℕ) (p : Place) (m : Marks) (c : Seen) (ended
       pub ended-fits : what ≡ N.End → Fits w32 (ended + 1)
       ended-fits k = record { fits = omega (arith, v .fewer, l) }
 
-      pub again-end : (m′ : Marks) (w′ : List ℕ) → what ≡ N.End → w′ ≡ endPut w ended (q .at) (endWord (q .rec) used) → Going s w₀ q m′ c (ended + 1) false w′
+      pub again-end : (m′ : Marks) (w′ : List ℕ) → what ≡ N.End → w′ ≡ endPut w ended (q .at) (endWord (q .rec) used) → Going s w₀ q m′ c (ended + 1) false named w′
       unfolding endPut endWords bodyAfter
       again-end m′ w′ k g =
           let a = was-end k in
@@ -429,11 +475,11 @@ module _ (s : Bytes) (w₀ : List ℕ) (p : Place) (m : Marks) (c : Seen) (ended
 
 -- ## The stream's end
 
-module _ (s : Bytes) (w₀ : List ℕ) (p : Place) (m : Marks) (c : Seen) (ended : ℕ) (used : Bool) (w : List ℕ) (v : Going s w₀ p m c ended used w) (h : length s ≤ p .at) where
-  at-end : passed s ≡ record { says = total (p .rec) (atEnd (p .rec) (bodyOf (p .depth) noMarks)); seen = v .seen; ends = v .ends }
-  at-end = let b = v .body in v .same ∙ pass-end (p .rec) (v .seen) used (v .ends) s (p .at) (4096 - p .rec) h ∙ rw (b, end-any (p .rec) (p .depth) m noMarks)
+module _ (s : Bytes) (w₀ : List ℕ) (p : Place) (m : Marks) (c : Seen) (ended : ℕ) (used named : Bool) (w : List ℕ) (v : Going s w₀ p m c ended used named w) (h : length s ≤ p .at) where
+  at-end : passed s ≡ record { says = total (p .rec) (atEnd (p .rec) (bodyOf (p .depth) noMarks)); seen = v .seen; ends = v .ends; named = named }
+  at-end = let b = v .body in v .same ∙ pass-end (p .rec) (v .seen) used named (v .ends) s (p .at) (4096 - p .rec) h ∙ rw (b, end-any (p .rec) (p .depth) m noMarks)
 
-  pub walk-ends : (r : Count) (w′ : List ℕ) → Ends p (c .counts) w r w′ → Walks s w₀ r w′
+  pub walk-ends : (r : Count) (w′ : List ℕ) → Ends p (c .counts) named w r w′ → Walks s w₀ r w′
   unfolding areaAfter
   walk-ends r w′ e =
       let a = v .area in
@@ -443,14 +489,14 @@ module _ (s : Bytes) (w₀ : List ℕ) (p : Place) (m : Marks) (c : Seen) (ended
         leaves = e .leaves ∙ rw (at-end, n, counts-words (v .counts), a);
       }
 
-module _ (p : Place) (counts w : List ℕ) where
+module _ (p : Place) (counts : List ℕ) (named : Bool) (w : List ℕ) where
   -- in a body it is refused
-  pub end-in-body : (r : Count) → 0 < p .depth → r ≡ refusedAt 2 p → Ends p counts w r w
+  pub end-in-body : (r : Count) → 0 < p .depth → r ≡ refusedAt 2 p → Ends p counts named w r w
   end-in-body r d e = rw e (record { says = rw (inside (p .depth) noMarks d); leaves = refl })
 
-  -- outside one the counts are left
-  pub end-accepted : (w′ : List ℕ) → p .depth ≤ 0 → w′ ≡ sets w COUNTS counts → Ends p counts w (C.Records (p .rec)) w′
-  end-accepted w′ d e = let n : p .rec + 0 ≡ p .rec = omega arith in record { says = rw (outside (p .depth) noMarks (omega arith), n); leaves = e }
+  -- outside one the counts are left, and whether a data segment was named
+  pub end-accepted : (w₁ w′ : List ℕ) → p .depth ≤ 0 → w₁ ≡ sets w COUNTS counts → w′ ≡ flagPut DATA_NAMED w₁ named → Ends p counts named w (C.Records (p .rec)) w′
+  end-accepted w₁ w′ d e f = let n : p .rec + 0 ≡ p .rec = omega arith in record { says = rw (outside (p .depth) noMarks (omega arith), n); leaves = rw e at f }
 
 -- what a refusal is
 pub walk-refused : (s : Bytes) (w₀ w : List ℕ) (n : ℕ) (p : Place) (r : Count) → r ≡ refusedAt n p → Walks s w₀ (refusedAt n p) w → Walks s w₀ r w

@@ -9,13 +9,14 @@ use lib.Seq.{sets}
 use Rattle.syntax.specs.Marks.{noMarks}
 use Rattle.syntax.specs.Refusals.{refusal, refusedBy}
 use Rattle.syntax.specs.declared.Place.{Place}
-use Rattle.area.specs.Layout.{BYTES, COUNTS, ENDS, WORDS, endAt}
+use Rattle.area.specs.Layout.{BYTES, COUNTS, DATA_NAMED, ENDS, WORDS, endAt}
+use Rattle.area.specs.Flags.{flagPut}
 use Rattle.definition.specs.Basic.{if_then_else_, Answer, ok, fails, refused}
 use Rattle.definition.specs.Syntax.{Bytes, Identifier, Rec, field, instr, bodyEnd}
 use Rattle.definition.specs.Reader.{Step, got, fault}
 use Rattle.definition.specs.Read.{Seen, nothingSeen, seenAfter, oneRecord, atEnd, records, read}
 use Rattle.laws.specs.Steps.{total}
-use Rattle.next_record.specs.Uses.{mayUse, endWord}
+use Rattle.next_record.specs.Uses.{mayUse, namesData, endWord}
 use Rattle.next_record.specs.Places.{bodyOf}
 use Rattle.counting.specs.Counting.{countWords}
 use Rattle.stream.specs.declared.pass.Count.{Count}
@@ -23,17 +24,24 @@ use Rattle.stream.specs.declared.pass.Count.the-variants as C
 
 -- ## The pass, record by record
 
--- where it stops: what it says, what has been seen, and two words for each body that has ended
+-- where it stops: what it says, what has been seen, two words for each body that has ended, and whether a data segment was named
 pub record Passed : Type 0 where
   pub says : Answer ℕ
   pub seen : Seen
   pub ends : List ℕ
+  pub named : Bool
 
 -- may the open body use a type?
 abbrev pub usedAfter : Bool → Rec Identifier → Bool
 usedAfter used (field f) = used
 usedAfter used (instr x) = used || mayUse x
 usedAfter used bodyEnd = false
+
+-- was a data segment named?
+abbrev pub namedAfter : Bool → Rec Identifier → Bool
+namedAfter named (field f) = named
+namedAfter named (instr x) = named || namesData x
+namedAfter named bodyEnd = named
 
 -- the place after a body, and the record after it with what the body may use
 abbrev pub endOf : Bool → Rec Identifier → ℕ → ℕ → List ℕ
@@ -46,15 +54,15 @@ onRecord f g (got x next) = f x next
 onRecord f g (fault n) = g n
 
 -- `left` records at most; `r` is the number of the next
-unfoldable pub pass : ℕ → ℕ → Seen → Bool → List ℕ → Bytes → ℕ → Passed
-pass zero r seen used ends s here = record { says = total r (records zero r seen s here); seen = seen; ends = ends }
-pass (suc left) r seen used ends s here =
-    if leb (length s) here then record { says = total r (atEnd r (seen .body)); seen = seen; ends = ends } else
-    onRecord (λ x next. pass left (r + 1) (seenAfter seen x) (usedAfter used x) (ends ++ endOf used x next (r + 1)) s next)
-    (λ n. record { says = refused n r; seen = seen; ends = ends }) (oneRecord seen s here)
+unfoldable pub pass : ℕ → ℕ → Seen → Bool → Bool → List ℕ → Bytes → ℕ → Passed
+pass zero r seen used named ends s here = record { says = total r (records zero r seen s here); seen = seen; ends = ends; named = named }
+pass (suc left) r seen used named ends s here =
+    if leb (length s) here then record { says = total r (atEnd r (seen .body)); seen = seen; ends = ends; named = named } else
+    onRecord (λ x next. pass left (r + 1) (seenAfter seen x) (usedAfter used x) (namedAfter named x) (ends ++ endOf used x next (r + 1)) s next)
+    (λ n. record { says = refused n r; seen = seen; ends = ends; named = named }) (oneRecord seen s here)
 
 unfoldable pub passed : Bytes → Passed
-passed s = pass 4096 0 nothingSeen false [] s 0
+passed s = pass 4096 0 nothingSeen false false [] s 0
 
 -- ## The work area
 
@@ -66,12 +74,12 @@ endWords ends = take 512 ends
 unfoldable pub endPut : List ℕ → ℕ → ℕ → ℕ → List ℕ
 endPut w n first second = if ltb n 256 then set (set w (endAt n) first) (endAt n + 1) second else w
 
-abbrev pub areaOf : Answer ℕ → List ℕ → List ℕ → List ℕ
-areaOf (ok n) counts w = sets w COUNTS counts
-areaOf (fails q) counts w = w
+abbrev pub areaOf : Answer ℕ → List ℕ → Bool → List ℕ → List ℕ
+areaOf (ok n) counts named w = flagPut DATA_NAMED (sets w COUNTS counts) named
+areaOf (fails q) counts named w = w
 
 unfoldable pub areaAfter : Passed → List ℕ → List ℕ
-areaAfter p w = areaOf (p .says) (countWords (p .seen)) (sets w ENDS (endWords (p .ends)))
+areaAfter p w = areaOf (p .says) (countWords (p .seen)) (p .named) (sets w ENDS (endWords (p .ends)))
 
 -- ## What the pass promises
 
@@ -98,9 +106,9 @@ abbrev pub refusedAt : ℕ → Place → Count
 refusedAt n p = C.Refused (refusal n (p .rec))
 
 -- the stream ends at a place, with these counts of items; the marks do not matter
-pub record Ends (p : Place) (counts w : List ℕ) (r : Count) (w′ : List ℕ) : Type 0 where
+pub record Ends (p : Place) (counts : List ℕ) (named : Bool) (w : List ℕ) (r : Count) (w′ : List ℕ) : Type 0 where
   pub says : total (p .rec) (atEnd (p .rec) (bodyOf (p .depth) noMarks)) ≡ counted r
-  pub leaves : w′ ≡ areaOf (counted r) counts w
+  pub leaves : w′ ≡ areaOf (counted r) counts named w
 
 -- over a stream and a work area that are long enough and not too long
 pub record Walks (s : Bytes) (w : List ℕ) (r : Count) (w′ : List ℕ) : Type 0 where

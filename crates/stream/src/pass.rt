@@ -67,15 +67,16 @@ fn refused(number: u8, p: Place) -> Count
     Count::Refused(syntax::refusal_at(number, p.rec))
 }
 
-// The stream ends here: in a body it is refused, outside one the counts of items are left.
-fn at_end(work: &mut [u32], p: Place, seen: Seen) -> Count
+// The stream ends here: in a body it is refused, outside one the counts of items are left, and whether a data segment was named.
+fn at_end(work: &mut [u32], p: Place, seen: Seen, named: bool) -> Count
     requires { ⌜ WORDS ≤ length (now work) ⌝ }
-    ensures { λ r. ⌜ Ends p (seen .counts) (now (work .entry)) r (now (work .exit)) ⌝ }
+    ensures { λ r. ⌜ Ends p (seen .counts) named (now (work .entry)) r (now (work .exit)) ⌝ }
 {
     if 0 < p.depth {
         return refused(2, p);
     }
     put_counts(work, area::COUNTS, seen);
+    area::put_flag(work, area::DATA_NAMED, named);
     Count::Records(p.rec)
 }
 
@@ -89,9 +90,10 @@ fn read_records(s: &[u8], work: &mut [u32]) -> Count
     let mut marks = Marks::none();
     let mut ended: u32 = 0;
     let mut used = false;
+    let mut named = false;
     loop {
         if s.len() <= p.at {
-            return at_end(work, p, seen);
+            return at_end(work, p, seen, named);
         }
         if 4096 <= p.rec {
             return refused(too_many(s, p), p);
@@ -115,6 +117,9 @@ fn read_records(s: &[u8], work: &mut [u32]) -> Count
             match what {
                 Inside::On(uses) => {
                     used = used || uses;
+                }
+                Inside::Data => {
+                    named = true;
                 }
                 Inside::Opens(uses, may) => {
                     marks = with_block(marks, may);

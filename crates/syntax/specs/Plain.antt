@@ -1,8 +1,9 @@
 -- What the answers of the readers mean.
 use Prim.Native.Nat.{ℕ}
-use mathlib.Core.List.{[], _∷_}
+use mathlib.Core.List.{List, [], _∷_}
+use mathlib.Core.Option.{Option, none, some}
 use Rattle.definition.specs.Syntax as Syntax
-use Rattle.definition.specs.Syntax.{Bytes, Identifier, nothing, label, labels, local, item, access, int32, int64, raw}
+use Rattle.definition.specs.Syntax.{Bytes, Identifier, nothing, label, labels, local, item, items, access, int32, int64, raw}
 use Rattle.definition.specs.Reader.{Step, got, fault}
 use Rattle.definition.specs.Token as Token
 use Rattle.definition.specs.Instructions as Instructions
@@ -10,6 +11,8 @@ use Rattle.syntax.specs.Tokens.{partOf, spaceOf, indexOf}
 use Rattle.syntax.specs.TypeUses.{listOf, onStep}
 use Rattle.syntax.specs.declared.Skip.{Skip}
 use Rattle.syntax.specs.declared.Skip.the-variants as S
+use Rattle.syntax.specs.declared.Spaces.{Spaces}
+use Rattle.syntax.specs.declared.Spaces.the-variants as P
 use Rattle.syntax.specs.declared.Operand.{Operand}
 use Rattle.syntax.specs.declared.Operand.the-variants as O
 use Rattle.syntax.specs.declared.Plain.{Plain}
@@ -18,12 +21,32 @@ use Rattle.syntax.specs.declared.PlainAt.the-variants as PA
 use Rattle.syntax.specs.declared.Operands.{Operands}
 use Rattle.syntax.specs.declared.Operands.the-variants as W
 
+-- ## Indices of several spaces, known by the place of the first
+
+abbrev pub spacesIs : Spaces → Option (List Syntax.Space)
+spacesIs P.None = none
+spacesIs (P.One k) = some (spaceOf k ∷ [])
+spacesIs (P.Two j k) = some (spaceOf j ∷ spaceOf k ∷ [])
+
+-- the indices at a place, one of each space, up to the first that cannot be read
+unfoldable pub indicesAt : List Syntax.Space → Bytes → ℕ → List (Syntax.Space × Syntax.Index Identifier)
+indicesAt [] s at = []
+indicesAt (k ∷ ks) s at = onStep (Instructions.indexIn k s at) (λ x next. (k, x) ∷ indicesAt ks s next) []
+
+-- the indices after a second byte
+abbrev pub bulkAt : Option (List Syntax.Space) → Bytes → ℕ → List (Syntax.Space × Syntax.Index Identifier)
+bulkAt none s at = []
+bulkAt (some ks) s at = indicesAt ks s at
+
+-- ## Instructions
+
 abbrev pub operandOf : Bytes → Operand → Syntax.Operand Identifier
 operandOf s O.Nothing = nothing
 operandOf s (O.Label x) = label (indexOf s x)
 operandOf s (O.Labels xs x) = labels (listOf Token.present s xs) (indexOf s x)
 operandOf s (O.Local x) = local (indexOf s x)
 operandOf s (O.Item k x) = item (spaceOf k) (indexOf s x)
+operandOf s (O.Items b at) = items b (bulkAt (Instructions.spacesOf b) s at)
 operandOf s (O.Access e o x) = access e o (indexOf s x)
 operandOf s (O.Int32 n) = int32 n
 operandOf s (O.Int64 n) = int64 n
@@ -68,3 +91,4 @@ operandsIs W.I64 = Instructions.i64
 operandsIs W.F32 = Instructions.f32
 operandsIs W.F64 = Instructions.f64
 operandsIs W.HeapType = Instructions.heaptype
+operandsIs W.Bulk = Instructions.bulk

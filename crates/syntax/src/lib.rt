@@ -2,8 +2,10 @@
 // definition's terms.
 ghost use mathlib.Core.Path.{_≡_};
 ghost use Rattle.definition.specs.Syntax.{code};
+ghost use Rattle.definition.specs.Instructions as Instructions;
 ghost use Rattle.syntax.specs.Items.{noneSeen};
 ghost use Rattle.syntax.specs.Marks.{noMarks};
+ghost use Rattle.syntax.specs.Plain.{spacesIs};
 ghost use Rattle.syntax.specs.Refusals.{refusal};
 ghost use Rattle.syntax.specs.Tokens.{spaceOf};
 
@@ -194,6 +196,33 @@ pub enum Operands {
     F32,
     F64,
     HeapType,
+    Bulk,
+}
+
+// The spaces of the indices after a second byte, in order.
+pub enum Spaces {
+    None,
+    One(Space),
+    Two(Space, Space),
+}
+
+// By the byte after FC: memory.init, data.drop, memory.copy (destination and source), memory.fill.
+pub fn bulk_spaces(b: u8) -> Spaces
+    ensures { λ r. ⌜ Instructions.spacesOf b ≡ spacesIs r ⌝ }
+{
+    if b == 0x08 {
+        return Spaces::Two(Space::Datas, Space::Mems);
+    }
+    if b == 0x09 {
+        return Spaces::One(Space::Datas);
+    }
+    if b == 0x0A {
+        return Spaces::Two(Space::Mems, Space::Mems);
+    }
+    if b == 0x0B {
+        return Spaces::One(Space::Mems);
+    }
+    Spaces::None
 }
 
 // What stands after an opcode.
@@ -212,6 +241,8 @@ pub enum Operand {
     Labels(List, Index),
     Local(Index),
     Item(Space, Index),
+    // after FC: the second byte, and where its first index stands
+    Items(u8, usize),
     // the alignment's exponent, the offset, the memory
     Access(u8, u32, Index),
     Int32(u32),

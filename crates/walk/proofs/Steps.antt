@@ -19,7 +19,7 @@ use Rattle.definition.specs.Types.{isShort, instrUses, usedAt, bodyUses}
 use Rattle.definition.specs.Read.{fieldBody}
 use Rattle.definition.specs.Token.{string, param}
 use Rattle.token.specs.Known.{Gets}
-use Rattle.area.specs.Layout.{MARK, TYPES, endAt, STRICT}
+use Rattle.area.specs.Layout.{DATA_NAMED, MARK, TYPES, endAt, STRICT}
 use Rattle.syntax.specs.Tokens.{idOf}
 use Rattle.syntax.specs.declared.Part.{Part}
 use Rattle.syntax.specs.TypeUses.{listOf, useOf}
@@ -41,6 +41,7 @@ use Rattle.walk.specs.declared.Met.{Met}
 use Rattle.walk.specs.declared.What.the-variants as W
 use Rattle.walk.proofs.Cursors.{end-words}
 use Rattle.area.proofs.Kept.{kept-less}
+use Rattle.area.proofs.Flags.{flag-kept}
 
 -- ## Backwards through a visit
 
@@ -252,6 +253,7 @@ module _ (s : Bytes) (c : Cursor) (r : Met) (told : visitIn (c .left) c s ≡ vi
               ends = record { rest = v .ends .rest; is = ap (λ n. drop n (take STRICT w)) same ∙ v .ends .is ∙ ap (λ z. z ++ v .ends .rest) e };
               few = omega (arith, o, left-less, at-met .0, v .few);
               sound = sound-parts w v .1;
+              named = v .named;
             }
         go (some k) e o =
             let two : endAt (r .next .own) ≡ endAt (c .own) + 2 = omega arith in
@@ -262,6 +264,7 @@ module _ (s : Bytes) (c : Cursor) (r : Met) (told : visitIn (c .left) c s ≡ vi
               };
               few = omega (arith, o, left-less, at-met .0, v .few);
               sound = sound-parts w v .1;
+              named = v .named;
             }
 
 -- the lists of a function's head that was met can be read again
@@ -270,9 +273,14 @@ visit-readable s r f here is v = subst (ReadableMet s) is v
 
 -- ## The work area
 
--- what is written beyond the ends of bodies leaves them
+-- what is written beyond the ends of bodies leaves them, and what is said of data segments
 pub ahead-below : (s : Bytes) (w w′ : List ℕ) (c : Cursor) → Kept STRICT w w′ → Ahead s w c → Ahead s w′ c
-ahead-below s w w′ c k v = let e = k .low in record { ends = record { rest = v .ends .rest; is = rw e (v .ends .is) }; few = v .few; sound = v .sound }
+ahead-below s w w′ c k v = let e = k .low in record {
+  ends = record { rest = v .ends .rest; is = rw e (v .ends .is) };
+  few = v .few;
+  sound = v .sound;
+  named = flag-kept DATA_NAMED k (omega arith) ∙ v .named;
+}
 
 pub ahead-kept : (s : Bytes) (w w′ : List ℕ) (c : Cursor) → Kept TYPES w w′ → Ahead s w c → Ahead s w′ c
 ahead-kept s w w′ c k v = ahead-below s w w′ c (kept-less STRICT TYPES (omega arith) k) v

@@ -6,7 +6,7 @@ use mathlib.Core.List.{List, [], _∷_, _++_, map}
 use mathlib.Core.Option.{Option, none, some}
 use lib.Dec.{leb}
 use lib.ListN.{length, take, drop, getD}
-use Rattle.definition.specs.Basic.{if_then_else_}
+use Rattle.definition.specs.Basic.{if_then_else_, any}
 use Rattle.definition.specs.Syntax as Syntax
 use Rattle.definition.specs.Syntax.{Bytes, Identifier, Space, FieldRec, field}
 use Rattle.definition.specs.Reader.{Step, got, fault}
@@ -16,13 +16,14 @@ use Rattle.definition.specs.Spaces.{brings}
 use Rattle.definition.specs.Read.{fieldBody, isStart}
 use Rattle.definition.specs.Deinline.{Numbered, fieldsOf}
 use Rattle.area.specs.Layout.{MARK, STRICT, endAt}
+use Rattle.area.specs.Flags.{dataNamedIn}
 use Rattle.laws.specs.Depths.{deep, depthAfter}
 use Rattle.syntax.specs.Items.{countOf, roomOf, noneSeen}
 use Rattle.syntax.specs.declared.Seen.{Seen}
 use Rattle.reread.specs.Known.{ReadableHead}
 use Rattle.syntax.specs.Fields.{fieldOf}
 use Rattle.syntax.specs.declared.Field.{Field}
-use Rattle.next_record.specs.Uses.{anyUse, endWord}
+use Rattle.next_record.specs.Uses.{anyUse, namesData, endWord}
 use Rattle.counting.specs.Counting.{oneMore, fieldSeen}
 use Rattle.next_record.specs.Answers.{fieldDepth}
 use Rattle.instr.specs.Bodies.{onBody, bodyFrom, wholeBody}
@@ -153,6 +154,28 @@ fieldsAhead c s = fieldsFrom (c .left) c s
 unfoldable pub fieldsIn : Bytes → Numbered Identifier
 fieldsIn s = fieldsAhead begin s
 
+-- ## Data segments that are named
+
+-- does the body of an own function name one?
+abbrev pub ownNames : Syntax.Own Identifier → List (Syntax.Instr Identifier) → Bool
+ownNames (Syntax.ownFunc t ls) b = any namesData b
+ownNames (Syntax.ownTable t) b = false
+ownNames (Syntax.ownMem l) b = false
+ownNames (Syntax.ownGlobal t c) b = false
+
+abbrev pub fieldNames : Syntax.Field Identifier → Bool
+fieldNames (Syntax.typeF i t) = false
+fieldNames (Syntax.importF n i d) = false
+fieldNames (Syntax.ownF i o b) = ownNames o b
+fieldNames (Syntax.exportF n k x) = false
+fieldNames (Syntax.startF x) = false
+fieldNames (Syntax.elemF i m xs) = false
+fieldNames (Syntax.dataF i m d) = false
+
+-- does some body?
+unfoldable pub dataNamed : Numbered Identifier → Bool
+dataNamed fs = any (λ x. fieldNames (x .1)) fs
+
 -- ## The ends of bodies, in the work area
 
 -- the place after a body, and the record after it with what the body may use
@@ -172,11 +195,13 @@ pub record Begins (xs ys : List ℕ) : Type 0 where
   pub rest : List ℕ
   pub is : ys ≡ xs ++ rest
 
--- the words from `ENDS` up to `STRICT` of the work area hold the ends that are still ahead, and nothing ahead is a fault
+-- the words from `ENDS` up to `STRICT` of the work area hold the ends that are still ahead, and nothing ahead is a fault; a word says whether a data
+-- segment is named
 pub record Ahead (s : Bytes) (w : List ℕ) (c : Cursor) : Type 0 where
   pub ends : Begins (endsFrom (c .left) c s) (drop (endAt (c .own)) (take STRICT w))
   pub few : c .own + c .left ≤ 4096
   pub sound : sound (c .left) c s ≡ true
+  pub named : dataNamedIn w ≡ dataNamed (fieldsIn s)
 
 -- the record in the second word of an end
 unfoldable pub endRecord : ℕ → ℕ

@@ -9,6 +9,7 @@ use Rattle.definition.specs.Binary.{module′}
 use Rattle.definition.specs.Assemble.{fitting, say, outputAfter}
 use Rattle.emit.specs.Put.{Put, past}
 use Rattle.emit.proofs.Laws.{put-room, put-then, put-is}
+use Rattle.area.specs.Flags.{dataNamedIn}
 use Rattle.kept.specs.Tally.{tallies, noTally}
 use Rattle.kept.specs.declared.tally.Tally.{Tally}
 use Rattle.module.specs.Length.{moduleLen}
@@ -40,14 +41,14 @@ module _ (count : ℕ) (bs w old : List ℕ) (m : ℕ) (g : m ≡ past 0 (length
       record { says = rw (le-leb _ _ k, a, c) refl; long = y .area .long }
 
 -- the module's length
-pub module-long : (s w : List ℕ) (d : ℕ) (t : Tally) (m : ℕ) → t ≡ tallies noTally (allEntries d s w) → m ≡ moduleLen t → m ≡ past 0 (length (module′ (moduleItems d s w)))
-module-long s w d t m e g = g ∙ module-len-is t d s w e
+pub module-long : (s w : List ℕ) (d : ℕ) (t : Tally) (m : ℕ) → Writable s w → t ≡ tallies noTally (allEntries d s w) → m ≡ moduleLen (dataNamedIn w) t → m ≡ past 0 (length (module′ (moduleItems d s w)))
+module-long s w d t m v e g = g ∙ module-len-is t d s w v e
 
 -- with its names
-pub both-long : (s w : List ℕ) (d : ℕ) (t n : Tally) (m l k : ℕ) → t ≡ tallies noTally (allEntries d s w) → m ≡ moduleLen t → NameTally s w n → l ≡ nameLen n → k ≡ past m l
+pub both-long : (s w : List ℕ) (d : ℕ) (t n : Tally) (m l k : ℕ) → Writable s w → t ≡ tallies noTally (allEntries d s w) → m ≡ moduleLen (dataNamedIn w) t → NameTally s w n → l ≡ nameLen n → k ≡ past m l
     → k ≡ past 0 (length (module′ (moduleItems d s w) ++ namesIn s w))
-both-long s w d t n m l k e g x y z =
-    let a : m ≡ past 0 (length (module′ (moduleItems d s w))) = g ∙ module-len-is t d s w e in
+both-long s w d t n m l k v e g x y z =
+    let a : m ≡ past 0 (length (module′ (moduleItems d s w))) = g ∙ module-len-is t d s w v e in
     let b : l ≡ past 0 (length (namesIn s w)) = y ∙ name-len-is s w n x in
     z ∙ rw (a, b, length-append (module′ (moduleItems d s w)) (namesIn s w)) (past-measured _ (length (namesIn s w)) ∙ past-past 0 _ _)
 

@@ -41,7 +41,7 @@ pub fn write_module(
     requires { ⌜ Writable (now s) (now work) × Held (now kept) (allEntries declared (now s) (now work)) × (t ≡ tallies noTally (allEntries declared (now s) (now work))) ⌝ }
     ensures { λ r. ⌜ Does count (Binary.module′ (moduleItems declared (now (s .entry)) (now (work .entry)))) (now (work .entry)) (now (out .entry)) r (now (work .exit)) (now (out .exit)) ⌝ }
 {
-    if out.len() < module_len(t) {
+    if out.len() < module_len(t, work) {
         return no_room(count);
     }
     let len = module::put_module(t, declared, kept, s, work, out);
@@ -67,7 +67,7 @@ pub fn write_names(
     ensures { λ r. ⌜ Does count (Binary.module′ (moduleItems declared (now (s .entry)) (now (work .entry))) ++ namesIn (now (s .entry)) (now (work .entry))) (now (work .entry)) (now (out .entry)) r (now (work .exit)) (now (out .exit)) ⌝ }
 {
     let n = name_section::measure(s, work);
-    if out.len() < emit::tally(module_len(t), name_section::section_len(n)) {
+    if out.len() < emit::tally(module_len(t, work), name_section::section_len(n)) {
         return no_room(count);
     }
     let at = module::put_module(t, declared, kept, s, work, out);

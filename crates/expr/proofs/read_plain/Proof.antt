@@ -80,6 +80,12 @@ enum-told-13 c = search needs
 heap-plain-requires : tie.Need-heap-plain-requires
 heap-plain-requires c κs = search needs
 
+enum-told-14 : tie.Need-enum-told-14
+enum-told-14 c = search needs
+
+bulk-plain-requires : tie.Need-bulk-plain-requires
+bulk-plain-requires c κs = search needs
+
 returns : tie.Need-returns
 unfolding plainOf
 returns c = search (matched, refl) depth 6
@@ -120,6 +126,9 @@ returns-12 c = search (matched, four-raw, eight-raw, index-forms, refl) depth 6
 returns-13 : tie.Need-returns-13
 returns-13 c = search (matched, four-raw, eight-raw, index-forms, refl) depth 6
 
+returns-14 : tie.Need-returns-14
+returns-14 c = search (matched, four-raw, eight-raw, index-forms, refl) depth 6
+
 pub read-plain-spec : {M : Type 1} → statement M
 read-plain-spec =
     tie.close
@@ -149,6 +158,8 @@ read-plain-spec =
     raw-plain-requires-2
     enum-told-13
     heap-plain-requires
+    enum-told-14
+    bulk-plain-requires
     returns
     returns-2
     returns-3
@@ -161,4 +172,5 @@ read-plain-spec =
     returns-10
     returns-11
     returns-12
-    returns-13)
+    returns-13
+    returns-14)

@@ -23,5 +23,9 @@ returns-5 : tie.Need-returns-5
 unfolding highForm
 returns-5 c = search (exits) depth 12
 
+returns-6 : tie.Need-returns-6
+unfolding highForm
+returns-6 c = search (exits) depth 12
+
 pub high-form-spec : {M : Type 1} → statement M
-high-form-spec = tie.close (tie.spec returns returns-2 returns-3 returns-4 returns-5)
+high-form-spec = tie.close (tie.spec returns returns-2 returns-3 returns-4 returns-5 returns-6)

@@ -1,4 +1,4 @@
-use Rattle.resolve.proofs.Sweep.{Sweeping, sweep-begin, sweep-long, sweep-ahead, sweep-twelve, sweep-ready, sweep-again, sweep-length, sweep-bytes, sweep-sizes, sweep-counts, swept, stopped}
+use Rattle.resolve.proofs.Sweep.{Sweeping, sweep-begin, sweep-long, sweep-ahead, sweep-slots, sweep-ready, sweep-again, sweep-length, sweep-bytes, sweep-sizes, sweep-counts, swept, stopped}
 use Rattle.kept.specs.Tally.{tallyOf}
 use Rattle.walk.proofs.Steps.{visit-less, visit-few}
 use borrow.Author.Needs.{needs}
@@ -24,7 +24,7 @@ enum-known-what : tie.Need-enum-known-what Inv-loop μ-loop
 enum-known-what c = search needs
 
 check-field-requires : tie.Need-check-field-requires Inv-loop μ-loop
-check-field-requires c κs = (search (sweep-long, visit-few, needs), search sweep-ready, search sweep-twelve)
+check-field-requires c κs = (search (sweep-long, visit-few, needs), search sweep-ready, search sweep-slots)
 
 enum-told : tie.Need-enum-told Inv-loop μ-loop
 enum-told c = search needs

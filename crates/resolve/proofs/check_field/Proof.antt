@@ -1,4 +1,4 @@
-use Rattle.resolve.proofs.Checking.{after-twelve, long-after, field-first, field-second, field-third, field-then, field-not}
+use Rattle.resolve.proofs.Checking.{after-slots, long-after, field-first, field-second, field-third, field-then, field-not}
 use borrow.Author.Needs.{needs}
 use Rattle.resolve.proofs.check_field.Statement.{statement}
 use Rattle.resolve.proofs.check_field.Tie as tie
@@ -13,7 +13,7 @@ enum-told : tie.Need-enum-told
 enum-told c = search needs
 
 check-rest-requires : tie.Need-check-rest-requires
-check-rest-requires c κs = (search (long-after, needs), search field-second, search field-third, search after-twelve)
+check-rest-requires c κs = (search (long-after, needs), search field-second, search field-third, search after-slots)
 
 enum-known-r : tie.Need-enum-known-r
 enum-known-r c = search needs

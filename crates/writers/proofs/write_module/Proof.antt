@@ -9,17 +9,20 @@ module-len-requires c κs = search needs
 no-room-requires : tie.Need-no-room-requires
 no-room-requires c κs = search needs
 
+same-length : tie.Need-same-length
+same-length c = search needs
+
 returns : tie.Need-returns
 returns c = search (write-short, module-long)
 
 put-module-requires : tie.Need-put-module-requires
 put-module-requires c κs = search needs
 
-same-length : tie.Need-same-length
-same-length c = search needs
-
 same-length-2 : tie.Need-same-length-2
 same-length-2 c = search needs
+
+same-length-3 : tie.Need-same-length-3
+same-length-3 c = search needs
 
 returns-2 : tie.Need-returns-2
 returns-2 c = search (write-fits, module-long)
@@ -30,8 +33,9 @@ write-module-spec =
     (tie.spec
     module-len-requires
     no-room-requires
+    same-length
     returns
     put-module-requires
-    same-length
     same-length-2
+    same-length-3
     returns-2)

@@ -78,6 +78,12 @@ enum-told-13 c = search needs
 pass-heap-requires : tie.Need-pass-heap-requires
 pass-heap-requires c κs = search needs
 
+enum-told-14 : tie.Need-enum-told-14
+enum-told-14 c = search needs
+
+pass-bulk-requires : tie.Need-pass-bulk-requires
+pass-bulk-requires c κs = search needs
+
 returns : tie.Need-returns
 returns c = search (passed-is, operands-passed) depth 6
 
@@ -117,6 +123,9 @@ returns-12 c = search (passed-is, operands-passed) depth 6
 returns-13 : tie.Need-returns-13
 returns-13 c = search (passed-is, operands-passed) depth 6
 
+returns-14 : tie.Need-returns-14
+returns-14 c = search (passed-is, operands-passed) depth 6
+
 pub pass-plain-spec : {M : Type 1} → statement M
 pass-plain-spec =
     tie.close
@@ -146,6 +155,8 @@ pass-plain-spec =
     pass-bytes-requires-2
     enum-told-13
     pass-heap-requires
+    enum-told-14
+    pass-bulk-requires
     returns
     returns-2
     returns-3
@@ -158,4 +169,5 @@ pass-plain-spec =
     returns-10
     returns-11
     returns-12
-    returns-13)
+    returns-13
+    returns-14)

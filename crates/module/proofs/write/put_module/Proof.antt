@@ -1,4 +1,4 @@
-use Rattle.module.proofs.Sections.{counted-all, module-put}
+use Rattle.module.proofs.Sections.{supplied-all, module-put}
 use borrow.Author.Needs.{needs}
 use Rattle.module.proofs.write.put_module.Statement.{statement}
 use Rattle.module.proofs.write.put_module.Tie as tie
@@ -6,8 +6,8 @@ use Rattle.module.proofs.write.put_module.Tie as tie
 put-preamble-requires : tie.Need-put-preamble-requires
 put-preamble-requires c κs = search needs
 
-put-sections-requires : tie.Need-put-sections-requires
-put-sections-requires c κs = search counted-all
+put-all-requires : tie.Need-put-all-requires
+put-all-requires c κs = search supplied-all
 
 same-length : tie.Need-same-length
 same-length c = search needs
@@ -21,4 +21,4 @@ returns c = search module-put
 pub put-module-spec : {M : Type 1} → statement M
 put-module-spec =
     tie.close
-    (tie.spec put-preamble-requires put-sections-requires same-length same-length-2 returns)
+    (tie.spec put-preamble-requires put-all-requires same-length same-length-2 returns)

@@ -1,25 +1,24 @@
 use borrow.Author.Needs.{needs}
-use Rattle.module.proofs.Sections.{Sectioning, sections-begin, sections-again, sections-done, sections-long, sections-area, sections-few}
+use Prim.Native.Nat.{_-_}
+use Rattle.module.proofs.Counting.{adding-few}
+use Rattle.module.proofs.Sections.{Sectioning, sections-begin, sections-again, sections-done, sections-long, sections-area}
 use Rattle.module.proofs.write.put_sections.Statement.{statement}
 use Rattle.module.proofs.write.put_sections.Tie as tie
 
 abbrev Inv-loop : tie.InvT-loop
-Inv-loop t declared kept s work₀ out₀ at o₀ k₀ left₀ work out o k left = Sectioning t declared kept s work₀ out₀ at left k o out work
+Inv-loop from to t declared kept s work₀ out₀ at o₀ k₀ work out o k = Sectioning t declared kept s work₀ out₀ at from to k o out work
 
 abbrev μ-loop : tie.MeasureT-loop
-μ-loop t declared kept s work₀ out₀ at o₀ k₀ left₀ work out o k left = left
+μ-loop from to t declared kept s work₀ out₀ at o₀ k₀ work out o k = to - k
 
 loop-holds : tie.Need-loop-holds Inv-loop μ-loop
 loop-holds c = search sections-begin
 
 put-section-requires : tie.Need-put-section-requires Inv-loop μ-loop
-put-section-requires c κs = search sections-few
+put-section-requires c κs = search adding-few
 
 add-k : tie.Need-add-k Inv-loop μ-loop
 add-k c = search needs
-
-sub-left : tie.Need-sub-left Inv-loop μ-loop
-sub-left c = search needs
 
 loop-less : tie.Need-loop-less Inv-loop μ-loop
 loop-less c = search needs
@@ -45,7 +44,6 @@ put-sections-spec =
     loop-holds
     put-section-requires
     add-k
-    sub-left
     loop-less
     loop-again
     same-length

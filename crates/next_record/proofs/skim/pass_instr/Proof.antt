@@ -45,6 +45,9 @@ pass-plain-requires c κs = search needs
 enum-known-next : tie.Need-enum-known-next
 enum-known-next c = search needs
 
+plain-inside-requires : tie.Need-plain-inside-requires
+plain-inside-requires c κs = search needs
+
 on-requires : tie.Need-on-requires
 on-requires c κs = search needs
 
@@ -93,6 +96,7 @@ pass-instr-spec =
     enum-known-what
     pass-plain-requires
     enum-known-next
+    plain-inside-requires
     on-requires
     enum-known-n
     refused-requires-2

@@ -6,8 +6,8 @@ use Rattle.operands.proofs.indices.emit_index.Tie as tie
 enum-told : tie.Need-enum-told
 enum-told c = search needs
 
-emit-func-requires : tie.Need-emit-func-requires
-emit-func-requires c κs = search needs
+emit-number-requires : tie.Need-emit-number-requires
+emit-number-requires c κs = search needs
 
 enum-known-to : tie.Need-enum-known-to
 enum-known-to c = search needs
@@ -32,7 +32,7 @@ emit-index-spec =
     tie.close
     (tie.spec
     enum-told
-    emit-func-requires
+    emit-number-requires
     enum-known-to
     emit-depth-requires
     same-length

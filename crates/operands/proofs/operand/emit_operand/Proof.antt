@@ -33,29 +33,35 @@ emit-item-requires c κs = search needs
 enum-known-operand-5 : tie.Need-enum-known-operand-5
 enum-known-operand-5 c = search needs
 
-emit-access-requires : tie.Need-emit-access-requires
-emit-access-requires c κs = search needs
+emit-items-requires : tie.Need-emit-items-requires
+emit-items-requires c κs = search needs
 
 enum-known-operand-6 : tie.Need-enum-known-operand-6
 enum-known-operand-6 c = search needs
 
-put-i32-requires : tie.Need-put-i32-requires
-put-i32-requires c κs = search needs
+emit-access-requires : tie.Need-emit-access-requires
+emit-access-requires c κs = search needs
 
 enum-known-operand-7 : tie.Need-enum-known-operand-7
 enum-known-operand-7 c = search needs
 
-put-i64-requires : tie.Need-put-i64-requires
-put-i64-requires c κs = search needs
+put-i32-requires : tie.Need-put-i32-requires
+put-i32-requires c κs = search needs
 
 enum-known-operand-8 : tie.Need-enum-known-operand-8
 enum-known-operand-8 c = search needs
 
-put-part-requires : tie.Need-put-part-requires
-put-part-requires c κs = search needs
+put-i64-requires : tie.Need-put-i64-requires
+put-i64-requires c κs = search needs
 
 enum-known-operand-9 : tie.Need-enum-known-operand-9
 enum-known-operand-9 c = search needs
+
+put-part-requires : tie.Need-put-part-requires
+put-part-requires c κs = search needs
+
+enum-known-operand-10 : tie.Need-enum-known-operand-10
+enum-known-operand-10 c = search needs
 
 put-requires : tie.Need-put-requires
 put-requires c κs = search needs
@@ -117,6 +123,12 @@ same-length-9 c = search needs
 returns-10 : tie.Need-returns-10
 returns-10 c = search (operands) depth 12
 
+same-length-10 : tie.Need-same-length-10
+same-length-10 c = search needs
+
+returns-11 : tie.Need-returns-11
+returns-11 c = search (operands) depth 12
+
 pub emit-operand-spec : {M : Type 1} → statement M
 emit-operand-spec =
     tie.close
@@ -131,14 +143,16 @@ emit-operand-spec =
     enum-known-operand-4
     emit-item-requires
     enum-known-operand-5
-    emit-access-requires
+    emit-items-requires
     enum-known-operand-6
-    put-i32-requires
+    emit-access-requires
     enum-known-operand-7
-    put-i64-requires
+    put-i32-requires
     enum-known-operand-8
-    put-part-requires
+    put-i64-requires
     enum-known-operand-9
+    put-part-requires
+    enum-known-operand-10
     put-requires
     returns
     same-length
@@ -158,4 +172,6 @@ emit-operand-spec =
     same-length-8
     returns-9
     same-length-9
-    returns-10)
+    returns-10
+    same-length-10
+    returns-11)

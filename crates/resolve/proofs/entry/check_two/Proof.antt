@@ -1,4 +1,4 @@
-use Rattle.resolve.proofs.Checking.{after-item, after-twelve, item-ready, long-after, two-then, two-not}
+use Rattle.resolve.proofs.Checking.{after-item, after-slots, item-ready, long-after, two-then, two-not}
 use borrow.Author.Needs.{needs}
 use Rattle.resolve.proofs.entry.check_two.Statement.{statement}
 use Rattle.resolve.proofs.entry.check_two.Tie as tie
@@ -16,7 +16,7 @@ third-of-requires : tie.Need-third-of-requires
 third-of-requires c κs = search needs
 
 check-entry-requires-2 : tie.Need-check-entry-requires-2
-check-entry-requires-2 c κs = (search (long-after, needs), search after-item, search after-twelve)
+check-entry-requires-2 c κs = (search (long-after, needs), search after-item, search after-slots)
 
 enum-known-r : tie.Need-enum-known-r
 enum-known-r c = search needs

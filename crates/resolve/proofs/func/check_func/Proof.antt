@@ -1,5 +1,5 @@
 use Rattle.resolve.proofs.Functions.{func-use, func-both, func-not}
-use Rattle.resolve.proofs.Checking.{after-twelve}
+use Rattle.resolve.proofs.Checking.{after-slots}
 use borrow.Author.Needs.{needs}
 use Rattle.resolve.proofs.func.check_func.Statement.{statement}
 use Rattle.resolve.proofs.func.check_func.Tie as tie
@@ -14,7 +14,7 @@ keep-type-no-requires : tie.Need-keep-type-no-requires
 keep-type-no-requires c κs = search needs
 
 check-code-requires : tie.Need-check-code-requires
-check-code-requires c κs = (search needs, search needs, search after-twelve)
+check-code-requires c κs = (search needs, search needs, search after-slots)
 
 enum-known-q : tie.Need-enum-known-q
 enum-known-q c = search needs

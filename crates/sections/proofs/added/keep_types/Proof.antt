@@ -1,5 +1,5 @@
 use borrow.Author.Needs.{needs}
-use Rattle.sections.proofs.Tables.{Keeping, keeping-begin, keeping-again, keeping-done, keeping-twelve, keeping-long, keeping-room, keeping-next}
+use Rattle.sections.proofs.Tables.{Keeping, keeping-begin, keeping-again, keeping-done, keeping-slots, keeping-long, keeping-room, keeping-next}
 use Rattle.sections.proofs.added.keep_types.Statement.{statement}
 use Rattle.sections.proofs.added.keep_types.Tie as tie
 
@@ -22,7 +22,7 @@ loop-holds : tie.Need-loop-holds Inv-loop μ-loop
 loop-holds c = search keeping-begin
 
 keep-type-requires : tie.Need-keep-type-requires Inv-loop μ-loop
-keep-type-requires c κs = search (keeping-room, keeping-twelve)
+keep-type-requires c κs = search (keeping-room, keeping-slots)
 
 add-place-2 : tie.Need-add-place-2 Inv-loop μ-loop
 add-place-2 c = search keeping-next

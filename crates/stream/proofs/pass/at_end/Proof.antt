@@ -12,6 +12,9 @@ returns c = search end-in-body
 put-counts-requires : tie.Need-put-counts-requires
 put-counts-requires c κs = search needs
 
+put-flag-requires : tie.Need-put-flag-requires
+put-flag-requires c κs = search needs
+
 same-length : tie.Need-same-length
 same-length c = search needs
 
@@ -20,4 +23,5 @@ returns-2 c = search end-accepted
 
 pub at-end-spec : {M : Type 1} → statement M
 at-end-spec =
-    tie.close (tie.spec refused-requires returns put-counts-requires same-length returns-2)
+    tie.close
+    (tie.spec refused-requires returns put-counts-requires put-flag-requires same-length returns-2)

@@ -1,14 +1,14 @@
 use Prim.Native.Nat.{_-_}
-use Rattle.stream.proofs.Loop.{Going, begin, walk-ends, walk-refused, full-walk, less-field, again-field, refused-field, less-on, on-first, on-second, less-opens, opens-first, opens-second, less-elses, again-elses, less-ends, again-ends, end-fits, end-few, ended-fits, less-end, again-end, refused-instr}
+use Rattle.stream.proofs.Loop.{Going, begin, walk-ends, walk-refused, full-walk, less-field, again-field, refused-field, less-on, on-first, on-second, less-data, again-data, less-opens, opens-first, opens-second, less-elses, again-elses, less-ends, again-ends, end-fits, end-few, ended-fits, less-end, again-end, refused-instr}
 use borrow.Author.Needs.{needs}
 use Rattle.stream.proofs.pass.read_records.Statement.{statement}
 use Rattle.stream.proofs.pass.read_records.Tie as tie
 
 abbrev Inv-loop : tie.InvT-loop
-Inv-loop s work₀ p₀ seen₀ marks₀ ended₀ used₀ work p seen marks ended used = Going s work₀ p marks seen ended used work
+Inv-loop s work₀ p₀ seen₀ marks₀ ended₀ used₀ named₀ work p seen marks ended used named = Going s work₀ p marks seen ended used named work
 
 abbrev μ-loop : tie.MeasureT-loop
-μ-loop s work₀ p₀ seen₀ marks₀ ended₀ used₀ work p seen marks ended used = 4097 - p .rec
+μ-loop s work₀ p₀ seen₀ marks₀ ended₀ used₀ named₀ work p seen marks ended used named = 4097 - p .rec
 
 start-requires : tie.Need-start-requires Inv-loop μ-loop
 start-requires c κs = search needs
@@ -88,50 +88,59 @@ loop-less-3 c = search less-on
 loop-again-3 : tie.Need-loop-again-3 Inv-loop μ-loop
 loop-again-3 c = search on-second
 
+enum-told : tie.Need-enum-told Inv-loop μ-loop
+enum-told c = search needs
+
+loop-less-4 : tie.Need-loop-less-4 Inv-loop μ-loop
+loop-less-4 c = search less-data
+
+loop-again-4 : tie.Need-loop-again-4 Inv-loop μ-loop
+loop-again-4 c = search again-data
+
 enum-known-what-4 : tie.Need-enum-known-what-4 Inv-loop μ-loop
 enum-known-what-4 c = search needs
 
 with-block-requires : tie.Need-with-block-requires Inv-loop μ-loop
 with-block-requires c κs = search needs
 
-loop-less-4 : tie.Need-loop-less-4 Inv-loop μ-loop
-loop-less-4 c = search less-opens
-
-loop-again-4 : tie.Need-loop-again-4 Inv-loop μ-loop
-loop-again-4 c = search opens-first
-
 loop-less-5 : tie.Need-loop-less-5 Inv-loop μ-loop
 loop-less-5 c = search less-opens
 
 loop-again-5 : tie.Need-loop-again-5 Inv-loop μ-loop
-loop-again-5 c = search opens-second
-
-enum-told : tie.Need-enum-told Inv-loop μ-loop
-enum-told c = search needs
-
-without-else-requires : tie.Need-without-else-requires Inv-loop μ-loop
-without-else-requires c κs = search needs
+loop-again-5 c = search opens-first
 
 loop-less-6 : tie.Need-loop-less-6 Inv-loop μ-loop
-loop-less-6 c = search less-elses
+loop-less-6 c = search less-opens
 
 loop-again-6 : tie.Need-loop-again-6 Inv-loop μ-loop
-loop-again-6 c = search again-elses
+loop-again-6 c = search opens-second
 
 enum-told-2 : tie.Need-enum-told-2 Inv-loop μ-loop
 enum-told-2 c = search needs
 
-without-block-requires : tie.Need-without-block-requires Inv-loop μ-loop
-without-block-requires c κs = search needs
+without-else-requires : tie.Need-without-else-requires Inv-loop μ-loop
+without-else-requires c κs = search needs
 
 loop-less-7 : tie.Need-loop-less-7 Inv-loop μ-loop
-loop-less-7 c = search less-ends
+loop-less-7 c = search less-elses
 
 loop-again-7 : tie.Need-loop-again-7 Inv-loop μ-loop
-loop-again-7 c = search again-ends
+loop-again-7 c = search again-elses
 
 enum-told-3 : tie.Need-enum-told-3 Inv-loop μ-loop
 enum-told-3 c = search needs
+
+without-block-requires : tie.Need-without-block-requires Inv-loop μ-loop
+without-block-requires c κs = search needs
+
+loop-less-8 : tie.Need-loop-less-8 Inv-loop μ-loop
+loop-less-8 c = search less-ends
+
+loop-again-8 : tie.Need-loop-again-8 Inv-loop μ-loop
+loop-again-8 c = search again-ends
+
+enum-told-4 : tie.Need-enum-told-4 Inv-loop μ-loop
+enum-told-4 c = search needs
 
 put-end-requires : tie.Need-put-end-requires Inv-loop μ-loop
 put-end-requires c κs = (search needs, search end-fits, search end-few)
@@ -139,11 +148,11 @@ put-end-requires c κs = (search needs, search end-fits, search end-few)
 add-ended : tie.Need-add-ended Inv-loop μ-loop
 add-ended c = search ended-fits
 
-loop-less-8 : tie.Need-loop-less-8 Inv-loop μ-loop
-loop-less-8 c = search less-end
+loop-less-9 : tie.Need-loop-less-9 Inv-loop μ-loop
+loop-less-9 c = search less-end
 
-loop-again-8 : tie.Need-loop-again-8 Inv-loop μ-loop
-loop-again-8 c = search again-end
+loop-again-9 : tie.Need-loop-again-9 Inv-loop μ-loop
+loop-again-9 c = search again-end
 
 enum-known-what-5 : tie.Need-enum-known-what-5 Inv-loop μ-loop
 enum-known-what-5 c = search needs
@@ -189,25 +198,28 @@ read-records-spec =
     loop-again-2
     loop-less-3
     loop-again-3
-    enum-known-what-4
-    with-block-requires
+    enum-told
     loop-less-4
     loop-again-4
+    enum-known-what-4
+    with-block-requires
     loop-less-5
     loop-again-5
-    enum-told
-    without-else-requires
     loop-less-6
     loop-again-6
     enum-told-2
-    without-block-requires
+    without-else-requires
     loop-less-7
     loop-again-7
     enum-told-3
-    put-end-requires
-    add-ended
+    without-block-requires
     loop-less-8
     loop-again-8
+    enum-told-4
+    put-end-requires
+    add-ended
+    loop-less-9
+    loop-again-9
     enum-known-what-5
     refused-requires-3
     same-length-4

@@ -1,7 +1,7 @@
 use Rattle.operands.proofs.Turns.{number-to, number-not}
 use borrow.Author.Needs.{needs}
-use Rattle.operands.proofs.indices.emit_func.Statement.{statement}
-use Rattle.operands.proofs.indices.emit_func.Tie as tie
+use Rattle.operands.proofs.indices.emit_number.Statement.{statement}
+use Rattle.operands.proofs.indices.emit_number.Tie as tie
 
 item-no-requires : tie.Need-item-no-requires
 item-no-requires c κs = search needs
@@ -27,8 +27,8 @@ returns c = search (number-to, number-not) depth 12
 returns-2 : tie.Need-returns-2
 returns-2 c = search (number-to, number-not) depth 12
 
-pub emit-func-spec : {M : Type 1} → statement M
-emit-func-spec =
+pub emit-number-spec : {M : Type 1} → statement M
+emit-number-spec =
     tie.close
     (tie.spec
     item-no-requires
