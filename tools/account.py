@@ -28,6 +28,7 @@ OPCODES = {0x02: 'block', 0x03: 'loop', 0x04: 'if', 0x05: 'else', 0x0B: 'end', 0
 OPCODES.update({opcode: name for name, opcode in [*records.PLAIN.items(), *records.INDEXED.items()]})
 OPCODES.update({0x28 + at: name for at, name in enumerate(records.ACCESSES)})
 OPCODES.update({0x41 + at: name for at, name in enumerate(CONSTANTS[:4])})
+BULK = {model.INIT: 'memory.init', model.DROP: 'data.drop', model.COPY: 'memory.copy', model.FILL: 'memory.fill'}
 
 
 def joined(*parts):
@@ -83,6 +84,16 @@ def constant(kind, value):
     else:
         value = HEAP_TYPES[value] if kind == 5 else word(value)
     return joined(CONSTANTS[kind], value)
+
+
+def bulk(second, indices):
+    """A bulk memory instruction. In the text memory.init has its memory first, and
+    memory.copy has both memories or none."""
+    if second == model.INIT:
+        indices = reversed(indices)
+    if second == model.COPY and indices != [None, None]:
+        indices = [index or 0 for index in indices]
+    return joined(BULK[second], words(indices))
 
 
 def limits(given):
@@ -162,6 +173,8 @@ class Teller(model.Parser):
         if opcode == BODY_END:
             return ')'
         given = self.operands(opcode)
+        if opcode == model.BULK:
+            return bulk(*given)
         name = OPCODES[opcode]
         if 0x02 <= opcode <= 0x04 or opcode == 0x11:
             return joined(name, word(given[0]), use(given[1]))

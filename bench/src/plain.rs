@@ -6,7 +6,9 @@ use crate::tree::*;
 use std::collections::HashMap;
 
 const TYPES: usize = 256;
-const SECTIONS: usize = 11;
+const SECTIONS: usize = 12;
+/// In which order they stand: the data count before the code.
+const ORDER: [u8; SECTIONS] = [1, 2, 3, 4, 5, 6, 7, 8, 9, 12, 10, 11];
 
 /// The module, or a refusal.
 pub type Answer = Result<Vec<u8>, Refusal>;
@@ -99,6 +101,8 @@ struct Assembler<'a> {
     type_numbers: HashMap<Signature, u32>,
     names: [HashMap<Name<'a>, u32>; SPACES],
     sections: [Section; SECTIONS],
+    /// Does some body name a data segment?
+    counts_data: bool,
 }
 
 impl<'a> Assembler<'a> {
@@ -108,6 +112,7 @@ impl<'a> Assembler<'a> {
             type_numbers: HashMap::new(),
             names: Default::default(),
             sections: Default::default(),
+            counts_data: false,
         }
     }
 
@@ -399,6 +404,8 @@ impl<'a> Assembler<'a> {
         code.push(0x0B);
         put_u32(self.entry(3), number);
         put_sized(self.entry(10), &code);
+        let names_data = |one: &Instruction| matches!(one.operands, Operands::MemoryInit(..) | Operands::DataDrop(_));
+        self.counts_data |= function.body.iter().any(names_data);
         Ok(())
     }
 
@@ -415,14 +422,19 @@ impl<'a> Assembler<'a> {
     /// Sections in order, empty ones left out.
     fn module(mut self) -> Vec<u8> {
         self.put_types();
+        if self.counts_data {
+            let segments = self.sections[11 - 1].count;
+            put_u32(self.entry(12), segments);
+        }
         let mut out = b"\0asm\x01\0\0\0".to_vec();
-        for (number, section) in (1..).zip(&self.sections) {
+        for number in ORDER {
+            let section = &self.sections[usize::from(number) - 1];
             if section.count == 0 {
                 continue;
             }
             let mut count = Vec::new();
-            // The start section has no count.
-            if number != 8 {
+            // The start and the data count are one number.
+            if !matches!(number, 8 | 12) {
                 put_u32(&mut count, section.count);
             }
             out.push(number);
@@ -515,6 +527,24 @@ impl<'a> Body<'_, 'a> {
             Operands::I64(value) => put_signed(out, *value as i64),
             Operands::Float(bytes) => out.extend_from_slice(bytes),
             Operands::Reference(heap) => out.push(*heap),
+            Operands::MemoryInit(data, memory) => {
+                out.push(MEMORY_INIT);
+                put_u32(out, assembler.number(DATA, *data)?);
+                put_u32(out, assembler.number_or_0(MEMORY, *memory)?);
+            }
+            Operands::DataDrop(data) => {
+                out.push(DATA_DROP);
+                put_u32(out, assembler.number(DATA, *data)?);
+            }
+            Operands::MemoryCopy(destination, source) => {
+                out.push(MEMORY_COPY);
+                put_u32(out, assembler.number_or_0(MEMORY, *destination)?);
+                put_u32(out, assembler.number_or_0(MEMORY, *source)?);
+            }
+            Operands::MemoryFill(memory) => {
+                out.push(MEMORY_FILL);
+                put_u32(out, assembler.number_or_0(MEMORY, *memory)?);
+            }
         }
         Ok(())
     }

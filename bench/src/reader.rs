@@ -57,6 +57,12 @@ pub const ELEM: usize = 5;
 pub const DATA: usize = 6;
 pub const SPACES: usize = 7;
 
+/// The bulk memory instructions, by the byte after FC.
+pub const MEMORY_INIT: u8 = 0x08;
+pub const DATA_DROP: u8 = 0x09;
+pub const MEMORY_COPY: u8 = 0x0A;
+pub const MEMORY_FILL: u8 = 0x0B;
+
 const IDCHAR: [bool; 256] = {
     let mut table = [false; 256];
     let mut byte = 0x21;
@@ -311,6 +317,14 @@ impl<'a> Reader<'a> {
         self.index()
     }
 
+    /// The byte after FC of a bulk memory instruction.
+    pub fn bulk(&mut self) -> Step<u8> {
+        match self.byte()? {
+            byte @ (MEMORY_INIT | DATA_DROP | MEMORY_COPY | MEMORY_FILL) => Ok(byte),
+            _ => Err(4),
+        }
+    }
+
     /// The first byte of a field record.
     pub fn field_byte(&mut self) -> Step<u8> {
         let first = self.byte()?;
@@ -327,7 +341,10 @@ impl<'a> Reader<'a> {
     #[inline]
     pub fn opcode(&mut self) -> Step<u8> {
         let opcode = self.byte()?;
-        if !matches!(opcode, 0x00..=0x05 | 0x0B..=0x11 | 0x1A | 0x1B | 0x20..=0x24 | 0x28..=0xC4 | 0xD0..=0xD2 | 0xFF) {
+        if !matches!(
+            opcode,
+            0x00..=0x05 | 0x0B..=0x11 | 0x1A | 0x1B | 0x20..=0x24 | 0x28..=0xC4 | 0xD0..=0xD2 | 0xFC | 0xFF
+        ) {
             return Err(4);
         }
         if self.record == RECORDS {

@@ -140,6 +140,20 @@ impl Reader<'_> {
         Ok(form)
     }
 
+    fn check_bulk(&mut self) -> Step<()> {
+        let second = self.bulk()?;
+        if matches!(second, MEMORY_INIT | DATA_DROP) {
+            self.index()?;
+        }
+        if second == MEMORY_COPY {
+            self.optional_index()?;
+        }
+        if second != DATA_DROP {
+            self.optional_index()?;
+        }
+        Ok(())
+    }
+
     fn check_body(&mut self) -> Step<()> {
         loop {
             match self.opcode()? {
@@ -172,6 +186,7 @@ impl Reader<'_> {
                 0x43 => self.raw(4).map(|_| ())?,
                 0x44 => self.raw(8).map(|_| ())?,
                 0xD0 => self.reference().map(|_| ())?,
+                0xFC => self.check_bulk()?,
                 _ => {}
             }
             self.record += 1;

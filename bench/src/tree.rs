@@ -69,6 +69,11 @@ pub enum Operands<'a> {
     I64(u64),
     Float(&'a [u8]),
     Reference(u8),
+    MemoryInit(Index<'a>, Option<Index<'a>>),
+    DataDrop(Index<'a>),
+    /// Destination and source.
+    MemoryCopy(Option<Index<'a>>, Option<Index<'a>>),
+    MemoryFill(Option<Index<'a>>),
 }
 
 /// The i-th of a body (from 0) is record i + 1 after the function's.
@@ -295,6 +300,12 @@ impl<'a> Reader<'a> {
             0x43 => Operands::Float(self.raw(4)?),
             0x44 => Operands::Float(self.raw(8)?),
             0xD0 => Operands::Reference(self.reference()?),
+            0xFC => match self.bulk()? {
+                MEMORY_INIT => Operands::MemoryInit(self.index()?, self.optional_index()?),
+                DATA_DROP => Operands::DataDrop(self.index()?),
+                MEMORY_COPY => Operands::MemoryCopy(self.optional_index()?, self.optional_index()?),
+                _ => Operands::MemoryFill(self.optional_index()?),
+            },
             _ => Operands::None,
         })
     }

@@ -238,6 +238,26 @@ def memory_grow(memory=None):
     return b'\x40' + index(memory)
 
 
+def memory_init(data, memory=None):
+    """FC 08: from a data segment into a memory."""
+    return b'\xFC\x08' + index(data) + index(memory)
+
+
+def data_drop(data):
+    """FC 09."""
+    return b'\xFC\x09' + index(data)
+
+
+def memory_copy(destination=None, source=None):
+    """FC 0A: into a memory from a memory."""
+    return b'\xFC\x0A' + index(destination) + index(source)
+
+
+def memory_fill(memory=None):
+    """FC 0B."""
+    return b'\xFC\x0B' + index(memory)
+
+
 def ref_null(heap):
     """Opcode D0."""
     return b'\xD0' + bytes([heap])

@@ -148,6 +148,14 @@ fn instruction<'a>(record: usize, given: &records::Instruction<'a>) -> Instructi
         }
         S::MemorySize(memory) => I::memory_size(MemoryArg { mem: or_zero(record, *memory) }),
         S::MemoryGrow(memory) => I::memory_grow(MemoryArg { mem: or_zero(record, *memory) }),
+        S::MemoryInit { data, memory } => {
+            I::memory_init(MemoryInit { data: present(record, *data), mem: or_zero(record, *memory) })
+        }
+        S::DataDrop(data) => I::data_drop(present(record, *data)),
+        S::MemoryCopy { destination, source } => {
+            I::memory_copy(MemoryCopy { dst: or_zero(record, *destination), src: or_zero(record, *source) })
+        }
+        S::MemoryFill(memory) => I::memory_fill(MemoryArg { mem: or_zero(record, *memory) }),
         S::I32Const(value) => constant(record, Const::I32(*value)),
         S::I64Const(value) => constant(record, Const::I64(*value)),
         S::F32Const(bits) => constant(record, Const::F32(*bits)),

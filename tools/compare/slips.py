@@ -161,8 +161,34 @@ MODEL = [
     ('offset before memory', 'groups(memory) + groups(offset)', 'groups(offset) + groups(memory)'),
     ('memory.size without its memory', 'return groups(number(record, MEMORY, given))', "return b'\\0'"),
     ('br_table counts its default', 'groups(len(given) - 1)', 'groups(len(given))'),
-    ('the start section as a list', 'entries[0] if number == 8 else vector(entries)', 'vector(entries)'),
+    ('the start section as a list', 'entries[0] if number in (8, 12) else', 'entries[0] if number == 12 else'),
     ('empty sections written', 'if entries:', 'if entries or number == 3:'),
+    ('destination and source swapped', 'in zip(BULK_SPACES[second], indices))',
+     'in zip(BULK_SPACES[second], indices[::-1] if second == COPY else indices))'),
+    ('memory.init with its memory first', 'in zip(BULK_SPACES[second], indices))',
+     'in list(zip(BULK_SPACES[second], indices))[::1 - 2 * (second == INIT)])'),
+    ('the last memory of two is 0', 'in zip(BULK_SPACES[second], indices))',
+     'in zip(BULK_SPACES[second], indices[:1] + [None]))'),
+    ('a data name looked up among the memories', '{INIT: (DATA, MEMORY), DROP: (DATA,)',
+     '{INIT: (MEMORY, MEMORY), DROP: (MEMORY,)'),
+    ('a data name looked up among the element segments', '{INIT: (DATA, MEMORY), DROP: (DATA,)',
+     '{INIT: (ELEM, MEMORY), DROP: (ELEM,)'),
+    ('section 12 after section 10', '9, 12, 10, 11)', '9, 10, 12, 11)'),
+    ('section 12 in its number\'s place', '9, 12, 10, 11)', '9, 10, 11, 12)'),
+    ('section 12 for memory.copy alone', 'operands[0] in (INIT, DROP)', 'operands[0] in (INIT, DROP, COPY)'),
+    ('section 12 for memory.fill alone', 'operands[0] in (INIT, DROP)', 'operands[0] in (INIT, DROP, FILL)'),
+    ('no section 12 for memory.init', 'operands[0] in (INIT, DROP)', 'operands[0] == DROP'),
+    ('no section 12 for data.drop', 'operands[0] in (INIT, DROP)', 'operands[0] == INIT'),
+    ('section 12 wherever there is data', 'for _, opcode, operands in field.body):',
+     'for _, opcode, operands in field.body) or self.counts[DATA]:'),
+    ('no section 12 without data', 'for _, opcode, operands in field.body):',
+     'for _, opcode, operands in field.body) and self.counts[DATA]:'),
+    ('section 12 by the last function alone', 'sections[10].append(sized(code))',
+     'sections[10].append(sized(code))\n            sections[12] = []'),
+    ('section 12 counts the data before it', 'groups(self.counts[DATA])', 'groups(len(sections[11]))'),
+    ('section 12 counts the data with names', 'groups(self.counts[DATA])', 'groups(len(self.names[DATA]))'),
+    ('section 12 counts the memories', 'groups(self.counts[DATA])', 'groups(self.counts[MEMORY])'),
+    ('section 12 as a list', 'entries[0] if number in (8, 12) else', 'entries[0] if number == 8 else'),
     ('the output one too long', 'len(module) > room', 'len(module) > room + 1'),
     ('the output one too short', 'len(module) > room', 'len(module) >= room'),
     ('a work area one too short', 'work < WORK:', 'work < WORK - 1:'),
@@ -190,6 +216,20 @@ READING = [
     ('only 64 marks of blocks', 'append(opcode == IF)', 'append(opcode == IF and len(self.open_blocks) < 64)'),
     ('an else at the record after', 'if not self.open_blocks or not self.open_blocks[-1]:\n                raise',
      'if not self.open_blocks or not self.open_blocks[-1]:\n                self.record += 1\n                raise'),
+    ("data.drop's index optional", "0x09: ('data',)", "0x09: ('memory',)"),
+    ("memory.init's data index optional", "0x08: ('data', 'memory')", "0x08: ('memory', 'memory')"),
+    ("memory.init's memory index needed", "0x08: ('data', 'memory')", "0x08: ('data', 'data')"),
+    ('memory.init with its memory first', "0x08: ('data', 'memory')", "0x08: ('memory', 'data')"),
+    ("memory.copy's destination needed", "0x0A: ('memory', 'memory')", "0x0A: ('data', 'memory')"),
+    ("memory.copy's source needed", "0x0A: ('memory', 'memory')", "0x0A: ('memory', 'data')"),
+    ('memory.copy with one index', "0x0A: ('memory', 'memory')", "0x0A: ('memory',)"),
+    ("memory.fill's memory index needed", "0x0B: ('memory',)", "0x0B: ('data',)"),
+    ('memory.fill without an index', "0x0B: ('memory',)", '0x0B: ()'),
+    ('the second byte of bulk memory as a number', 'for space in BULK_INDICES[self.one_of(BULK_INDICES)]:',
+     'second = self.u32()\n'
+     '            if second not in BULK_INDICES:\n'
+     '                raise Refused(4)\n'
+     '            for space in BULK_INDICES[second]:'),
     ('a second start', 'raise Refused(9)', 'pass'),
     ('the end of a body at the record before', 'self.record += 1\n        if has_body',
      'if not has_body:\n            self.record += 1\n        if has_body'),
@@ -233,6 +273,7 @@ STRICT = [
         'self.counts[space]', '(sum(type(one) is Import and one.kind == space for _, one in self.fields)\n'
         '                                                             if space < TYPE else self.counts[space])')),
     ('named items alone', COUNT, COUNT.replace('self.counts[space]', 'len(self.names[space])')),
+    ('data segments among the memories', COUNT, COUNT.replace('[space]', '[MEMORY if space == DATA else space]')),
     ('items so far', COUNT, 'count = len(self.types) if space == TYPE else sum(\n'
      '            at <= record and space == (one.kind if type(one) is Import else SPACE_OF.get(type(one)))\n'
      '            for at, one in self.fields)'),
@@ -250,6 +291,12 @@ STRICT = [
      'self.local_names(record, self.variables(field, 0))\n'
      '            number = self.type_number(record, field.use)\n            variables'),
 ]
+# Two indices of bulk memory resolved the other way round.
+for what, name in (('the source before the destination', 'COPY'), ('the memory before the data', 'INIT')):
+    STRICT.append((what, 'second, indices = given\n',
+                   'second, indices = given\n'
+                   '            for one in list(zip(BULK_SPACES[second], indices))[::-1] if second == %s else ():\n'
+                   '                number(record, *one)\n' % name))
 # One sort of use unchecked: (what, the call, its index).
 for what, call, index in (
         ('exports', 'self.number(record, field.kind, field.index)', 'field.index'),
@@ -263,6 +310,7 @@ for what, call, index in (
         ('global.get and global.set', 'number(record, GLOBAL, given)', 'given'),
         ('loads and stores', 'number(record, MEMORY, index)', 'index'),
         ('memory.size and memory.grow', 'number(record, MEMORY, given)', 'given'),
+        ('bulk memory', 'number(record, space, index)', 'index'),
         ('labels', 'self.assembler.resolved(record, index, depths, len(self.labels) + 1)', 'index'),
         ('locals', 'self.assembler.resolved(record, index, self.names, self.variables)', 'index')):
     STRICT.append((what + ' unchecked', call, '(%s if isinstance(%s, int) else %s)' % (index, index, call)))
@@ -271,7 +319,8 @@ for what, call, index in (
         ("a data segment's absent memory", 'self.number(record, MEMORY, field.place[0])', 'field.place[0]'),
         ('the absent table of call_indirect', 'number(record, TABLE, given[0])', 'given[0]'),
         ('the absent memory of loads and stores', 'number(record, MEMORY, index)', 'index'),
-        ('the absent memory of memory.size and memory.grow', 'number(record, MEMORY, given)', 'given')):
+        ('the absent memory of memory.size and memory.grow', 'number(record, MEMORY, given)', 'given'),
+        ('the absent memory of bulk memory', 'number(record, space, index)', 'index')):
     STRICT.append((what + ' unchecked', call, '(0 if %s is None else %s)' % (index, call)))
 STRICT_SLIPS = [('model.py',) + slip for slip in STRICT]
 

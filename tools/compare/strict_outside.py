@@ -53,6 +53,7 @@ CODE = {0x02: 'block', 0x03: 'loop', 0x04: 'if', 0x0C: 'br', 0x0D: 'br_if', 0x0E
         0x10: 'call', 0x11: 'call_indirect', 0x20: 'local.get', 0x21: 'local.set', 0x22: 'local.tee',
         0x23: 'global.get', 0x24: 'global.set', 0x3F: 'memory.size', 0x40: 'memory.grow',
         0xD2: 'ref.func'}
+BULK = {model.INIT: 'memory.init', model.DROP: 'data.drop', model.COPY: 'memory.copy', model.FILL: 'memory.fill'}
 
 
 class Uses(generate.Counting):
@@ -90,6 +91,8 @@ class Uses(generate.Counting):
             return USES.get(first, 'item')
         if 0x28 <= first <= 0x3E:
             return 'load' if first < 0x36 else 'store'
+        if first == model.BULK:
+            return BULK[self.stream[self.starts[record] + 1]]
         return CODE[first]
 
 

@@ -70,9 +70,9 @@ EDGES32, EDGES64 = edge_numbers(32), edge_numbers(64)
 
 class Maker:
     """One stream. `faults` gives, for a refusal, how often a place that can
-    have it gets it; 8 is an else where none may be, 13 is for items, 'local' for
-    a function's names. `unnamed` gives for both how often there is no name, and
-    `pool` has the names."""
+    have it gets it; 4 is in bulk memory, 8 an else where none may be, 13 is for
+    items, 'local' for a function's names. `unnamed` gives for both how often there
+    is no name, and `pool` has the names."""
 
     unnamed = {13: 0.35, 'local': 0.35}
     pool = NAMES
@@ -435,14 +435,25 @@ class Maker:
             alignment = self.pick((0, 0, 0, 1, 2, 3, 4, 31, 32))
             return (bytes([self.chance.randint(0x28, 0x3E), alignment]) + self.number(self.pick(NUMBERS))
                     + self.index(names[MEMORY], True))
-        if way < 0.79:
+        if way < 0.78:
             return self.pick((b'\x3F', b'\x40')) + self.index(names[MEMORY], True)
-        if way < 0.88:
+        if way < 0.83:
+            return self.bulk(self.pick(tuple(model.BULK_SPACES)))
+        if way < 0.90:
             kind = self.chance.randrange(4)
             return bytes([0x41 + kind]) + self.operand(kind)
-        if way < 0.90:
+        if way < 0.92:
             return b'\xD0' + self.operand(5)
         return bytes([self.pick(WITHOUT_OPERAND)])
+
+    def bulk(self, second):
+        """FC, the second byte, and its indices; that of a memory may be absent. With
+        fault 4 that of data too, or the second byte is another, or a number of two."""
+        begun = bytes([second])
+        if self.fault(4):
+            begun = self.pick((b'\x07', b'\x0C', begun + b'\0', bytes([second | 0x80, 0])))
+        return bytes([model.BULK]) + begun + b''.join(
+            self.index(self.names[space], space == MEMORY) for space in model.BULK_SPACES[second])
 
 
 # The method that writes a field.
@@ -460,15 +471,44 @@ class Brancher(Maker):
         return ['type'] * self.pick((0, 1, 2)) + ['func'] * self.pick((1, 1, 2, 4))
 
 
+class Copier(Maker):
+    """Bulk memory above all: memories and data segments, names of one space in the
+    other, and functions with instructions for both, for one, or for none."""
+
+    pool = NAMES[:5]
+
+    def __init__(self, chance, faults=None):
+        super().__init__(chance, faults)
+        self.seconds = self.pick((tuple(model.BULK_SPACES), (model.COPY, model.FILL), (model.INIT,), (model.DROP,)))
+
+    def planned_fields(self):
+        """Memories, data segments and functions in any order; data count without one too."""
+        own = ['memory'] * self.pick((0, 1, 2, 4)) + ['data'] * self.pick((0, 1, 2, 4)) + ['func'] * self.pick((1, 1, 2))
+        self.chance.shuffle(own)
+        return ['import'] * self.pick((0, 0, 1)) + own
+
+    def imported_kind(self):
+        """Memories, which count before the own ones."""
+        return MEMORY
+
+    def instruction(self, local_names, blocks):
+        """Seldom another one."""
+        if self.random() < 0.7:
+            return self.bulk(self.pick(self.seconds))
+        return super().instruction(local_names, blocks)
+
+
 def rich(chance):
     """A stream without a fault."""
-    return (Brancher if chance.random() < 0.1 else Maker)(chance).stream()
+    way = chance.random()
+    return (Brancher if way < 0.1 else Copier if way < 0.2 else Maker)(chance).stream()
 
 
 def faulty(chance):
     """Two to four sorts of faults compete in one stream."""
     sorts = chance.sample((11, 13, 'local', 14, 15, 16, 17), chance.choice((2, 3, 4)))
-    return Maker(chance, {number: chance.choice((0.05, 0.2, 0.5)) for number in sorts}).stream()
+    maker = Copier if chance.random() < 0.1 else Maker
+    return maker(chance, {number: chance.choice((0.05, 0.2, 0.5)) for number in sorts}).stream()
 
 
 # ---------------------------------------------------------------------------
@@ -733,6 +773,8 @@ def all_opcodes(chance):
     operands = {0x05: b'\0', 0x0B: b'\0', 0x0E: b'\1\1\0\1\0', 0x11: b'\0' + use(), 0xD0: b'\x70',
                 0x43: b'abcd', 0x44: b'abcdefgh', 0x41: b'\1', 0x42: b'\1', 0x3F: b'\0', 0x40: b'\1\1'}
     for opcode in OPCODES:
+        if opcode == model.BULK:
+            continue
         if opcode in operands:
             code = operands[opcode]
         elif 2 <= opcode <= 4:
@@ -745,11 +787,25 @@ def all_opcodes(chance):
         else:
             code = b'\1' + groups(chance.choice(NUMBERS))
         maker.out.append(bytes([opcode]) + code)
+    for second in model.BULK_SPACES:
+        maker.out.append(maker.bulk(second))
     return b''.join(maker.out) + ENDED * 2 + b'\xFF'
 
 
+def data_counts(chance):
+    """Data segments about where their count gets longer, inline ones too, and an
+    instruction that names the last one, the next, or none; before or after them."""
+    count = chance.choice((0, 1, near(chance, 128), near(chance, 256)))
+    out = [chance.choice((b'\x0A' + sized(named(number)) + b'\0\0', b'\5' + sized(named(number)) + b'\0\2\0\0'))
+           for number in range(count)]
+    index = chance.choice((b'\2' + sized(named(max(count - 1, 0))), b'\1' + groups(max(count - 1, 0)), b'\1' + groups(count)))
+    code = chance.choice((b'\x08' + index + b'\0', b'\x09' + index, b'\x0A\0\0', b'\x0B' + index))
+    out.insert(chance.choice((0, len(out))), in_function(bytes([model.BULK]) + code))
+    return b''.join(out)
+
+
 EDGES = (many_items, many_types, wide_signature, deep_blocks, long_lists, many_records, long_stream, long_module, sizes,
-         all_constants, block_types, all_opcodes) * 2 + (long_texts, wide_numbers, two_in_one, starts, many_types,
+         all_constants, block_types, all_opcodes, data_counts) * 2 + (long_texts, wide_numbers, two_in_one, starts, many_types,
                                                          wide_signature, deep_elses) * 4
 
 
@@ -969,11 +1025,13 @@ def several_indices(chance):
     optional = lambda: index() if chance.random() < 0.7 else b'\0'
     offset = chance.choice((b'\0\0', b'\4' + index(), b'\6' + index()))
     items = [there(type_record(b'a', b'\x7F')), there(b'\4\1a\0\0\x70\0\1'), there(b'\5\1a\0\0\0\1'),
-             there(b'\6\1a\0\0\x7F\0\0\0'), there(b'\3\1a' + FUNCTION[2:] + b'\xFF')]
+             there(b'\6\1a\0\0\x7F\0\0\0'), there(b'\3\1a' + FUNCTION[2:] + b'\xFF'), there(b'\x0A\1a\0\0')]
     chance.shuffle(items)
     field = chance.choice((
         in_function(b'\2\1a' + use() + b'\x0E\2' + index() + index() + index() + ENDED),
         in_function(b'\x11' + optional() + use(chance.choice((b'', b'\x7F')), b'', index())),
+        in_function(bytes([model.BULK, model.INIT]) + index() + optional()),
+        in_function(bytes([model.BULK, model.COPY]) + optional() + optional()),
         b'\x09\0\1' + optional() + offset + b'\2' + index() + index(),
         b'\x0A\0\1' + optional() + offset + b'\0',
         b'\3\0\0\0' + use(b'', b'', index()) + b'\2\1l\x7F\1' + chance.choice((b'l', b'm')) + b'\x7F\x20'
@@ -997,12 +1055,14 @@ def numbers(chance):
 
 def damaged(chance):
     """Bytes changed, mostly refused while reading; numbers in too many groups;
-    an else where none may be; or whole records moved."""
+    an else where none may be; bulk memory otherwise; or whole records moved."""
     way = chance.random()
     if way < 0.08:
         return Maker(chance, {19: chance.choice((0.003, 0.02, 0.2))}).stream()
     if way < 0.16:
         return Brancher(chance, {8: chance.choice((0.03, 0.1, 0.5))}).stream()
+    if way < 0.24:
+        return Copier(chance, {4: chance.choice((0.03, 0.1, 0.5))}).stream()
     stream = bytearray(chance.choice((rich, rich, faulty, edges if chance.random() < 0.05 else rich))(chance))
     if chance.random() < 0.4:
         return moved(chance, bytes(stream))
@@ -1038,11 +1098,14 @@ def damage(chance, stream, at):
     elif way == 8 and letters:
         stream[chance.choice(letters)] = chance.choice(b' ,;"()[]{}\x1F\x7F\x80')
     else:
-        # another value type, or an empty name
-        places = [place for place, byte in enumerate(stream[:-1]) if byte in VALUE_TYPES or byte == 2]
+        # another value type, an empty name, or another instruction of bulk memory
+        places = [place for place, byte in enumerate(stream[:-1]) if byte in VALUE_TYPES + (2, model.BULK)]
         if places:
             at = chance.choice(places)
-            stream[at:at + 2] = [2, 0] if stream[at] == 2 else [chance.choice(VALUE_TYPES), stream[at + 1]]
+            if stream[at] == model.BULK:
+                stream[at + 1] = chance.choice((*range(0x10), *(second | 0x80 for second in model.BULK_SPACES)))
+            else:
+                stream[at:at + 2] = [2, 0] if stream[at] == 2 else [chance.choice(VALUE_TYPES), stream[at + 1]]
 
 
 def moved(chance, stream):

@@ -140,6 +140,11 @@ class Shown(model.Parser):
         self.shown.add(('opcode', opcode))
         return super().operands(opcode)
 
+    def bulk(self, second):
+        self.where = model.BULK, second
+        self.shown.add(('bulk', second))
+        return super().bulk(second)
+
 
 def shown(stream, answer):
     """What a stream shows."""
@@ -246,10 +251,13 @@ def slip_streams(seed, names):
     return (case[0] for case in slips.cases(seed, SLIP_STREAMS))
 
 
-def choose(seed, by):
-    """The streams of a list, what they show, and the slips that they do not."""
+def choose(seed, by, there):
+    """The streams of a list beside those that are there, what all of them show, and
+    the slips that they do not."""
     answered = lambda streams: [(stream, model.assemble(stream, names=by.names)) for stream in streams]
     kept, seen = [], set()
+    for stream, answer in answered(there):
+        seen |= by.shown(stream, answer)
     for name, stream, expected in by.first:
         [(_, answer)] = answered([stream])
         assert is_right(answer, expected), name
@@ -260,13 +268,13 @@ def choose(seed, by):
         if new:
             seen |= new
             kept.append(stream)
-    chosen, more = answered(kept), answered(slip_streams(seed, by.names))
+    chosen, more = answered(there + kept), answered(slip_streams(seed, by.names))
     unseen = []
     for slip in by.slips:
         stream = showing(slip, chosen, by.names) or showing(slip, more, by.names)
         if stream is None:
             unseen.append(slip[1])
-        elif stream not in kept:
+        elif stream not in there + kept:
             kept.append(stream)
     return kept, seen, unseen
 
@@ -306,9 +314,9 @@ def main():
     options = parser.parse_args()
     kept = []
     for by, opcodes in ((PLAIN, reading_model.OPCODES), (NAMED, ())):
-        streams, seen, unseen = choose(options.seed, by)
+        streams, seen, unseen = choose(options.seed, by, kept)
         shows_all(seen, opcodes)
-        kept += [stream for stream in streams if stream not in kept]
+        kept += streams
         print('%d streams; %d slips, of which they cannot show: %s' % (len(streams), len(by.slips), ', '.join(unseen) or 'none'))
     plain, named = (ask(options.oracle, kept, names) for names in (False, True))
     write(options.folder, kept, [line for pair in zip(plain, named) for line in pair])

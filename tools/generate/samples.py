@@ -1,12 +1,13 @@
 """Streams with an answer that document 01 or 02 itself gives: the samples of 01,
-and for each of the refusals 11 to 17, and 19, streams with two faults that
-compete.
+for each of the refusals 11 to 17, and 19, streams with two faults that compete,
+and bulk memory.
 
 SAMPLES is a list of (what it is, stream, answer). An answer is 'refused N at R',
 or bytes in hex that the module must hold: the resolved numbers where they stand.
 """
-from records import (block, call_indirect, code, const, data, elem, end, export, f32, f64, func, funcref, global_, i32, i64,
-                     import_, inline_memory, limits, memory, start, table, type, use)
+from records import (block, call_indirect, code, const, data, data_drop, elem, end, export, f32, f64, func, funcref, global_,
+                     i32, i64, import_, inline_memory, limits, memory, memory_copy, memory_fill, memory_init, start, table,
+                     type, use)
 
 PREAMBLE = '0061736d01000000'
 
@@ -127,4 +128,37 @@ SPELLED = [
     ('19 and a name taken before it', func('a') + func('a') + bytes.fromhex('01 80 00 00 00'), 'refused 19 at 4'),
 ]
 
-SAMPLES = DOCUMENT + COMPETING + SPELLED
+# document 02, §11: FC and a second byte; section 12 between 9 and 10 where a body has memory.init or data.drop
+TWO_MEMORIES = memory('a', limits(0)) + memory('b', limits(0))
+
+
+def with_code(*parts):
+    """A function of type 0, which is its own."""
+    return func(None, None, (), code(*parts))
+
+
+BULK = [
+    ('all four', TWO_MEMORIES + elem(None, []) + data('d', b'a')
+     + with_code(memory_init('d', 1), data_drop(0), memory_copy('b', 'a'), memory_fill()),
+     '0904010100' + '00' + '0c0101' + '0a12011000' + 'fc080001' + 'fc0900' + 'fc0a0100' + 'fc0b00' + '0b' + '0b0401010161'),
+    ('memory.copy and memory.fill, no section 12', data('d', b'a') + with_code(memory_copy(), memory_fill()),
+     '03020100' + '0a0b010900' + 'fc0a0000' + 'fc0b00' + '0b'),
+    ('data.drop where there is no data', with_code(data_drop(7)), '03020100' + '0c0100' + '0a07010500' + 'fc0907' + '0b'),
+    ('section 12 by the first of two functions', with_code(memory_init(0)) + with_code() + data(None, b''),
+     '0c0101' + '0a0b02' + '0600fc080000' + '0b' + '02000b'),
+    ('an inline segment counts and comes before', inline_memory('m', b'') + data('d', b'') + with_code(data_drop('d')),
+     '0c0102' + '0a07010500' + 'fc0901' + '0b'),
+    ('a destination alone', TWO_MEMORIES + with_code(memory_copy('b')), 'fc0a0100'),
+    ('a source alone', TWO_MEMORIES + with_code(memory_copy(None, 'b')), 'fc0a0001'),
+    ('a memory has the name, no data has it', memory('d', limits(0)) + with_code(data_drop('d')), 'refused 14 at 2'),
+    ('data has the name, no memory has it', data('d', b'') + with_code(memory_fill('d')), 'refused 14 at 2'),
+    ('a data name that nothing has, and a late one', with_code(memory_init('d'), 'call f'), 'refused 14 at 1'),
+    ('data before a memory', data('d', b'') + with_code('nop', memory_init('d', 'm')), 'refused 14 at 3'),
+    ('another second byte', with_code(b'\xFC\x0C'), 'refused 4 at 1'),
+    ('no second byte', with_code(b'\xFC')[:-1], 'refused 2 at 1'),
+    ('a second byte of two groups', with_code(b'\xFC\x88\0' + memory_init(0)[2:]), 'refused 4 at 1'),
+    ('data.drop of nothing', with_code(data_drop(None)), 'refused 4 at 1'),
+    ('memory.init of nothing', with_code(memory_init(None, 0)), 'refused 4 at 1'),
+]
+
+SAMPLES = DOCUMENT + COMPETING + SPELLED + BULK

@@ -189,6 +189,11 @@ class Maker:
     def block(self, opcode, label, use):
         return self.code(opcode, self.identifier(label), use)
 
+    def bulk(self, second, *indices):
+        """After FC; indices as those of `index`."""
+        optional = [space == 'memory' for space in model.BULK_INDICES[second]]
+        return self.code(model.BULK, self.byte(second, 0x07, 0x0C, 0x00, 0x88), *map(self.index, indices, optional))
+
 
 def whole(record):
     return b''.join(token.data for token in record)
@@ -322,7 +327,7 @@ class Rich:
             opcode = self.chance.choice(
                 self.chance.choice([[2, 3, 4], [5, 0x0B], [0x0B], [0x0C, 0x0D, 0x0E], [0x10, 0x11],
                                     [0x20, 0x21, 0x22, 0x23, 0x24], range(0x28, 0x41),
-                                    [0x41, 0x42, 0x43, 0x44], [0xD0, 0xD1, 0xD2], model.OPCODES]))
+                                    [0x41, 0x42, 0x43, 0x44], [0xD0, 0xD1, 0xD2, model.BULK], model.OPCODES]))
             if opcode == model.ELSE and not (blocks and blocks[-1]):
                 opcode = model.IF
             if opcode == model.END and not blocks:
@@ -358,6 +363,10 @@ class Rich:
             self.put(make.code(opcode, make.operand(kind, self.constant_value(kind))))
         elif opcode == 0xD0:
             self.put(make.code(opcode, make.reference(self.reference())))
+        elif opcode == model.BULK:
+            second = self.chance.choice(list(model.BULK_INDICES))
+            optional = [space == 'memory' for space in model.BULK_INDICES[second]]
+            self.put(make.bulk(second, *map(self.what, optional)))
         elif opcode in (0x0C, 0x0D, 0x10, 0xD2) or 0x20 <= opcode <= 0x24:
             self.put(make.code(opcode, self.index()))
         else:
@@ -475,6 +484,10 @@ def kinds():
     for kind in range(4):
         yield 'constant %02X' % (0x41 + kind), [head], m.code(0x41 + kind, m.operand(kind, constants[kind])), b'\xFF'
     yield 'ref.null', [head], m.code(0xD0, m.reference(0x70)), b'\xFF'
+    for what, second, indices in (('memory.init', 0x08, (b'd', b'm')), ('memory.init, memory 0', 0x08, (200, None)),
+                                  ('data.drop', 0x09, (b'd',)), ('memory.copy', 0x0A, (b'm', 3)),
+                                  ('memory.copy, memory 0', 0x0A, (None, None)), ('memory.fill', 0x0B, (b'm',))):
+        yield what, [head], m.bulk(second, *indices), b'\xFF'
     for opcode in (0x00, 0x01, 0x0F, 0x1A, 0x1B, 0x45, 0xC4, 0xD1):
         yield 'plain %02X' % opcode, [head], m.code(opcode), b'\xFF'
 
@@ -587,6 +600,7 @@ def sweeps():
             ('index', func + '10', '01 61 FF'),
             ('optional index', func + '3F', '01 61 FF'),
             ('alignment', func + '28', '00 00 FF'),
+            ('second byte of bulk memory', func + 'FC', '01 00 FF'),
             ('identifier byte', '01 01', '00 00'),
             ('last byte of an identifier in an index', '08 02 02 61', ''),
             ('identifier length', '01', '00 00'),

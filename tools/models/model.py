@@ -1,7 +1,7 @@
 #!/usr/bin/env python3
 """A plain model of the whole of document 01, and of document 02's call with
-names (§1), rule of else (§3), one spelling (§5), first holder of a name (§6) and
-strict call (§8): what a call says of a stream.
+names (§1), rule of else (§3), one spelling (§5), first holder of a name (§6),
+strict call (§8) and bulk memory instructions (§11): what a call says of a stream.
 
 It says what the documents and the standard's chapter 5 and appendix (the name
 section) say, in their order, and shares nothing with the definition, the proved
@@ -31,6 +31,14 @@ FUNC, TABLE, MEMORY, GLOBAL = range(4)          # kinds, also of an export
 TYPE, ELEM, DATA = range(4, 7)                  # the other index spaces
 
 NATURAL = (2, 3, 2, 3, 0, 0, 1, 1, 0, 0, 1, 1, 2, 2, 2, 3, 2, 3, 0, 1, 0, 1, 2)
+
+# Bulk memory: FC, a second byte, and an index of each of these, in the record and in the module.
+BULK = 0xFC
+INIT, DROP, COPY, FILL = range(0x08, 0x0C)
+BULK_SPACES = {INIT: (DATA, MEMORY), DROP: (DATA,), COPY: (MEMORY, MEMORY), FILL: (MEMORY,)}
+
+# In which order sections stand; 12, the data count, tells the code how many data segments follow.
+SECTIONS = (1, 2, 3, 4, 5, 6, 7, 8, 9, 12, 10, 11)
 
 Use = namedtuple('Use', 'index parameters results')     # parameters: (identifier, value type)
 Limits = namedtuple('Limits', 'flags low high')
@@ -252,9 +260,15 @@ class Parser:
             return self.operand(opcode - 0x41)[1]
         if opcode == 0xD0:
             return self.byte()
+        if opcode == BULK:
+            return self.bulk(self.byte())
         if opcode in (0x0C, 0x0D, 0x10, 0x3F, 0x40, 0xD2) or 0x20 <= opcode <= 0x24:
             return self.index()
         return None
+
+    def bulk(self, second):
+        """After FC: the second byte, and the indices."""
+        return second, [self.index() for _ in BULK_SPACES[second]]
 
 
 # ---------------------------------------------------------------------------
@@ -330,7 +344,7 @@ class Assembler:
         self.holders = [{} for _ in range(7)]   # the record that defined each name
         self.imported_functions = 0
         self.locals = []                        # of each own function: names to numbers, and is_beyond
-        self.sections = {number: [] for number in range(1, 12)}
+        self.sections = {number: [] for number in SECTIONS}
 
     def run(self):
         """The passes in document 01's order."""
@@ -452,6 +466,8 @@ class Assembler:
             code = locals_in_runs(field.locals) + Body(self, names, len(variables)).code(field.body) + b'\x0B'
             sections[3].append(groups(number))
             sections[10].append(sized(code))
+            if any(opcode == BULK and operands[0] in (INIT, DROP) for _, opcode, operands in field.body):
+                sections[12] = [groups(self.counts[DATA])]
         elif sort is Table:
             sections[4].append(bytes([field.element]) + limits(field.limits))
         elif sort is Memory:
@@ -528,13 +544,13 @@ class Assembler:
         return names
 
     def module(self):
-        """Sections 1 to 11 in order, empty ones left out."""
+        """The sections in order, empty ones left out; 8 and 12 are one number."""
         out = [b'\0asm\1\0\0\0']
         signatures = [b'\x60' + sized(parameters) + sized(results) for parameters, results in self.types]
         self.sections[1] = signatures
         for number, entries in self.sections.items():
             if entries:
-                content = entries[0] if number == 8 else vector(entries)
+                content = entries[0] if number in (8, 12) else vector(entries)
                 out.append(bytes([number]) + sized(content))
         return b''.join(out)
 
@@ -632,6 +648,10 @@ class Body:
             return signed(given, 64)
         if opcode == 0xD0:
             return bytes([given])
+        if opcode == BULK:
+            second, indices = given
+            return bytes([second]) + b''.join(groups(number(record, space, index))
+                                              for space, index in zip(BULK_SPACES[second], indices))
         return given                            # a float's bytes
 
 

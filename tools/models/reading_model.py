@@ -1,7 +1,7 @@
 #!/usr/bin/env python3
 """A reading of document 01's record stream, refusals 1 to 9, with document 02's
-one spelling (19, §5) and its rule of else (8, §3), written from the documents,
-to be compared with the proved code.
+one spelling (19, §5), its rule of else (8, §3) and its bulk memory instructions
+(§11), written from the documents, to be compared with the proved code.
 
 As a module:   read(stream) -> ('ok', count of records)
                             or ('refused', number, record)
@@ -36,9 +36,16 @@ STRING_BYTES = bytes(range(0x20, 0x7F))
 FIELDS = bytes(range(0x01, 0x0B))
 BODY_END = 0xFF
 BLOCK, LOOP, IF, ELSE, END = 0x02, 0x03, 0x04, 0x05, 0x0B
+BULK = 0xFC                                 # and a second byte
 OPCODES = bytes([*range(0x00, 0x06), *range(0x0B, 0x12), 0x1A, 0x1B,
-                 *range(0x20, 0x25), *range(0x28, 0xC5), *range(0xD0, 0xD3)])
+                 *range(0x20, 0x25), *range(0x28, 0xC5), *range(0xD0, 0xD3), BULK])
 SPACES = ('func', 'table', 'memory', 'global', 'type', 'elem', 'data')
+
+# Bulk memory instructions, by their second byte: of which spaces their indices are.
+BULK_INDICES = {0x08: ('data', 'memory'),   # memory.init
+                0x09: ('data',),            # data.drop
+                0x0A: ('memory', 'memory'), # memory.copy
+                0x0B: ('memory',)}          # memory.fill
 
 
 class Refused(Exception):
@@ -347,6 +354,9 @@ class Reader:
             self.plain_constant(opcode - 0x41)
         elif opcode == 0xD0:                        # ref.null
             self.one_of(REFERENCE_TYPES)
+        elif opcode == BULK:                        # that of a memory may be absent
+            for space in BULK_INDICES[self.one_of(BULK_INDICES)]:
+                self.optional_index() if space == 'memory' else self.index()
         elif opcode in (0x0C, 0x0D, 0x10, 0xD2) or 0x20 <= opcode <= 0x24:
             self.index()                            # br, br_if, call, ref.func,
                                                     # locals, globals

@@ -145,6 +145,61 @@ fn numbers_that_point_nowhere() {
 }
 
 #[test]
+fn data_and_memories_of_bulk_memory() {
+    let mut stream = Writer::new();
+    stream.memory("d", Memory::Own(Limits::at_least(1)));
+    stream.data("text", None, b"Delft");
+    stream.func(Head::new(), TypeUse::new(), &[], |body| {
+        body.memory_init("d", Index::Name("d"));
+        body.memory_init(1, Index::Number(1)).data_drop("tezt");
+        body.memory_copy(Index::Name("d"), Index::Number(2));
+        body.memory_fill(Index::Number(1));
+    });
+    let stream = stream.finish().unwrap();
+    // In the text the data stand last, and are asked for first.
+    for (number, record, line, mark) in [
+        (
+            14,
+            3,
+            "memory.init $d $d",
+            "               ^^ no data segment is named d; a memory is",
+        ),
+        (
+            14,
+            5,
+            "data.drop $tezt",
+            "          ^^^^^ no data segment is named tezt; is text meant?",
+        ),
+        (
+            20,
+            4,
+            "memory.init 1 1",
+            "              ^ there is one data segment, 0",
+        ),
+        (
+            20,
+            6,
+            "memory.copy $d 2",
+            "               ^ there is one memory, 0",
+        ),
+        (
+            20,
+            7,
+            "memory.fill 1",
+            "            ^ there is one memory, 0",
+        ),
+    ] {
+        assert_has(
+            &lines(&stream, number, record),
+            &[
+                &format!("     {record} |   {line}"),
+                &format!("       |   {mark}"),
+            ],
+        );
+    }
+}
+
+#[test]
 fn a_label_of_a_block_that_has_ended() {
     let mut stream = Writer::new();
     stream.func(Head::new(), TypeUse::new(), &[], |body| {

@@ -168,6 +168,11 @@ fn every_field_and_instruction() {
             .global_set("g")
             .ref_func("f");
         body.memory_size(None).memory_grow(index("m"));
+        body.memory_init("d", None).memory_init(0, index("m"));
+        body.data_drop("d").memory_copy(None, None);
+        body.memory_copy(index("m"), None)
+            .memory_copy(None, index("m"));
+        body.memory_fill(None).memory_fill(index("m"));
         body.i32_const(i32::MIN).i64_const(-1).f32_const(1.5);
         body.f64_const(f64::INFINITY).ref_null(RefType::Extern);
     });
@@ -187,6 +192,13 @@ fn every_field_and_instruction() {
         "i64.store32 $m offset=4294967295 align=4194304",
         "br_table $a 1 0",
         "call_indirect $t (type $t) (param $x i32) (result i64)",
+        "memory.init $d\n",
+        "memory.init $m 0\n",
+        "data.drop $d\n",
+        "memory.copy\n",
+        "memory.copy $m 0\n",
+        "memory.copy 0 $m\n",
+        "memory.fill $m\n",
         "f64.const inf",
     ] {
         assert!(told.contains(line), "{line}\n{told}");
@@ -362,6 +374,28 @@ fn an_else_belongs_to_an_if() {
     assert_eq!(body(&[&outer, IF, ELSE, &ends]), Ok(259));
     assert_eq!(body(&[&outer, IF, ELSE, ELSE, &ends]), Err((8, 130)));
     assert_eq!(body(&[&outer, BLOCK, ELSE, &ends]), Err((8, 129)));
+}
+
+#[test]
+fn bulk_memory() {
+    let body = |record: &[u8]| {
+        read(&[b"\x03\0\0\0\0\0\0\0\xFC", record, b"\xFF"].concat())
+            .map_err(|fault| (fault.refusal.number, fault.offset))
+            .map(|records| records.len())
+    };
+    // Data must be named, a memory need not.
+    assert_eq!(body(b"\x08\x01\0\0"), Ok(3));
+    assert_eq!(body(b"\x08\0\0"), Err((4, 10)));
+    assert_eq!(body(b"\x09\x02\x01d"), Ok(3));
+    assert_eq!(body(b"\x09\0"), Err((4, 10)));
+    assert_eq!(body(b"\x0A\0\x01\x01"), Ok(3));
+    assert_eq!(body(b"\x0A\x01\x01\0"), Ok(3));
+    assert_eq!(body(b"\x0B\0"), Ok(3));
+    // The second byte is a byte, and no number.
+    for second in [0x00, 0x07, 0x0C, 0x88, 0xFF] {
+        assert_eq!(body(&[second, 0, 0, 0]), Err((4, 9)));
+    }
+    assert_eq!(read(b"\x03\0\0\0\0\0\0\0\xFC").unwrap_err().offset, 9);
 }
 
 #[test]

@@ -393,9 +393,17 @@ fn instruction_uses<'a>(instruction: &Instruction<'a>) -> Vec<Use<'a>> {
             vec![(Space::Global, Some(*index))]
         }
         Instruction::Access(_, arg) => vec![(Space::Memory, arg.memory)],
-        Instruction::MemorySize(memory) | Instruction::MemoryGrow(memory) => {
-            vec![(Space::Memory, *memory)]
+        Instruction::MemorySize(memory)
+        | Instruction::MemoryGrow(memory)
+        | Instruction::MemoryFill(memory) => vec![(Space::Memory, *memory)],
+        Instruction::MemoryInit { data, memory } => {
+            vec![(Space::Data, Some(*data)), (Space::Memory, *memory)]
         }
+        Instruction::DataDrop(data) => vec![(Space::Data, Some(*data))],
+        Instruction::MemoryCopy {
+            destination,
+            source,
+        } => vec![(Space::Memory, *destination), (Space::Memory, *source)],
         Instruction::Op(_)
         | Instruction::Else(_)
         | Instruction::End(_)
@@ -464,11 +472,17 @@ fn missing(rows: &[Row<'_>], at: usize, content: &Content<'_>) -> Finding {
         return Finding {
             note,
             marked: Some(format!("${name}")),
-            last: false,
+            last: stands_last(space),
             beside,
         };
     }
     Finding::default()
+}
+
+/// Does an index of this space stand after the others in a record's text? That of
+/// memory.init's data does, though it is resolved before its memory.
+fn stands_last(space: Space) -> bool {
+    space == Space::Data
 }
 
 /// How many letters have to be changed, added, struck, or swapped with the next.
@@ -662,7 +676,8 @@ fn nowhere(rows: &[Row<'_>], at: usize, content: &Content<'_>) -> Finding {
                 None => format!("it means {one} 0, and {there}"),
             },
             marked: index.map(|_| number.to_string()),
-            ..Finding::default()
+            last: stands_last(space),
+            beside: Vec::new(),
         };
     }
     Finding::default()

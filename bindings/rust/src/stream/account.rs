@@ -454,6 +454,24 @@ fn instruction_text(instruction: &Instruction<'_>) -> String {
         }
         Instruction::MemorySize(memory) => joined(["memory.size", &optional(memory)]),
         Instruction::MemoryGrow(memory) => joined(["memory.grow", &optional(memory)]),
+        // In the text the memory comes first.
+        Instruction::MemoryInit { data, memory } => {
+            joined(["memory.init", &optional(memory), &index(data)])
+        }
+        Instruction::DataDrop(data) => indexed("data.drop", data),
+        // In the text both stand there, or none.
+        Instruction::MemoryCopy {
+            destination: None,
+            source: None,
+        } => "memory.copy".to_string(),
+        Instruction::MemoryCopy {
+            destination,
+            source,
+        } => {
+            let [to, from] = [destination, source].map(|given| given.unwrap_or(Index::Number(0)));
+            joined(["memory.copy", &index(&to), &index(&from)])
+        }
+        Instruction::MemoryFill(memory) => joined(["memory.fill", &optional(memory)]),
         Instruction::I32Const(value) => format!("i32.const {value}"),
         Instruction::I64Const(value) => format!("i64.const {value}"),
         Instruction::F32Const(bits) => format!("f32.const {}", f32_text(*bits)),

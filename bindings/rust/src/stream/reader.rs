@@ -690,6 +690,7 @@ impl<'a> Reader<'a> {
             0x44 => Instruction::F64Const(u64::from_le_bytes(self.array()?)),
             0xD0 => Instruction::RefNull(self.ref_type()?),
             0xD2 => Instruction::RefFunc(self.index()?),
+            0xFC => self.bulk()?,
             0x28..=0x3E => {
                 let access = Access::from_opcode(opcode).expect("a load or a store");
                 Instruction::Access(access, self.mem_arg()?)
@@ -702,6 +703,23 @@ impl<'a> Reader<'a> {
         self.open.push(opening)?;
         let label = self.name()?;
         Ok(Instruction::Open(opening, label, self.type_use()?))
+    }
+
+    /// What stands after FC: a second byte and indices.
+    fn bulk(&mut self) -> Step<Instruction<'a>> {
+        Ok(match self.byte()? {
+            0x08 => Instruction::MemoryInit {
+                data: self.index()?,
+                memory: self.optional_index()?,
+            },
+            0x09 => Instruction::DataDrop(self.index()?),
+            0x0A => Instruction::MemoryCopy {
+                destination: self.optional_index()?,
+                source: self.optional_index()?,
+            },
+            0x0B => Instruction::MemoryFill(self.optional_index()?),
+            _ => return Err(&Wrong(4, "no instruction has this byte after FC")),
+        })
     }
 
     fn mem_arg(&mut self) -> Step<MemArg<'a>> {
@@ -755,7 +773,14 @@ impl std::iter::FusedIterator for Reader<'_> {}
 fn is_opcode(byte: u8) -> bool {
     matches!(
         byte,
-        0x00..=0x05 | 0x0B..=0x11 | 0x1A | 0x1B | 0x20..=0x24 | 0x28..=0xC4 | 0xD0..=0xD2
+        0x00..=0x05
+            | 0x0B..=0x11
+            | 0x1A
+            | 0x1B
+            | 0x20..=0x24
+            | 0x28..=0xC4
+            | 0xD0..=0xD2
+            | 0xFC
     )
 }
 

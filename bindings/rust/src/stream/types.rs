@@ -528,6 +528,20 @@ pub enum Instruction<'a> {
     MemorySize(Option<Index<'a>>),
     /// Memory 0 where it is absent.
     MemoryGrow(Option<Index<'a>>),
+    /// From a data segment into a memory, 0 where it is absent.
+    MemoryInit {
+        data: Index<'a>,
+        memory: Option<Index<'a>>,
+    },
+    /// A data segment that is needed no more.
+    DataDrop(Index<'a>),
+    /// Memory 0 where one is absent.
+    MemoryCopy {
+        destination: Option<Index<'a>>,
+        source: Option<Index<'a>>,
+    },
+    /// Memory 0 where it is absent.
+    MemoryFill(Option<Index<'a>>),
     I32Const(i32),
     I64Const(i64),
     /// The bits.

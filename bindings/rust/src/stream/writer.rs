@@ -242,6 +242,7 @@ index_methods! {
     local_tee LocalTee "local.tee",
     global_get GlobalGet "global.get",
     global_set GlobalSet "global.set",
+    data_drop DataDrop "data.drop",
     ref_func RefFunc "ref.func",
 }
 
@@ -313,6 +314,35 @@ impl Body<'_> {
     /// `memory.grow`, of memory 0 where none is given
     pub fn memory_grow<'a>(&mut self, memory: impl Into<Option<Index<'a>>>) -> &mut Self {
         self.instruction(&Instruction::MemoryGrow(memory.into()))
+    }
+
+    /// `memory.init`, from a data segment into memory 0 where none is given
+    pub fn memory_init<'a>(
+        &mut self,
+        data: impl Into<Index<'a>>,
+        memory: impl Into<Option<Index<'a>>>,
+    ) -> &mut Self {
+        self.instruction(&Instruction::MemoryInit {
+            data: data.into(),
+            memory: memory.into(),
+        })
+    }
+
+    /// `memory.copy`, into one memory from another, 0 where none is given
+    pub fn memory_copy<'a>(
+        &mut self,
+        destination: impl Into<Option<Index<'a>>>,
+        source: impl Into<Option<Index<'a>>>,
+    ) -> &mut Self {
+        self.instruction(&Instruction::MemoryCopy {
+            destination: destination.into(),
+            source: source.into(),
+        })
+    }
+
+    /// `memory.fill`, of memory 0 where none is given
+    pub fn memory_fill<'a>(&mut self, memory: impl Into<Option<Index<'a>>>) -> &mut Self {
+        self.instruction(&Instruction::MemoryFill(memory.into()))
     }
 
     /// `i32.const`
@@ -603,6 +633,12 @@ impl Out {
         self.index(index);
     }
 
+    /// What bulk memory instructions begin with.
+    fn bulk(&mut self, second: u8) {
+        self.byte(0xFC);
+        self.byte(second);
+    }
+
     fn instruction(&mut self, instruction: &Instruction<'_>) {
         match instruction {
             Instruction::Op(op) => self.byte(op.opcode()),
@@ -649,6 +685,27 @@ impl Out {
             }
             Instruction::MemoryGrow(memory) => {
                 self.byte(0x40);
+                self.optional_index(memory);
+            }
+            Instruction::MemoryInit { data, memory } => {
+                self.bulk(0x08);
+                self.index(data);
+                self.optional_index(memory);
+            }
+            Instruction::DataDrop(data) => {
+                self.bulk(0x09);
+                self.index(data);
+            }
+            Instruction::MemoryCopy {
+                destination,
+                source,
+            } => {
+                self.bulk(0x0A);
+                self.optional_index(destination);
+                self.optional_index(source);
+            }
+            Instruction::MemoryFill(memory) => {
+                self.bulk(0x0B);
                 self.optional_index(memory);
             }
             Instruction::I32Const(value) => {

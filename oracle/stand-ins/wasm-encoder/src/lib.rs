@@ -990,6 +990,20 @@ impl<'a> InstructionSink<'a> {
     pub fn call_indirect(&mut self, table: u32, ty: u32) -> &mut Self {
         self.op(0x11).num(ty).num(table)
     }
+
+    // Bulk memory (document 02, §11): FC, a number, and indices.
+    pub fn memory_init(&mut self, memory: u32, data: u32) -> &mut Self {
+        self.op(0xfc).num(0x08).num(data).num(memory)
+    }
+    pub fn data_drop(&mut self, data: u32) -> &mut Self {
+        self.op(0xfc).num(0x09).num(data)
+    }
+    pub fn memory_copy(&mut self, destination: u32, source: u32) -> &mut Self {
+        self.op(0xfc).num(0x0a).num(destination).num(source)
+    }
+    pub fn memory_fill(&mut self, memory: u32) -> &mut Self {
+        self.op(0xfc).num(0x0b).num(memory)
+    }
 }
 
 // What binary.rs's custom encoders call outside document 01.
@@ -1002,7 +1016,6 @@ macro_rules! outside_domain {
 }
 outside_domain! {
     typed_select_multi(&[ValType])
-    memory_init(u32, u32) memory_copy(u32, u32)
     return_call_indirect(u32, u32)
     table_init(u32, u32) table_copy(u32, u32)
     struct_get(u32, u32) struct_get_s(u32, u32) struct_get_u(u32, u32) struct_set(u32, u32)

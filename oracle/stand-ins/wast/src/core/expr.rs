@@ -3,8 +3,8 @@
 //! payloads have the names and types under which resolve/names.rs,
 //! resolve/types.rs and binary.rs take them apart. Document 01's instructions
 //! without an operand are one variant here, `plain`, and its loads and stores
-//! another, `access`; what lies outside document 01 is there only so that the
-//! published files compile.
+//! another, `access`; what lies outside documents 01 and 02 is there only so that
+//! the published files compile.
 use crate::core::binary::custom_encoders as custom;
 use crate::core::*;
 use crate::parser::{Parse, Parser, Result};
@@ -52,7 +52,7 @@ impl<'a> Expression<'a> {
 #[allow(non_camel_case_types)]
 #[derive(Debug, Clone)]
 pub enum Instruction<'a> {
-    // Document 01's:
+    // Document 01's, and of document 02 the bulk memory instructions:
     /// Any instruction without an operand but `select`, `else` and `end`.
     plain(u8),
     /// Any load or store, 28 to 3E.
@@ -75,6 +75,10 @@ pub enum Instruction<'a> {
     global_set(Index<'a>),
     memory_size(MemoryArg<'a>),
     memory_grow(MemoryArg<'a>),
+    memory_init(MemoryInit<'a>),
+    data_drop(Index<'a>),
+    memory_copy(MemoryCopy<'a>),
+    memory_fill(MemoryArg<'a>),
     i32_const(i32),
     i64_const(i64),
     f32_const(F32),
@@ -83,10 +87,6 @@ pub enum Instruction<'a> {
     ref_func(Index<'a>),
 
     // Outside:
-    memory_init(MemoryInit<'a>),
-    memory_copy(MemoryCopy<'a>),
-    memory_fill(MemoryArg<'a>),
-    data_drop(Index<'a>),
     memory_discard(MemoryArg<'a>),
     table_init(TableInit<'a>),
     elem_drop(Index<'a>),
@@ -192,7 +192,7 @@ impl<'a> Instruction<'a> {
 
     /// Asked by binary.rs for the section that counts data segments.
     pub(crate) fn needs_data_count(&self) -> bool {
-        false // none of document 01's instructions names a data segment
+        matches!(self, Instruction::memory_init(_) | Instruction::data_drop(_))
     }
 
     /// Hands each operand over by the crate's own conversion, or by its custom
@@ -220,13 +220,17 @@ impl<'a> Instruction<'a> {
             I::global_set(i) => sink.indexed(0x24, i.into()),
             I::memory_size(m) => sink.indexed(0x3f, m.into()),
             I::memory_grow(m) => sink.indexed(0x40, m.into()),
+            I::memory_init(i) => custom::memory_init(sink, i),
+            I::data_drop(i) => _ = sink.data_drop(i.into()),
+            I::memory_copy(c) => custom::memory_copy(sink, c),
+            I::memory_fill(m) => _ = sink.memory_fill(m.into()),
             I::i32_const(x) => custom::i32_const(sink, x),
             I::i64_const(x) => custom::i64_const(sink, x),
             I::f32_const(x) => sink.f32_const(x.into()),
             I::f64_const(x) => sink.f64_const(x.into()),
             I::ref_null(h) => sink.ref_null(h.into()),
             I::ref_func(i) => sink.indexed(0xd2, i.into()),
-            other => unreachable!("outside document 01: {other:?}"),
+            other => unreachable!("outside documents 01 and 02: {other:?}"),
         }
     }
 }
@@ -249,9 +253,9 @@ payloads! {
     MemArg { align: u32, offset: u64, memory: Index<'a> }
     MemoryArg { mem: Index<'a> }
     SelectTypes { tys: Option<Vec<ValType<'a>>> }
-
     MemoryInit { data: Index<'a>, mem: Index<'a> }
     MemoryCopy { src: Index<'a>, dst: Index<'a> }
+
     TableArg { dst: Index<'a> }
     TableInit { table: Index<'a>, elem: Index<'a> }
     TableCopy { dst: Index<'a>, src: Index<'a> }
