@@ -47,7 +47,7 @@ LINKS = 2057
 abbrev pub HASHES : ℕ
 HASHES = 2313
 
--- the byte size of the type section's content: not used yet
+-- the byte size of the type section's content
 abbrev pub SIZE : ℕ
 SIZE = 2825
 

@@ -27,7 +27,7 @@ pub const HEADS: usize = 1801;
 pub const LINKS: usize = 2057;
 
 pub const HASHES: usize = 2313;
-// The byte size of the type section's content: not used yet.
+// The byte size of the type section's content.
 pub const SIZE: usize = 2825;
 // For each record the number of the type of its use.
 pub const USES: usize = 2826;

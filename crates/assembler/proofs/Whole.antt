@@ -34,27 +34,27 @@ module _ (strict : Bool) (s w : List ℕ) (p : Passed) (w₁ b : List ℕ) (h : 
   pub run-writable : v ≡ V′.Fine → Writable s w₁
   run-writable e = is-ready e .writable
 
-  pub run-held : v ≡ V′.Fine → Held b (allEntries (p .declared) s w₁)
+  pub run-held : v ≡ V′.Fine → Held b (allEntries s w₁)
   run-held e = is-ready e .held
 
-  pub run-tally : (t : Tally) → t ≡ p .tally → v ≡ V′.Fine → t ≡ tallies noTally (allEntries (p .declared) s w₁)
+  pub run-tally : (t : Tally) → t ≡ p .tally → v ≡ V′.Fine → t ≡ tallies noTally (allEntries s w₁)
   run-tally t i e = i ∙ is-ready e .tally
 
   -- the writer does the rest
   writer-done : (names : Bool) (old : List ℕ) (z : Said) (w₂ new : List ℕ) → v ≡ V′.Fine
-      → Does (p .count) (writes names (fieldsIn s) (scopeIn s w₁, moduleItems (p .declared) s w₁)) w₁ old z w₂ new → Runs (makes strict names) s w old z w₂ new
+      → Does (p .count) (writes names (fieldsIn s) (scopeIn s w₁, moduleItems s w₁)) w₁ old z w₂ new → Runs (makes strict names) s w old z w₂ new
   writer-done names old z w₂ new e y =
       let f : p .verdict ≡ V′.Fine = sym g ∙ e in
       let x = h .says names (length old) in
       record { says = y .says ∙ ap (heard old) (sym (rw f at x)); long = y .long ∙ h .long }
 
   pub run-names : (names : Bool) (old : List ℕ) (z : Said) (w₂ new : List ℕ) → v ≡ V′.Fine → names ≡ true
-      → Does (p .count) (module′ (moduleItems (p .declared) s w₁) ++ namesIn s w₁) w₁ old z w₂ new → Runs (makes strict names) s w old z w₂ new
+      → Does (p .count) (module′ (moduleItems s w₁) ++ namesIn s w₁) w₁ old z w₂ new → Runs (makes strict names) s w old z w₂ new
   unfolding namesIn
   run-names names old z w₂ new e b y = rw b (writer-done true old z w₂ new e y)
 
   pub run-module : (names : Bool) (old : List ℕ) (z : Said) (w₂ new : List ℕ) → v ≡ V′.Fine → names ≡ false
-      → Does (p .count) (module′ (moduleItems (p .declared) s w₁)) w₁ old z w₂ new → Runs (makes strict names) s w old z w₂ new
+      → Does (p .count) (module′ (moduleItems s w₁)) w₁ old z w₂ new → Runs (makes strict names) s w old z w₂ new
   run-module names old z w₂ new e b y = rw b (writer-done false old z w₂ new e y)
 
   -- a pass has refused

@@ -24,9 +24,9 @@ fn run_keeping(
     match v {
         Verdict::Fine => {
             if names {
-                return writers::write_names(s, work, out, kept, p.count, p.declared, t);
+                return writers::write_names(s, work, out, kept, p.count, t);
             }
-            writers::write_module(s, work, out, kept, p.count, p.declared, t)
+            writers::write_module(s, work, out, kept, p.count, t)
         }
         Verdict::Refused(q) => Said {
             number: q.number,

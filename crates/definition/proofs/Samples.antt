@@ -7,7 +7,7 @@ use mathlib.Core.List.{List, [], _∷_, _++_, map}
 use mathlib.Core.Option.{Option, none, some}
 use lib.Dec.{eqb}
 use lib.IntN.{ℤ, pos, negsuc}
-use lib.ListN.{length}
+use lib.ListN.{length, replicate}
 use Rattle.definition.specs.Assemble.{leastWork}
 use Rattle.definition.specs.Basic
 use Rattle.definition.specs.Basic.{Answer, ok, fails, refused, sameBytes, concatMap}
@@ -50,6 +50,8 @@ pub data Sample : Type 0 where
   labelled : List (Option Identifier) → Index Identifier → Answer ℕ → Sample
   -- declared signatures, used ones, and the numbers that the uses get
   interned : List FuncType → List FuncType → List ℕ → Sample
+  -- types, and the size of their section's content
+  typesTake : List FuncType → ℕ → Sample
 
 -- `Depth` is the sort of a label's depth: here its number
 abbrev depthIs : Answer Syntax.Depth → Answer ℕ → Bool
@@ -90,6 +92,7 @@ holds (groups n bs) = sameBytes (Binary.u n) bs
 holds (signedGroups z bs) = sameBytes (Binary.s z) bs
 holds (labelled blocks x a) = depthIs (Names.depthOf emptyScope blocks 0 x) a
 holds (interned ds us ns) = numbersAre us ns (Types.intern ds (map (λ u. (0, u)) us))
+holds (typesTake ts n) = eqb (Binary.typesSize ts) n
 
 abbrev every : List Sample → Bool
 every [] = true
@@ -263,6 +266,11 @@ samples =
     (0 ∷ 3 ∷ 1 ∷ 3 ∷ [])
     -- the same as a stream: three types, four functions
     ∷ assembles S6 11 S6-module
+    -- (02 §10) the size of a type section: without types, with S7's, with 127 and with 128
+    ∷ typesTake [] 0
+    ∷ typesTake (record { params = 0x7F ∷ []; results = 0x7F ∷ [] } ∷ []) 6
+    ∷ typesTake (replicate 127 (takes [])) 382
+    ∷ typesTake (replicate 128 (takes [])) 386
     -- S7, and with the second x made y
     ∷ assembles (S7 0x78) 3 S7-module
     ∷ refuses (S7 0x79) 14 1
@@ -365,7 +373,7 @@ unfolding Basic._>>=_ Basic.each Basic.concatMap Basic.any Basic.same Basic.same
     Names.externNo Names.tableNo Names.modeOf Names.resolve Names.resolveAll Binary.unsigned Binary.u Binary.low7 Binary.over128
     Binary.fits7 Binary.signed Binary.s Binary.integer Binary.vec Binary.sized Binary.byte Binary.funcType Binary.limits Binary.tableType
     Binary.globalType Binary.externType Binary.blockType Binary.memarg Binary.imm Binary.instruction Binary.expr Binary.runs Binary.run
-    Binary.func-code Binary.elem Binary.data′ Binary.entries Binary.inSection Binary.immNamesData Binary.namesData Binary.dataCount Binary.joined Binary.content Binary.section Binary.preamble
+    Binary.typesSize Binary.func-code Binary.elem Binary.data′ Binary.entries Binary.inSection Binary.immNamesData Binary.namesData Binary.dataCount Binary.joined Binary.content Binary.section Binary.preamble
     Binary.sectionNumbers Binary.sections Binary.module′ NameSection.namedFrom NameSection.importedFunction NameSection.ownFunction
     NameSection.functionIn NameSection.functions NameSection.localNamesFrom NameSection.nameAssoc NameSection.indirectNameAssoc
     NameSection.subsections NameSection.sectionName NameSection.nameSection Assemble.scope Assemble.itemsIn Assemble.items Assemble.resolved

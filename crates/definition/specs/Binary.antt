@@ -1,7 +1,7 @@
 -- The binary format (the standard, chapter 5): a module's items to bytes, every length and index in its shortest form.
 use Prim.Native.Nat.{ℕ, zero, suc, _+_, _-_, _/_, _%_, _^_}
 use mathlib.Core.Bool.{Bool, false, _||_}
-use mathlib.Core.List.{List, [], _∷_, _++_}
+use mathlib.Core.List.{List, [], _∷_, _++_, map}
 use mathlib.Core.Option.{Option, none, some}
 use lib.Dec.{eqb, ltb}
 use lib.ListN.{length}
@@ -219,6 +219,11 @@ sectionOf k (e ∷ es) = k ∷ sized (content k (e ∷ es))
 
 unfoldable pub section : List (ℕ × Bytes) → ℕ → Bytes
 section es k = sectionOf k (inSection k es)
+
+-- how long the content of section 1 is where these are the types; 0 where there are none, since no section is written (document 02, §10)
+unfoldable pub typesSize : List FuncType → ℕ
+typesSize [] = 0
+typesSize (t ∷ ts) = length (content 1 (map funcType (t ∷ ts)))
 
 -- ## 5.5.17 Modules
 

@@ -7,7 +7,7 @@ use mathlib.Core.Option.{Option, none}
 use lib.ListN.{length}
 use Rattle.definition.specs.Basic.{Answer, ok, fails, _>>=_, each, concatMap}
 use Rattle.definition.specs.Syntax as Syntax
-use Rattle.definition.specs.Syntax.{Bytes, Identifier, Space, ExternType, Index, number, ownIndex, active, Plain, Instr, TypeUse, TypeNo, Item, Field, typeF, importF, ownF, exportF, startF, elemF, dataF}
+use Rattle.definition.specs.Syntax.{Bytes, Identifier, FuncType, Space, ExternType, Index, number, ownIndex, active, Plain, Instr, TypeUse, TypeNo, Item, Field, typeF, importF, ownF, exportF, startF, elemF, dataF}
 use Rattle.definition.specs.Syntax.{ownFunc, ownTable, ownMem, ownGlobal}
 use Rattle.definition.specs.Token as Token
 use Rattle.definition.specs.Spaces.{sourceSpace}
@@ -42,7 +42,7 @@ use Rattle.walk.specs.declared.Cursor.{Cursor}
 use Rattle.import_export.specs.Entry.{entryOf, exportEntries}
 use Rattle.counting.specs.Counting.{externSpaceOf, ownSpaceOf}
 use Rattle.counting.proofs.Counts.{extern-brings, own-brings}
-use Rattle.deinline.specs.Entry.{oneOf, typeBytes, answerOf, Entries, entriesOf, tagged, both, entryIn, threeIn, firstOf, itemIn, secondOf, thirdOf, threeOf, three}
+use Rattle.deinline.specs.Entry.{oneOf, typeBytes, answerOf, Entries, untyped, entriesOf, tagged, both, entryIn, threeIn, firstOf, itemIn, secondOf, thirdOf, threeOf, three}
 use Rattle.binary.specs.Code.{codeOf}
 use Rattle.instr.specs.Functions.{funcField}
 use Rattle.syntax.specs.declared.Entry.{Entry}
@@ -62,7 +62,7 @@ none-both (fails q) = refl
 
 -- the entries of what an item was resolved to
 abbrev resolvedIn : Answer Item → Answer Entries
-resolvedIn (ok i) = ok (entries i)
+resolvedIn (ok i) = ok (untyped i)
 resolvedIn (fails q) = fails q
 
 module _ (Γ : Scope Identifier) where
@@ -76,7 +76,7 @@ module _ (Γ : Scope Identifier) where
   entries-cons r f fs = go (resolve Γ r f) (each (λ x. resolve Γ (x .0) (x .1)) fs)
     where
       go : (a : Answer Item) (b : Answer (List Item))
-          → ((a >>= λ y. b >>= λ ys. ok (y ∷ ys)) >>= λ is. ok (concatMap entries is)) ≡ both (resolvedIn a) (b >>= λ is. ok (concatMap entries is))
+          → ((a >>= λ y. b >>= λ ys. ok (y ∷ ys)) >>= λ is. ok (concatMap untyped is)) ≡ both (resolvedIn a) (b >>= λ is. ok (concatMap untyped is))
       go (ok i) (ok is) = refl
       go (ok i) (fails q) = refl
       go (fails q) b = refl
@@ -104,7 +104,7 @@ module _ (Γ : Scope Identifier) where
 
 -- an item, if there is one, has a single entry, in section k
 abbrev Single : ℕ → Answer Item → Type 0
-Single k (ok i) = entries i ≡ (k, entryOf i) ∷ []
+Single k (ok i) = untyped i ≡ (k, entryOf i) ∷ []
 Single k (fails q) = Unit {0}
 
 single-then : {A : Type 0} (k : ℕ) (a : Answer A) (f : A → Answer Item) → ((y : A) → Single k (f y)) → Single k (a >>= f)
@@ -119,36 +119,36 @@ single k (fails q) h = refl
 
 module _ (Γ : Scope Identifier) (r : ℕ) where
   import-single : (n : Syntax.ImportName) (i : Option Identifier) (d : ExternType (TypeUse Identifier)) → Single 2 (resolve Γ r (importF n i d))
-  unfolding resolve entries entryOf
+  unfolding resolve entries untyped entryOf
   import-single n i d = single-then 2 (externNo Γ r d) (λ e. ok (Syntax.importI n e)) (λ e. refl)
 
   global-single : (i : Option Identifier) (t : Syntax.GlobalType) (c : Plain Identifier) (b : List (Instr Identifier)) → Single 6 (resolve Γ r (ownF i (ownGlobal t c) b))
-  unfolding resolve ownItem entries entryOf
+  unfolding resolve ownItem entries untyped entryOf
   global-single i t c b = single-then 6 (constOp Γ r c) (λ o. ok (Syntax.globalI t o)) (λ o. refl)
 
   export-single : (n : Bytes) (k : Space) (x : Index Identifier) → Single 7 (resolve Γ r (exportF n k x))
-  unfolding resolve entries entryOf
+  unfolding resolve entries untyped entryOf
   export-single n k x = single-then 7 (itemNo Γ k r x) (λ m. ok (Syntax.exportI n k m)) (λ m. refl)
 
   start-single : (x : Index Identifier) → Single 8 (resolve Γ r (startF x))
-  unfolding resolve entries entryOf
+  unfolding resolve entries untyped entryOf
   start-single x = single-then 8 (itemNo Γ Syntax.funcs r x) (λ m. ok (Syntax.startI m)) (λ m. refl)
 
   elem-single : (i : Option Identifier) (m : Syntax.Mode (Index Identifier) (Plain Identifier)) (xs : List (Index Identifier)) → Single 9 (resolve Γ r (elemF i m xs))
-  unfolding resolve entries entryOf
+  unfolding resolve entries untyped entryOf
   elem-single i m xs =
       single-then 9 (Names.modeOf Γ (Names.tableNo Γ) r m) (λ y. each (itemNo Γ Syntax.funcs r) xs >>= λ ns. ok (Syntax.elemI y ns))
       (λ y. single-then 9 (each (itemNo Γ Syntax.funcs r) xs) (λ ns. ok (Syntax.elemI y ns)) (λ ns. refl))
 
   data-single : (i : Option Identifier) (m : Syntax.Mode (Index Identifier) (Plain Identifier)) (d : Bytes) → Single 11 (resolve Γ r (dataF i m d))
-  unfolding resolve entries entryOf
+  unfolding resolve entries untyped entryOf
   data-single i m d = single-then 11 (Names.modeOf Γ (itemNo Γ Syntax.mems) r m) (λ y. ok (Syntax.dataI y d)) (λ y. refl)
 
 -- ## Functions
 
 -- a function, if there is one, has the type n and the code
 abbrev Function : TypeNo → Answer Item → Type 0
-Function n (ok i) = entries i ≡ (3, typeBytes n) ∷ (10, codeOf i) ∷ []
+Function n (ok i) = untyped i ≡ (3, typeBytes n) ∷ (10, codeOf i) ∷ []
 Function n (fails q) = Unit {0}
 
 function-then : {A : Type 0} (n : TypeNo) (a : Answer A) (f : A → Answer Item) → ((y : A) → Function n (f y)) → Function n (a >>= f)
@@ -170,7 +170,7 @@ function-two (ok n) f h = go (f n) (h n)
 module _ (Γ : Scope Identifier) (r : ℕ) where
   function-both : (i : Option Identifier) (t : TypeUse Identifier) (ls : List (Syntax.Local Identifier)) (b : List (Instr Identifier))
       → resolvedIn (resolve Γ r (ownF i (ownFunc t ls) b)) ≡ both (tagged 3 (oneOf typeBytes (typeNo Γ r t))) (tagged 10 (oneOf codeOf (resolve Γ r (ownF none (ownFunc t ls) b))))
-  unfolding resolve ownItem entries typeBytes
+  unfolding resolve ownItem entries untyped typeBytes
   function-both i t ls b =
       function-two (typeNo Γ r t) _
       (λ n. function-then n (Names.distinctLocals Γ r (Names.localsOf (Γ .allTypes) n t ls)) _
@@ -184,7 +184,7 @@ module _ (Γ : Scope Identifier) (r : ℕ) where
 
   exports-are : (k : Space) (n : ℕ) (es : List Bytes)
       → entriesOf Γ (map (λ x. (r, x)) (map (λ e. exportF e k (ownIndex n)) es)) ≡ tagged 7 (ok (exportEntries k n es))
-  unfolding tagged exportEntries both entries
+  unfolding tagged exportEntries both entries untyped
   exports-are k n [] = entries-none Γ
   exports-are k n (e ∷ es) = entries-cons Γ r (exportF e k (ownIndex n)) _ ∙ rw (export-number e k n, exports-are k n es) refl
 
@@ -229,10 +229,9 @@ module _ (Γ : Scope Identifier) (s : Bytes) (r : ℕ) where
   unfolding entryIn answerOf resolve
   import-in n i x = single 2 _ (import-single Γ r (nameOf s n) i (externIs s x))
 
-  type-in : (i : Option Identifier) (ps rs : Code.List)
-      → resolvedIn (resolve Γ r (typeF i (record { params = listOf Token.valType s ps; results = listOf Token.valType s rs }))) ≡ entryIn Γ s r (E.Type ps rs)
-  unfolding entryIn answerOf resolve entries tagged
-  type-in i ps rs = refl
+  type-in : (i : Option Identifier) (t : FuncType) → resolvedIn (resolve Γ r (typeF i t)) ≡ entryIn Γ s r E.Nothing
+  unfolding entryIn answerOf resolve untyped tagged
+  type-in i t = refl
 
   export-in : (n : Part) (k : Kind.Space) (x : Place.Index) → resolvedIn (resolve Γ r (exportF (partOf s n) (spaceOf k) (indexOf s x))) ≡ entryIn Γ s r (E.Export n k x)
   unfolding entryIn answerOf
@@ -253,7 +252,7 @@ module _ (Γ : Scope Identifier) (s : Bytes) (r : ℕ) where
   own-three : (es : Code.List) (i : Option Identifier) (o : Own) (seen : Seen) (n here : ℕ)
       → entriesOf Γ (map (λ x. (r, x)) (map (λ e. exportF e (spaceOf (ownSpaceOf o)) (ownIndex n)) (listOf Token.string s es) ++ (ownF i (ownOf s o) (bodyIn (ownBody (ownOf s o)) (r + 1) s here) ∷ [])))
       ≡ threeIn Γ s r (threeOf (E.Exports es (ownSpaceOf o) n) (secondOf (S.Own o) seen) (thirdOf (S.Own o) here))
-  unfolding entryIn answerOf resolve ownItem ownBody entries tagged funcField secondOf thirdOf
+  unfolding entryIn answerOf resolve ownItem ownBody entries untyped tagged funcField secondOf thirdOf
   own-three es i (O.Func t ls) seen n here = item-three es K.Funcs n _ (E.Func t) (E.Code t ls here) (entries-one Γ r _ ∙ function-both Γ r i (useOf s t) (listOf Token.param s ls) (bodyFrom (4096 - (r + 1)) 0 s here))
   own-three es i (O.Table t) seen n here = item-three es K.Tables n _ (E.Table t) E.Nothing (item-one _ (E.Table t) refl)
   own-three es i (O.Mem l) seen n here = item-three es K.Mems n _ (E.Mem l) E.Nothing (item-one _ (E.Mem l) refl)
@@ -271,7 +270,7 @@ module _ (Γ : Scope Identifier) (s : Bytes) (r : ℕ) where
       ∷ ownF i (ownTable (record { element = 0x70; limits = exactly w (length (listOf Token.present s xs)) })) []
       ∷ [])))
       ≡ threeIn Γ s r (threeOf (E.Exports es K.Tables n) (E.InlineElem w n xs) (E.InlineTable w xs))
-  unfolding entryIn answerOf resolve ownItem entries tagged
+  unfolding entryIn answerOf resolve ownItem entries untyped tagged
   table-three es i w xs n =
       item-three es K.Tables n _ (E.InlineElem w n xs) (E.InlineTable w xs)
       (item-two _ _ (E.InlineElem w n xs) (E.InlineTable w xs) (single 9 _ (elem-single Γ r none (active (ownIndex n) (zeroOffset w)) (listOf Token.present s xs))) refl)
@@ -282,7 +281,7 @@ module _ (Γ : Scope Identifier) (s : Bytes) (r : ℕ) where
       ∷ ownF i (ownMem (exactly w (pages (length (partOf s d))))) []
       ∷ [])))
       ≡ threeIn Γ s r (threeOf (E.Exports es K.Mems n) (E.InlineData w n d) (E.InlineMem w d))
-  unfolding entryIn answerOf resolve ownItem entries tagged
+  unfolding entryIn answerOf resolve ownItem entries untyped tagged
   mem-three es i w d n =
       item-three es K.Mems n _ (E.InlineData w n d) (E.InlineMem w d)
       (item-two _ _ (E.InlineData w n d) (E.InlineMem w d) (single 11 _ (data-single Γ r none (active (ownIndex n) (zeroOffset w)) (partOf s d))) refl)
@@ -292,7 +291,7 @@ module _ (Γ : Scope Identifier) (s : Bytes) (r : ℕ) where
 pub entries-here : (Γ : Scope Identifier) (s : Bytes) (c next : Cursor) (f : Read.Field) (here : ℕ)
     → entriesOf Γ (fieldsHere c s (record { field = fieldOf s f; head-end = here; next = next })) ≡ threeIn Γ s (c .rec) (three f (c .seen) here)
 unfolding fieldsHere fieldsOf fieldBody sourceBody sourceSpace sourceFields three firstOf itemIn secondOf thirdOf
-entries-here Γ s c next (F.Type i ps rs) here = one-entry Γ s (c .rec) _ (E.Type ps rs) (type-in Γ s (c .rec) (idOf s i) ps rs)
+entries-here Γ s c next (F.Type i ps rs) here = one-entry Γ s (c .rec) _ E.Nothing (type-in Γ s (c .rec) (idOf s i) _)
 entries-here Γ s c next (F.Import n i x) here = one-entry Γ s (c .rec) _ (E.Import n x) (import-in Γ s (c .rec) n (idOf s i) x)
 entries-here Γ s c next (F.Export n k x) here = one-entry Γ s (c .rec) _ (E.Export n k x) (export-in Γ s (c .rec) n k x)
 entries-here Γ s c next (F.Start x) here = one-entry Γ s (c .rec) _ (E.Start x) (start-in Γ s (c .rec) x)

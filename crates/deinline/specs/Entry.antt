@@ -7,13 +7,14 @@ use mathlib.Core.Option.{none}
 use lib.ListN.{length}
 use Rattle.definition.specs.Basic.{Answer, ok, fails, _>>=_, concatMap}
 use Rattle.definition.specs.Syntax as Syntax
-use Rattle.definition.specs.Syntax.{Bytes, Identifier, Space, tables, mems, ownIndex, active, Item}
+use Rattle.definition.specs.Syntax.{Bytes, Identifier, Space, tables, mems, ownIndex, active}
+use Rattle.definition.specs.Syntax.{Item, typeI, importI, funcI, tableI, memI, globalI, exportI, startI, elemI, dataI}
 use Rattle.definition.specs.Token as Token
 use Rattle.definition.specs.Deinline.{Numbered, exactly, pages, zeroOffset}
 use Rattle.definition.specs.Types as Types
 use Rattle.definition.specs.Types.{Uses, usedAt}
 use Rattle.definition.specs.Names.{Scope, typeNo, resolve, resolveAll}
-use Rattle.definition.specs.Binary.{u, funcType, limits, tableType, entries}
+use Rattle.definition.specs.Binary.{u, limits, tableType, entries}
 use Rattle.syntax.specs.Tokens.{partOf, indexOf, spaceOf}
 use Rattle.syntax.specs.CoreTypes.{limitsIs, tableTypeIs, globalTypeIs}
 use Rattle.syntax.specs.TypeUses.{listOf, useOf}
@@ -43,7 +44,6 @@ use Rattle.deinline.specs.declared.entry.ItemIn.the-variants as I
 
 abbrev pub sectionNo : Entry → ℕ
 sectionNo E.Nothing = 0
-sectionNo (E.Type ps rs) = 1
 sectionNo (E.Import n x) = 2
 sectionNo (E.Func t) = 3
 sectionNo (E.Table t) = 4
@@ -73,7 +73,6 @@ typeBytes n = u (n .type-no)
 
 unfoldable pub answerOf : Scope Identifier → Bytes → ℕ → Entry → Answer (List Bytes)
 answerOf Γ s r E.Nothing = ok []
-answerOf Γ s r (E.Type ps rs) = ok (funcType (record { params = listOf Token.valType s ps; results = listOf Token.valType s rs }) ∷ [])
 answerOf Γ s r (E.Import n x) = oneOf entryOf (resolve Γ r (Syntax.importF (nameOf s n) none (externIs s x)))
 answerOf Γ s r (E.Func t) = oneOf typeBytes (typeNo Γ r (useOf s t))
 answerOf Γ s r (E.Table t) = ok (tableType (tableTypeIs t) ∷ [])
@@ -93,7 +92,6 @@ answerOf Γ s r (E.InlineData w n d) = oneOf entryOf (resolve Γ r (Syntax.dataF
 -- the type uses that it resolves
 unfoldable pub usesOf : Bytes → ℕ → Entry → Uses
 usesOf s r E.Nothing = []
-usesOf s r (E.Type ps rs) = []
 usesOf s r (E.Import n x) = usedAt r (Types.externUses (externIs s x))
 usesOf s r (E.Func t) = usedAt r (Types.useOf (useOf s t))
 usesOf s r (E.Table t) = []
@@ -113,7 +111,6 @@ usesOf s r (E.InlineData w n d) = []
 -- what holds of the parts of a code entry; nothing is said of other entries
 abbrev pub onCode : (TypeUse → Code.List → ℕ → Type 0) → Entry → Type 0
 onCode p E.Nothing = Unit {0}
-onCode p (E.Type ps rs) = Unit {0}
 onCode p (E.Import n x) = Unit {0}
 onCode p (E.Func t) = Unit {0}
 onCode p (E.Table t) = Unit {0}
@@ -145,7 +142,7 @@ abbrev pub exportsOf : Code.List → Kind.Space → Seen → Entry
 exportsOf es k seen = E.Exports es k (countOf seen (spaceOf k))
 
 unfoldable pub firstOf : Field → Seen → Entry
-firstOf (F.Type i ps rs) seen = E.Type ps rs
+firstOf (F.Type i ps rs) seen = E.Nothing
 firstOf (F.Import n i x) seen = E.Import n x
 firstOf (F.Item i es x) seen = exportsOf es (sourceSpaceOf x) seen
 firstOf (F.Export n k x) seen = E.Export n k x
@@ -206,9 +203,22 @@ three f seen here = threeOf (firstOf f seen) (secondIn (itemIn f) seen) (thirdIn
 abbrev pub Entries : Type 0
 Entries = List (ℕ × Bytes)
 
+-- the entries of an item that is no type: section 1 is written from the table of types
+unfoldable pub untyped : Item → Entries
+untyped (typeI t) = []
+untyped (importI n d) = entries (importI n d)
+untyped (funcI n ls os) = entries (funcI n ls os)
+untyped (tableI t) = entries (tableI t)
+untyped (memI l) = entries (memI l)
+untyped (globalI t o) = entries (globalI t o)
+untyped (exportI n k x) = entries (exportI n k x)
+untyped (startI x) = entries (startI x)
+untyped (elemI m ns) = entries (elemI m ns)
+untyped (dataI m d) = entries (dataI m d)
+
 -- what fields resolve to, as entries
 unfoldable pub entriesOf : Scope Identifier → Numbered Identifier → Answer Entries
-entriesOf Γ fs = resolveAll Γ fs >>= λ is. ok (concatMap entries is)
+entriesOf Γ fs = resolveAll Γ fs >>= λ is. ok (concatMap untyped is)
 
 unfoldable pub tagged : ℕ → Answer (List Bytes) → Answer Entries
 tagged k (ok bs) = ok (map (λ b. (k, b)) bs)

@@ -31,7 +31,6 @@ pub fn section_of(e: Entry) -> u8
 {
     match e {
         Entry::Nothing => 0,
-        Entry::Type(_, _) => 1,
         Entry::Import(_, _) => 2,
         Entry::Func(_) => 3,
         Entry::Table(_) => 4,
@@ -57,16 +56,17 @@ fn exports_of(exports: List, k: Space, seen: Seen) -> Entry
     Entry::Exports(exports, k, sources::seen::count_of(seen, k))
 }
 
-// A field's first entry, and for most the only one; what was seen before the field numbers its items.
+// A field's first entry, and for most the only one; what was seen before the field numbers its items. A type is in the table of types, from
+// which its section is written.
 pub fn first_of(f: Field, seen: Seen) -> Entry
     ensures { λ r. ⌜ r ≡ firstOf f seen ⌝ }
 {
     match f {
         Field::Type {
             id: _,
-            params,
-            results,
-        } => Entry::Type(params, results),
+            params: _,
+            results: _,
+        } => Entry::Nothing,
         Field::Import { name, id: _, what } => Entry::Import(name, what),
         Field::Item {
             id: _,

@@ -16,7 +16,7 @@ use Rattle.definition.specs.Deinline.{exactly, pages, zeroOffset}
 use Rattle.definition.specs.Types as Types
 use Rattle.definition.specs.Types.{usedAt}
 use Rattle.definition.specs.Names.{Scope, numberIn, itemNo, typeNo, immediate, plainOp, constOp, modeOf, resolve}
-use Rattle.definition.specs.Binary.{funcType, limits, tableType, data′, joined, entries}
+use Rattle.definition.specs.Binary.{limits, tableType, data′, joined, entries}
 use Rattle.emit.specs.Put.{Put}
 use Rattle.emit.proofs.Laws.{put-is, put-none}
 use Rattle.syntax.specs.Tokens.{partOf, indexOf, spaceOf}
@@ -85,10 +85,6 @@ module _ (Γ : Scope Identifier) (s : Bytes) (r : ℕ) (e : Entry) (old : List �
   arm-nothing d h = no-put (answerOf Γ s r e) old at (rw d) h
 
   module _ (o : ℕ) (new : List ℕ) where
-    pub arm-type : (ps rs : Code.List) → e ≡ E.Type ps rs → Put old at (funcType (record { params = listOf Token.valType s ps; results = listOf Token.valType s rs })) o new → Arm (A.Ends o 1) new
-    unfolding answerOf
-    arm-type ps rs d p = one-put (answerOf Γ s r e) _ old at o new (rw d) p
-
     pub arm-table : (t : TableType) → e ≡ E.Table t → Put old at (tableType (tableTypeIs t)) o new → Arm (A.Ends o 1) new
     unfolding answerOf
     arm-table t d p = one-put (answerOf Γ s r e) _ old at o new (rw d) p
@@ -156,20 +152,19 @@ module _ (Γ : Scope Identifier) (s : Bytes) (r : ℕ) (e : Entry) (old : List �
 
 -- ## Which are left
 
--- after an arm for each entry of the sections 1 to 6
+-- after an arm for each entry of the sections 2 to 6
 abbrev After : List ℕ
-After = 9 ∷ 10 ∷ 11 ∷ 12 ∷ 13 ∷ 14 ∷ 15 ∷ 16 ∷ []
+After = 8 ∷ 9 ∷ 10 ∷ 11 ∷ 12 ∷ 13 ∷ 14 ∷ 15 ∷ []
 
 pub late : (e : Entry) → OneOf After (tagOf EntryOf.the-type e) → 7 ≤ sectionNo e
 late E.Nothing h = absurd (miss After 0 tt h)
-late (E.Type ps rs) h = absurd (miss After 1 tt h)
-late (E.Import n x) h = absurd (miss After 2 tt h)
-late (E.Func t) h = absurd (miss After 3 tt h)
-late (E.Table t) h = absurd (miss After 4 tt h)
-late (E.InlineTable w xs) h = absurd (miss After 5 tt h)
-late (E.Mem l) h = absurd (miss After 6 tt h)
-late (E.InlineMem w d) h = absurd (miss After 7 tt h)
-late (E.Global t c) h = absurd (miss After 8 tt h)
+late (E.Import n x) h = absurd (miss After 1 tt h)
+late (E.Func t) h = absurd (miss After 2 tt h)
+late (E.Table t) h = absurd (miss After 3 tt h)
+late (E.InlineTable w xs) h = absurd (miss After 4 tt h)
+late (E.Mem l) h = absurd (miss After 5 tt h)
+late (E.InlineMem w d) h = absurd (miss After 6 tt h)
+late (E.Global t c) h = absurd (miss After 7 tt h)
 late (E.Export n k x) h = omega arith
 late (E.Exports es k n) h = omega arith
 late (E.Start x) h = omega arith
@@ -181,11 +176,10 @@ late (E.InlineData w n d) h = omega arith
 
 -- after an arm for each of the others but code
 abbrev Before : List ℕ
-Before = 0 ∷ 1 ∷ 2 ∷ 3 ∷ 4 ∷ 5 ∷ 6 ∷ 7 ∷ 8 ∷ 14 ∷ []
+Before = 0 ∷ 1 ∷ 2 ∷ 3 ∷ 4 ∷ 5 ∷ 6 ∷ 7 ∷ 13 ∷ []
 
 none-left : (e : Entry) → NotCode e → 7 ≤ sectionNo e → OneOf Before (tagOf EntryOf.the-type e) → ⊥
 none-left E.Nothing q l h = omega arith
-none-left (E.Type ps rs) q l h = omega arith
 none-left (E.Import n x) q l h = omega arith
 none-left (E.Func t) q l h = omega arith
 none-left (E.Table t) q l h = omega arith
@@ -193,14 +187,14 @@ none-left (E.InlineTable w xs) q l h = omega arith
 none-left (E.Mem l) q k h = omega arith
 none-left (E.InlineMem w d) q l h = omega arith
 none-left (E.Global t c) q l h = omega arith
-none-left (E.Export n k x) q l h = miss Before 9 tt h
-none-left (E.Exports es k n) q l h = miss Before 10 tt h
-none-left (E.Start x) q l h = miss Before 11 tt h
-none-left (E.Elem m xs) q l h = miss Before 12 tt h
-none-left (E.InlineElem w n xs) q l h = miss Before 13 tt h
+none-left (E.Export n k x) q l h = miss Before 8 tt h
+none-left (E.Exports es k n) q l h = miss Before 9 tt h
+none-left (E.Start x) q l h = miss Before 10 tt h
+none-left (E.Elem m xs) q l h = miss Before 11 tt h
+none-left (E.InlineElem w n xs) q l h = miss Before 12 tt h
 none-left (E.Code t ls here) q l h = q .other refl
-none-left (E.Data m d) q l h = miss Before 15 tt h
-none-left (E.InlineData w n d) q l h = miss Before 16 tt h
+none-left (E.Data m d) q l h = miss Before 14 tt h
+none-left (E.InlineData w n d) q l h = miss Before 15 tt h
 
 pub arm-left : (Γ : Scope Identifier) (s : Bytes) (r : ℕ) (e : Entry) (old : List ℕ) (at : ℕ) (new : List ℕ) → OneOf Before (tagOf EntryOf.the-type e) → NotCode e → 7 ≤ sectionNo e → Answers (answerOf Γ s r e) old at (A.Ends at 0) new
 arm-left Γ s r e old at new h q l = absurd (none-left e q l h)

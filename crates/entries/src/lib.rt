@@ -129,10 +129,6 @@ pub fn emit_other(s: &[u8], work: &[u32], out: &mut [u8], at: usize, e: Entry, r
         Entry::Nothing => {
             return EndsAt::Ends(at, 0);
         }
-        Entry::Type(params, results) => {
-            let o = import_export::put_func_type(s, out, at, params, results);
-            return EndsAt::Ends(o, 1);
-        }
         Entry::Import(name, what) => {
             let r = import_export::emit_import(s, work, out, at, name, what, rec);
             return one_end(r);

@@ -13,7 +13,7 @@ use Rattle.emit.proofs.Laws.{put-then, put-cons, put-is}
 use Rattle.syntax.specs.Tokens.{byteAt}
 use Rattle.syntax.specs.declared.ByteAt.{ByteAt}
 use Rattle.syntax.specs.declared.ByteAt.the-variants as B
-use Rattle.syntax.specs.TypeUses.{localAt, elements, listOf}
+use Rattle.syntax.specs.TypeUses.{localAt, elements}
 use Rattle.syntax.specs.declared.List as Code
 use Rattle.syntax.specs.declared.Local.{Local}
 use Rattle.syntax.specs.declared.LocalAt.{LocalAt}
@@ -74,9 +74,3 @@ pub put-func : {a b c d : List ℕ} {at p q r : ℕ} (s : Bytes) (x : Signature)
     → Put a at (funcType (signatureOf s x)) r d
 unfolding funcType signatureOf
 put-func s x f g h = put-then (put-cons f g) h
-
--- no identifier stands before the parameters of a declared type
-pub put-declared : {a b : List ℕ} {at r : ℕ} (s : Bytes) (ps rs : Code.List) → Put a at (funcType (signatureOf s (record { named = false; params = ps; results = rs }))) r b
-    → Put a at (funcType (record { params = listOf valType s ps; results = listOf valType s rs })) r b
-unfolding signatureOf typesOf
-put-declared s ps rs p = p

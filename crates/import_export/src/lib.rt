@@ -11,5 +11,4 @@ pub use export::emit_start;
 pub use export::put_exports;
 pub use global::emit_global;
 pub use import::emit_import;
-pub use types::put_func_type;
 pub use types::put_signature;

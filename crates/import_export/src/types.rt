@@ -4,11 +4,9 @@ use syntax::List;
 use syntax::LocalAt;
 use type_table::Signature;
 ghost use mathlib.Core.Path.{_≡_};
-ghost use Rattle.definition.specs.Token as Token;
 ghost use Rattle.definition.specs.Binary as Binary;
 ghost use Rattle.emit.specs.Put.{Put};
 ghost use Rattle.syntax.specs.Tokens.{byteAt};
-ghost use Rattle.syntax.specs.TypeUses.{listOf};
 ghost use Rattle.type_table.specs.Table.{typed, typesOf, signatureOf};
 
 // A value type, after an identifier or not.
@@ -60,20 +58,4 @@ pub fn put_signature(s: &[u8], out: &mut [u8], at: usize, x: Signature) -> usize
     let a = emit::put(out, at, 0x60);
     let b = put_types(s, out, a, x.named, x.params);
     put_types(s, out, b, false, x.results)
-}
-
-// A declared type: no identifier stands before its parameters.
-pub fn put_func_type(s: &[u8], out: &mut [u8], at: usize, params: List, results: List) -> usize
-    ensures { λ r. ⌜ Put (now (out .entry)) at (Binary.funcType (record { params = listOf Token.valType (now (s .entry)) params; results = listOf Token.valType (now (s .entry)) results })) r (now (out .exit)) ⌝ }
-{
-    put_signature(
-        s,
-        out,
-        at,
-        Signature {
-            named: false,
-            params,
-            results,
-        },
-    )
 }

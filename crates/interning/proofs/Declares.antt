@@ -212,7 +212,7 @@ module _ (s : Bytes) (w₀ w : List ℕ) (c : Cursor) (count : ℕ) (v : Declari
 -- the index is emptied first
 module _ (s w w₁ : List ℕ) (e : Emptied w w₁) where
   emptied-kept : Kept TYPES w w₁
-  emptied-kept = kept-less TYPES HEADS (omega arith) (e .inside .kept)
+  emptied-kept = kept-less TYPES HEADS (omega arith) (e .heads .inside .kept)
 
   pub emptied-lent : Lent s w → Lent s w₁
   emptied-lent l = record { stream = l .stream; area = omega (arith, l .area, emptied-kept .long) }

@@ -80,12 +80,11 @@ pub ready-uses : (s w : List ℕ) (r : ℕ) (e : Entry) → Ready s w r e → Re
 ready-uses s w r e h = h .recalled
 
 abbrev Others : List ℕ
-Others = 0 ∷ 1 ∷ 2 ∷ 3 ∷ 4 ∷ 5 ∷ 6 ∷ 7 ∷ 8 ∷ 9 ∷ 10 ∷ 11 ∷ 12 ∷ 13 ∷ 15 ∷ 16 ∷ []
+Others = 0 ∷ 1 ∷ 2 ∷ 3 ∷ 4 ∷ 5 ∷ 6 ∷ 7 ∷ 8 ∷ 9 ∷ 10 ∷ 11 ∷ 12 ∷ 14 ∷ 15 ∷ []
 
 -- every entry but one is no code
 pub not-code : (e : Entry) → OneOf Others (tagOf EntryOf.the-type e) → NotCode e
 not-code E.Nothing h = record { other = λ z. omega (arith, z) }
-not-code (E.Type ps rs) h = record { other = λ z. omega (arith, z) }
 not-code (E.Import n x) h = record { other = λ z. omega (arith, z) }
 not-code (E.Func t) h = record { other = λ z. omega (arith, z) }
 not-code (E.Table t) h = record { other = λ z. omega (arith, z) }
@@ -98,7 +97,7 @@ not-code (E.Exports es k n) h = record { other = λ z. omega (arith, z) }
 not-code (E.Start x) h = record { other = λ z. omega (arith, z) }
 not-code (E.Elem m xs) h = record { other = λ z. omega (arith, z) }
 not-code (E.InlineElem w n xs) h = record { other = λ z. omega (arith, z) }
-not-code (E.Code t ls here) h = absurd (miss Others 14 tt h)
+not-code (E.Code t ls here) h = absurd (miss Others 13 tt h)
 not-code (E.Data m d) h = record { other = λ z. omega (arith, z) }
 not-code (E.InlineData w n d) h = record { other = λ z. omega (arith, z) }
 
@@ -106,7 +105,6 @@ not-code (E.InlineData w n d) h = record { other = λ z. omega (arith, z) }
 
 section-small : (e : Entry) → sectionNo e < SECTIONS
 section-small E.Nothing = omega arith
-section-small (E.Type ps rs) = omega arith
 section-small (E.Import n x) = omega arith
 section-small (E.Func t) = omega arith
 section-small (E.Table t) = omega arith

@@ -1,10 +1,10 @@
 -- What is written of an answer's entries: those of one section.
 use Prim.Native.Nat.{ℕ}
 use mathlib.Core.Path.{_≡_}
-use mathlib.Core.List.{List, [], map}
+use mathlib.Core.List.{[]}
 use Rattle.definition.specs.Basic.{Answer, ok, fails}
-use Rattle.definition.specs.Syntax.{Bytes, FuncType}
-use Rattle.definition.specs.Binary.{funcType, inSection, joined}
+use Rattle.definition.specs.Syntax.{Bytes}
+use Rattle.definition.specs.Binary.{inSection, joined}
 use Rattle.deinline.specs.Entry.{Entries}
 
 -- entries that are not refused
@@ -19,7 +19,3 @@ kept (fails q) = []
 -- the bytes of section k among them
 unfoldable pub bytesIn : ℕ → Answer Entries → Bytes
 bytesIn k a = joined (inSection k (kept a))
-
--- types as entries of section 1
-unfoldable pub typeEntries : List FuncType → Entries
-typeEntries ts = map (λ t. (1, funcType t)) ts

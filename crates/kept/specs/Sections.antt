@@ -1,6 +1,12 @@
 -- Numbers of sections: the same names as in src/lib.rt.
 use Prim.Native.Nat.{ℕ}
 
+abbrev pub TYPE : ℕ
+TYPE = 1
+
+abbrev pub IMPORT : ℕ
+IMPORT = 2
+
 abbrev pub START : ℕ
 START = 8
 

@@ -4,6 +4,10 @@ pub mod parts;
 pub mod tally;
 
 // Numbers of sections.
+pub const TYPE: u8 = 1;
+
+pub const IMPORT: u8 = 2;
+
 pub const START: u8 = 8;
 
 pub const CODE: u8 = 10;

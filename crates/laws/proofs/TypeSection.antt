@@ -107,7 +107,8 @@ with-more Γ fs is extra k w =
       map-append,
     ) refl
 
-type-section : {I : Type 0} (Γ : Scope I) (fs : Numbered I) (is : List Item) → allTypes fs ≡ ok (Γ .allTypes) → itemsIn Γ fs ≡ ok is
+-- section 1 is written of the types of the scope
+pub type-section : {I : Type 0} (Γ : Scope I) (fs : Numbered I) (is : List Item) → allTypes fs ≡ ok (Γ .allTypes) → itemsIn Γ fs ≡ ok is
     → section (concatMap entries is ++ dataCount is) 1 ≡ sectionOf 1 (map funcType (Γ .allTypes))
 unfolding allTypes section
 type-section Γ fs is e w =

@@ -9,9 +9,10 @@ use borrow.Author.Tests.{eq-eqb, ne-eqb}
 use Rattle.definition.specs.Binary.{u}
 use Rattle.emit.specs.Put.{past}
 use Rattle.area.specs.Flags.{dataNamedIn}
-use Rattle.kept.specs.Sections.{START, CODE, DATAS, SECTIONS}
+use Rattle.area.specs.Layout.{SIZE}
+use Rattle.kept.specs.Sections.{IMPORT, START, CODE, DATAS, SECTIONS}
 use Rattle.kept.specs.declared.tally.Tally.{Tally}
-use Rattle.module.specs.Length.{contentLen, sizedLen, sectionLen, lensFrom, countLen, moduleLen}
+use Rattle.module.specs.Length.{contentLen, sizedLen, sectionLen, typesLen, lensFrom, countLen, moduleLen}
 
 -- ## One section
 
@@ -35,6 +36,16 @@ module _ (t : Tally) (k : ℕ) where
   pub some-len : (n r : ℕ) → (getD (t .counts) k 0 ≡ 0 → ⊥) → n ≡ contentLen k (getD (t .sizes) k 0) (getD (t .counts) k 0) → r ≡ sizedLen n → r ≡ sectionLen t k
   unfolding sectionLen
   some-len n r h d e = rw (ne-eqb _ 0 h, e, d) refl
+
+-- the section of types
+module _ (size : ℕ) where
+  pub no-types : size ≡ 0 → 0 ≡ typesLen size
+  unfolding typesLen
+  no-types h = rw (eq-eqb size 0 h) refl
+
+  pub some-types : (r : ℕ) → (size ≡ 0 → ⊥) → r ≡ sizedLen size → r ≡ typesLen size
+  unfolding typesLen
+  some-types r h e = rw (ne-eqb size 0 h, e) refl
 
 -- ## All sections
 
@@ -70,7 +81,7 @@ unfolding countLen
 count-some t w b n r e f d g = rw (← e, f, g, d) refl
 
 -- all of them
-pub all-len : (t : Tally) (w : List ℕ) (a n b r : ℕ) → a ≡ lensFrom (CODE - 1) 1 8 t → n ≡ countLen (dataNamedIn w) t → b ≡ past a n → r ≡ lensFrom (SECTIONS - CODE) CODE b t
-    → r ≡ moduleLen (dataNamedIn w) t
+pub all-len : (t : Tally) (w : List ℕ) (size m o a n b r : ℕ) → size ≡ getD w SIZE 0 → m ≡ typesLen size → o ≡ past 8 m → a ≡ lensFrom (CODE - IMPORT) IMPORT o t
+    → n ≡ countLen (dataNamedIn w) t → b ≡ past a n → r ≡ lensFrom (SECTIONS - CODE) CODE b t → r ≡ moduleLen (getD w SIZE 0) (dataNamedIn w) t
 unfolding moduleLen
-all-len t w a n b r x y z e = rw (e, z, y, x) refl
+all-len t w size m o a n b r i d c x y z e = rw (e, z, y, x, c, d, i) refl

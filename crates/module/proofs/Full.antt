@@ -9,8 +9,8 @@ use native.Mathlib.Omega.{arith}
 use Rattle.definition.specs.Basic.{if_then_else_, concatMap}
 use Rattle.definition.specs.Syntax.{Bytes, ValType, Limits, Op, passive, active}
 use Rattle.definition.specs.Syntax.{Item, typeI, importI, funcI, tableI, memI, globalI, exportI, startI, elemI, dataI}
-use Rattle.definition.specs.Binary.{unsigned, u, sized, funcType, limits, limitsOf, tableType, globalType, externType, expr, func-code, elem, data′, entries, inSection, joined}
-use Rattle.deinline.specs.Entry.{Entries}
+use Rattle.definition.specs.Binary.{unsigned, u, sized, limits, limitsOf, tableType, globalType, externType, expr, func-code, elem, data′, entries, inSection, joined}
+use Rattle.deinline.specs.Entry.{Entries, untyped}
 use Rattle.module.specs.Length.{Good}
 
 -- ## Bytes that are not empty
@@ -27,20 +27,6 @@ unsigned-some (suc m) n = go (ltb n 128)
 pub u-only : (n : ℕ) → 1 ≤ length (u n)
 unfolding u
 u-only n = unsigned-some 9 n
-
-unsigned-few : (m n : ℕ) → length (unsigned m n) ≤ suc m
-unfolding unsigned
-unsigned-few zero n = omega arith
-unsigned-few (suc m) n = go (ltb n 128) (unsigned-few m (n / 128))
-  where
-    go : (t : Bool) → length (unsigned m (n / 128)) ≤ suc m → length (if t then n ∷ [] else (n % 128 + 128) ∷ unsigned m (n / 128)) ≤ suc (suc m)
-    go true h = omega arith
-    go false h = omega arith
-
--- ten groups at most
-pub u-few : (n : ℕ) → length (u n) ≤ 10
-unfolding u
-u-few n = unsigned-few 9 n
 
 pub first-some : (bs cs : Bytes) → 1 ≤ length bs → 1 ≤ length (bs ++ cs)
 first-some bs cs h = omega (arith, length-append bs cs)
@@ -78,9 +64,9 @@ full-append : (xs ys : Entries) → Full xs → Full ys → Full (xs ++ ys)
 full-append [] ys p q = q
 full-append ((j, b) ∷ xs) ys p q = (p .0, full-append xs ys (p .1) q)
 
-item-full : (i : Item) → Full (entries i)
-unfolding entries funcType tableType globalType elem data′
-item-full (typeI t) = (omega arith, tt)
+item-full : (i : Item) → Full (untyped i)
+unfolding untyped entries tableType globalType elem data′
+item-full (typeI t) = tt
 item-full (importI n e) = (first-some (sized (n .module-name) ++ sized (n .item-name)) (externType e) (first-some (sized (n .module-name)) (sized (n .item-name)) (sized-some (n .module-name))), tt)
 item-full (funcI n ls os) = (u-only (n .type-no), (code-some ls os, tt))
 item-full (tableI t) = (omega arith, tt)
@@ -94,10 +80,10 @@ item-full (elemI (active (some t) o) ns) = (omega arith, tt)
 item-full (dataI passive d) = (omega arith, tt)
 item-full (dataI (active m o) d) = (data-some m (expr (o ∷ [])) (sized d), tt)
 
-items-full : (is : List Item) → Full (concatMap entries is)
+items-full : (is : List Item) → Full (concatMap untyped is)
 unfolding concatMap
 items-full [] = tt
-items-full (i ∷ is) = full-append (entries i) (concatMap entries is) (item-full i) (items-full is)
+items-full (i ∷ is) = full-append (untyped i) (concatMap untyped is) (item-full i) (items-full is)
 
 full-in : (k : ℕ) (es : Entries) → Full es → length (inSection k es) ≤ length (joined (inSection k es))
 unfolding inSection joined concatMap
@@ -110,5 +96,5 @@ full-in k ((j, b) ∷ es) f = go (eqb k j) (full-in k es (f .1))
 
 -- ## No more entries than bytes
 
-pub good-items : (is : List Item) → Good (concatMap entries is)
-good-items is = record { each = λ k. full-in k (concatMap entries is) (items-full is) }
+pub good-items : (is : List Item) → Good (concatMap untyped is)
+good-items is = record { each = λ k. full-in k (concatMap untyped is) (items-full is) }

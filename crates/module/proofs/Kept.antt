@@ -56,6 +56,6 @@ module _ (kept : Bytes) (k a b : ℕ) (h : k < SECTIONS) (from : a ≡ startOf (
         let m = part-long in
         part-first ∙ put-first (partIn (v .old) k) (partIn kept k) (joined (inSection k es)) _ _ size p (getD-replicate SECTIONS k 0 0 h) e (omega arith)
 
-    pub part-put : (declared : ℕ) (s w : List ℕ) (old new : Bytes) (at r : ℕ) → Held kept (allEntries declared s w) → size ≡ past 0 (length (joined (inSection k (allEntries declared s w))))
-        → Put old at (take ((a + size) - a) (drop a kept)) r new → Writes (joined (inSection k (allEntries declared s w))) old at r new w w
-    part-put declared s w old new at r v e p = record { put = put-is p (part-held (allEntries declared s w) v e); area = kept-same LOCALS w }
+    pub part-put : (s w : List ℕ) (old new : Bytes) (at r : ℕ) → Held kept (allEntries s w) → size ≡ past 0 (length (joined (inSection k (allEntries s w))))
+        → Put old at (take ((a + size) - a) (drop a kept)) r new → Writes (joined (inSection k (allEntries s w))) old at r new w w
+    part-put s w old new at r v e p = record { put = put-is p (part-held (allEntries s w) v e); area = kept-same LOCALS w }

@@ -2,24 +2,28 @@
 use Prim.Native.Nat.{ℕ, zero, suc, _+_, _-_, _^_, _≤_, _<_}
 use mathlib.Core.Path.{_≡_, refl, sym, _∙_, ap}
 use mathlib.Core.Bool.{Bool, true, false, _||_}
-use mathlib.Core.List.{List, [], _∷_, _++_, append-assoc}
+use mathlib.Core.List.{List, [], _∷_, _++_, map, append-assoc}
 use lib.Dec.{eqb}
 use lib.ListN.{length, getD, replicate, length-append}
 use native.Mathlib.Decide.{decLe}
 use native.Mathlib.Omega.{arith}
 use borrow.Author.Tests.{eq-eqb, ne-eqb}
-use Rattle.definition.specs.Basic.{if_then_else_, concatMap, any}
-use Rattle.definition.specs.Syntax.{Bytes, Item}
-use Rattle.definition.specs.Binary.{u, sized, entries, inSection, namesData, joined, content, sectionOf, section, preamble, module′}
+use Rattle.definition.specs.Basic.{if_then_else_}
+use Rattle.definition.specs.Syntax.{Bytes, FuncType}
+use Rattle.definition.specs.Binary.{u, sized, funcType, inSection, joined, content, sectionOf, section, typesSize, preamble}
 use Rattle.emit.specs.Put.{past}
+use Rattle.area.specs.Layout.{BYTES, SIZE}
 use Rattle.deinline.specs.Entry.{Entries}
-use Rattle.kept.specs.Sections.{START, CODE, DATAS, DATA_COUNT, SECTIONS}
+use Rattle.kept.specs.Sections.{IMPORT, START, CODE, DATAS, DATA_COUNT, SECTIONS}
 use Rattle.kept.specs.Tally.{tallies, noTally, Slots}
 use Rattle.kept.specs.declared.tally.Tally.{Tally}
 use Rattle.kept.proofs.Tallies.{size-is, count-is}
-use Rattle.module.specs.Length.{Counted, contentLen, sizedLen, sectionLen, lensFrom, countLen, moduleLen, sectionsFrom, countSection, allSections}
-use Rattle.module.proofs.Full.{u-few, good-items}
-use Rattle.module.proofs.Order.{module-is, data-least}
+use Rattle.type_table.specs.Table.{typesIn}
+use Rattle.type_table.proofs.Sizes.{u-few, all-small}
+use Rattle.module.specs.Length.{Counted, contentLen, sizedLen, sectionLen, typesLen, lensFrom, countLen, moduleLen, sectionsFrom, countSection, allSections, typeSection}
+use Rattle.sections.specs.Write.{Typed}
+use Rattle.module.proofs.Full.{u-only}
+use Rattle.module.proofs.Order.{data-least}
 
 -- ## Numbers that saturate
 
@@ -164,21 +168,45 @@ module _ {t : Tally} {es : Entries} (c : Counted t es) where
           let b : sizedLen (length (u m)) ≡ past 0 (length (DATA_COUNT ∷ sized (u m))) = sized-long DATA_COUNT _ (u m) (sym (exact _ (omega (arith, u-few m)))) in
           rw (a, b, past-measured o (length (DATA_COUNT ∷ sized (u m)))) (past-past o _ (length bs) ∙ ap (past o) (sym (length-append (DATA_COUNT ∷ sized (u m)) bs)))
 
-  pub all-long : (named : Bool) → moduleLen named t ≡ past 8 (length (allSections named es))
-  unfolding moduleLen allSections
-  all-long named =
-      let before = sectionsFrom (CODE - 1) 1 es in
+  pub all-long : (named : Bool) (o : ℕ) → o ≤ 2 ^ 63 → lensFrom (SECTIONS - CODE) CODE (past (lensFrom (CODE - IMPORT) IMPORT o t) (countLen named t)) t ≡ past o (length (allSections named es))
+  unfolding allSections
+  all-long named o h =
+      let before = sectionsFrom (CODE - IMPORT) IMPORT es in
       let count = countSection named (length (inSection DATAS es)) in
       let last = sectionsFrom (SECTIONS - CODE) CODE es in
       sections-from (SECTIONS - CODE) CODE _ (omega arith)
-      ∙ rw (sections-from (CODE - 1) 1 8 (omega arith))
-      (count-long named (past 8 (length before)) (past-most 8 (length before) (omega arith))
-      ∙ past-past 8 (length before) (length (count ++ last))
-      ∙ ap (past 8) (sym (length-append before (count ++ last)) ∙ ap length (sym (append-assoc before count last))))
+      ∙ rw (sections-from (CODE - IMPORT) IMPORT o (omega arith))
+      (count-long named (past o (length before)) (past-most o (length before) h)
+      ∙ past-past o (length before) (length (count ++ last))
+      ∙ ap (past o) (sym (length-append before (count ++ last)) ∙ ap length (sym (append-assoc before count last))))
 
--- the module's length
-pub module-long : (t : Tally) (is : List Item) → t ≡ tallies noTally (concatMap entries is) → moduleLen (any namesData is) t ≡ past 0 (length (module′ is))
-module-long t is e = rw (← module-is is)
-    (all-long (record { tally = e; good = good-items is }) (any namesData is)
-    ∙ past-from 8 (length (allSections (any namesData is) (concatMap entries is))) (omega arith)
-    ∙ ap (past 0) (sym (preamble-long (allSections (any namesData is) (concatMap entries is)))))
+-- ## The module
+
+-- a content has the groups of its count at least
+pub content-some : (ts : List FuncType) (t : FuncType) → 1 ≤ length (content 1 (map funcType (t ∷ ts)))
+unfolding content
+content-some ts t = omega (arith, length-append (u (length (map funcType (t ∷ ts)))) (joined (map funcType (t ∷ ts))), u-only (length (map funcType (t ∷ ts))))
+
+-- the section of types, by the size beside them
+pub types-long : (s w : List ℕ) → Typed s w → length s ≤ BYTES → typesLen (getD w SIZE 0) ≡ past 0 (length (typeSection s w))
+unfolding typesLen typeSection typesSize
+types-long s w v h = let small = all-small s w h in go (typesIn s w) (v .size) small
+  where
+    go : (ts : List FuncType) → getD w SIZE 0 ≡ typesSize ts → typesSize ts < 2 ^ 32
+        → (if eqb (getD w SIZE 0) 0 then 0 else sizedLen (getD w SIZE 0)) ≡ past 0 (length (sectionOf 1 (map funcType ts)))
+    go [] e g = rw e (sym (past-none 0))
+    go (t ∷ ts) e g =
+        let z : eqb (getD w SIZE 0) 0 ≡ false = ne-eqb (getD w SIZE 0) 0 (λ x. omega (arith, content-some ts t)) in
+        rw z (sized-long 1 _ (content 1 (map funcType (t ∷ ts))) (e ∙ sym (exact (length (content 1 (map funcType (t ∷ ts)))) (omega arith))))
+
+-- with the tally of the other sections
+pub module-long : (size : ℕ) (named : Bool) (t : Tally) (first : Bytes) (es : Entries) → typesLen size ≡ past 0 (length first) → Counted t es
+    → moduleLen size named t ≡ past 0 (length (preamble ++ (first ++ allSections named es)))
+unfolding moduleLen
+module-long size named t first es e c =
+    let rest = allSections named es in
+    all-long c named (past 8 (typesLen size)) (past-most 8 (typesLen size) (omega arith))
+    ∙ rw (e, past-measured 8 (length first))
+    (past-past 8 (length first) (length rest)
+    ∙ past-from 8 (length first + length rest) (omega arith)
+    ∙ ap (past 0) (sym (preamble-long (first ++ rest) ∙ ap (λ n. 8 + n) (length-append first rest))))

@@ -3,15 +3,16 @@ use Prim.Native.Nat.{ℕ, _+_}
 use mathlib.Core.Path.{_≡_, refl, sym, _∙_}
 use mathlib.Core.Bool.{Bool, false}
 use mathlib.Core.List.{List, [], _∷_, _++_, map}
-use lib.ListN.{drop}
+use lib.ListN.{length, drop}
 use native.Mathlib.Omega.{arith}
 use Rattle.definition.specs.Basic.{Answer, ok, fails, _>>=_, each, concatMap, any}
 use Rattle.definition.specs.Syntax.{Identifier, FuncType, Operand, nothing, label, labels, local, item, items, access, int32, int64, raw, Instr, opens, elses, ends, indirect, plain}
 use Rattle.definition.specs.Syntax.{Own, ownFunc, ownTable, ownMem, ownGlobal, Field, typeF, importF, ownF, exportF, startF, elemF, dataF}
 use Rattle.definition.specs.Syntax.{Imm, Op, Item, typeI}
 use Rattle.definition.specs.Deinline.{Numbered}
+use Rattle.definition.specs.Types.{declared}
 use Rattle.definition.specs.Names.{Namespace, Scope, blocksAfter, immediate, plainOp, instrOp, body, ownItem, resolve, resolveAll}
-use Rattle.definition.specs.Binary.{entries, immNamesData, namesData}
+use Rattle.definition.specs.Binary.{immNamesData, namesData}
 use Rattle.laws.proofs.Interning.{came}
 use Rattle.area.specs.Flags.{dataNamedIn}
 use Rattle.type_table.specs.Table.{typesIn}
@@ -19,7 +20,7 @@ use Rattle.next_record.specs.Uses as Uses
 use Rattle.next_record.specs.Uses.{operandNames}
 use Rattle.walk.specs.Walk.{fieldsIn, ownNames, fieldNames, dataNamed}
 use Rattle.scope.specs.Scope.{scopeIn}
-use Rattle.deinline.specs.Entry.{entriesOf}
+use Rattle.deinline.specs.Entry.{untyped, entriesOf}
 use Rattle.sections.specs.Write.{Writable, keptItems, moduleItems}
 
 -- what follows a step that is accepted, and what is answered
@@ -123,14 +124,14 @@ types-names (i ∷ is) ts = rw (types-names is ts) refl
 
 -- ## The module's items
 
-pub named-items : (declared : ℕ) (s w : List ℕ) → Writable s w → dataNamedIn w ≡ any namesData (moduleItems declared s w)
+pub named-items : (s w : List ℕ) → Writable s w → dataNamedIn w ≡ any namesData (moduleItems s w)
 unfolding moduleItems entriesOf _>>=_
-named-items declared s w v =
+named-items s w v =
     v .left .ahead .named
     ∙ go (resolveAll (scopeIn s w) (fieldsIn s)) refl (v .fine .is)
-    ∙ sym (types-names (keptItems (resolveAll (scopeIn s w) (fieldsIn s))) (drop declared (typesIn s w)))
+    ∙ sym (types-names (keptItems (resolveAll (scopeIn s w) (fieldsIn s))) (drop (length (declared (fieldsIn s))) (typesIn s w)))
   where
-    go : (a : Answer (List Item)) → resolveAll (scopeIn s w) (fieldsIn s) ≡ a → (a >>= λ is. ok (concatMap entries is)) ≡ ok (v .fine .entries)
+    go : (a : Answer (List Item)) → resolveAll (scopeIn s w) (fieldsIn s) ≡ a → (a >>= λ is. ok (concatMap untyped is)) ≡ ok (v .fine .entries)
         → dataNamed (fieldsIn s) ≡ any namesData (keptItems a)
     go (ok is) e d = sym (all-names (scopeIn s w) (fieldsIn s) is e)
     go (fails q) e d = let z : _≡_ {A = ℕ} 0 1 = cc in absurd (omega arith)

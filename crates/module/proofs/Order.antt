@@ -12,7 +12,7 @@ use Rattle.definition.specs.Syntax.{Bytes, Item, typeI, importI, funcI, tableI,
 use Rattle.definition.specs.Binary.{u, sized, entries, inSection, namesData, dataCount, joined, content, sectionOf, section, preamble, sectionNumbers, sections, module′}
 use Rattle.laws.proofs.TypeSection.{section-append}
 use Rattle.deinline.specs.Entry.{Entries}
-use Rattle.kept.specs.Sections.{CODE, DATAS, DATA_COUNT, SECTIONS}
+use Rattle.kept.specs.Sections.{TYPE, IMPORT, CODE, DATAS, DATA_COUNT, SECTIONS}
 use Rattle.module.specs.Length.{Good, sectionsFrom, countSection, allSections}
 
 -- ## The entries of one section among those of items and the data count
@@ -78,20 +78,21 @@ module _ (is : List Item) where
       append-assoc (section own k) (sectionsFrom n (k + 1) own) (concatMap (section (own ++ dataCount is)) ks)
       ∙ rw (run-then n (k + 1) ks (omega arith), section-other k (omega arith)) refl
 
-  sections-are : allSections (any namesData is) own ≡ sections is
-  unfolding allSections sections sectionNumbers
-  sections-are =
-      let before = sectionsFrom (CODE - 1) 1 own in
+  rest-are : allSections (any namesData is) own ≡ concatMap (section (own ++ dataCount is)) (numbers (CODE - IMPORT) IMPORT ++ (DATA_COUNT ∷ CODE ∷ DATAS ∷ []))
+  unfolding allSections
+  rest-are =
+      let before = sectionsFrom (CODE - IMPORT) IMPORT own in
       let last = sectionsFrom (SECTIONS - CODE) CODE own in
       let f = section (own ++ dataCount is) in
       let a : last ≡ concatMap f (CODE ∷ DATAS ∷ []) = unfold concatMap in sym (append-nil last) ∙ run-then (SECTIONS - CODE) CODE [] (omega arith) in
       append-assoc before (countSection (any namesData is) (length (inSection DATAS own))) last
       ∙ ap (λ (z : Bytes). before ++ z) (rw (← section-count, a) (unfold concatMap in refl))
-      ∙ run-then (CODE - 1) 1 (DATA_COUNT ∷ CODE ∷ DATAS ∷ []) (omega arith)
+      ∙ run-then (CODE - IMPORT) IMPORT (DATA_COUNT ∷ CODE ∷ DATAS ∷ []) (omega arith)
 
-  pub module-is : preamble ++ allSections (any namesData is) own ≡ module′ is
-  unfolding module′
-  module-is = ap (λ (z : Bytes). preamble ++ z) sections-are
+  -- after section 1 come the others
+  pub module-is : preamble ++ (section (own ++ dataCount is) TYPE ++ allSections (any namesData is) own) ≡ module′ is
+  unfolding module′ sections sectionNumbers
+  module-is = ap (λ (z : Bytes). preamble ++ (section (own ++ dataCount is) TYPE ++ z)) rest-are ∙ (unfold concatMap in refl)
 
 -- ## Code and data are as long as there are data segments
 

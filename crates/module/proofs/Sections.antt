@@ -1,76 +1,54 @@
 -- A section: its entries, its content, its head; and all of them.
-use Prim.Native.Nat.{ℕ, suc, _+_, _-_, _*_, _^_, _≤_, _<_}
+use Prim.Native.Nat.{ℕ, zero, suc, _+_, _-_, _*_, _^_, _≤_, _<_, min}
 use mathlib.Core.Path.{_≡_, refl, sym, _∙_, ap}
 use mathlib.Core.Bool.{Bool, true, false}
-use mathlib.Core.List.{List, [], _∷_, _++_, map, append-assoc}
-use lib.Dec.{eqb}
-use lib.ListN.{length, drop, getD, length-append}
+use mathlib.Core.List.{List, [], _∷_, _++_, map}
+use lib.ListN.{length, getD, length-append, length-map}
 use native.Mathlib.Decide.{decLe}
 use native.Mathlib.Omega.{arith}
 use borrow.Author.Tests.{eq-eqb, ne-eqb}
-use Rattle.definition.specs.Basic.{Answer, ok, fails, concatMap, _>>=_}
-use Rattle.definition.specs.Syntax.{Bytes, FuncType, Item, typeI}
+use Rattle.definition.specs.Basic.{concatMap, any}
+use Rattle.definition.specs.Syntax.{Bytes, FuncType}
 use Rattle.definition.specs.Names.{resolveAll}
-use Rattle.definition.specs.Binary.{u, sized, funcType, entries, inSection, joined, content, sectionOf, section, preamble, module′}
+use Rattle.definition.specs.Binary.{u, sized, funcType, entries, inSection, namesData, joined, content, sectionOf, section, typesSize, preamble, module′}
 use Rattle.emit.specs.Put.{Put, past}
-use Rattle.emit.proofs.Laws.{put-none, put-then, put-is, put-skip}
+use Rattle.emit.proofs.Laws.{put-none, put-then, put-is}
 use Rattle.binary.proofs.Putting.{Putting, putting-begin, putting-more, putting-done, putting-long}
 use Rattle.area.specs.Flags.{dataNamedIn}
-use Rattle.area.specs.Layout.{DATA_NAMED, LOCALS, TYPES, WORDS}
+use Rattle.area.specs.Layout.{DATA_NAMED, LOCALS, SIZE, TOTAL, TYPES}
 use Rattle.area.specs.Kept.{Kept}
 use Rattle.area.proofs.Flags.{flag-kept}
-use Rattle.area.proofs.Kept.{kept-same, kept-then, kept-less}
+use Rattle.area.proofs.Kept.{kept-same, kept-then, kept-less, kept-word}
 use Rattle.type_table.specs.Table.{typesIn}
+use Rattle.type_table.proofs.Sizes.{types-written}
 use Rattle.walk.specs.Walk.{begin, fieldsIn}
 use Rattle.walk.proofs.Steps.{ahead-kept}
 use Rattle.scope.specs.Scope.{scopeIn}
 use Rattle.deinline.specs.Entry.{Entries, entriesOf}
-use Rattle.kept.specs.Sections.{START, CODE, DATAS, DATA_COUNT, SECTIONS}
+use Rattle.kept.specs.Sections.{TYPE, IMPORT, START, CODE, DATAS, DATA_COUNT, SECTIONS}
 use Rattle.kept.specs.Tally.{tallies, noTally}
-use Rattle.kept.specs.Content.{kept, bytesIn, typeEntries}
+use Rattle.kept.specs.Content.{kept, bytesIn}
 use Rattle.kept.specs.declared.tally.Tally.{Tally}
-use Rattle.laws.proofs.TypeSection.{section-append}
-use Rattle.kept.proofs.Keeping.{joined-append}
-use Rattle.module.specs.Length.{Good, Counted, Supplied, contentLen, moduleLen, sectionsFrom, countSection, allSections}
-use Rattle.sections.specs.Added.{typeBytes}
-use Rattle.sections.specs.Write.{Writes, Writable, Held, Counts, allEntries, addedIn, keptItems, moduleItems}
+use Rattle.module.specs.Length.{Good, Counted, Supplied, contentLen, moduleLen, sectionsFrom, countSection, allSections, typeSection}
+use Rattle.sections.specs.Write.{Writes, Writable, Held, Counts, allEntries, keptItems, moduleItems}
 use Rattle.module.proofs.Full.{good-items}
-use Rattle.module.proofs.Lengths.{size-of, count-of, content-long, module-long}
+use Rattle.module.proofs.Lengths.{past-measured, size-of, count-of, content-long, content-some, types-long, module-long}
 use Rattle.module.proofs.Naming.{named-items}
 use Rattle.module.proofs.Order.{module-is, data-least}
+use Rattle.sections.proofs.Items.{first-section, field-items, others-same, types-count}
 use Rattle.sections.proofs.Emitting.{scope-same, types-same, recalled-same}
-
--- ## The added types
-
-types-first : (ts : List FuncType) → typeBytes ts ≡ joined (inSection 1 (typeEntries ts))
-unfolding typeBytes typeEntries inSection joined concatMap
-types-first [] = refl
-types-first (t ∷ ts) = ap (λ (z : Bytes). funcType t ++ z) (types-first ts)
-
-types-other : (k : ℕ) (ts : List FuncType) → eqb k 1 ≡ false → [] ≡ joined (inSection k (typeEntries ts))
-unfolding typeEntries inSection joined concatMap
-types-other k [] e = refl
-types-other k (t ∷ ts) e = rw e (types-other k ts e)
-
-module _ (k declared : ℕ) (s w old : List ℕ) (at : ℕ) where
-  pub added-put : (r : ℕ) (new : Bytes) → k ≡ 1 → Put old at (typeBytes (drop declared (typesIn s w))) r new → Put old at (addedIn k declared s w) r new
-  unfolding addedIn
-  added-put r new h p = rw h (put-is p (types-first (drop declared (typesIn s w))))
-
-  pub added-none : (k ≡ 1 → ⊥) → length old * 1 < 2 ^ 63 → Put old at (addedIn k declared s w) at old
-  unfolding addedIn
-  added-none h g = put-skip g (types-other k (drop declared (typesIn s w)) (ne-eqb k 1 h))
 
 -- ## The work area
 
 -- all entries are as they were
-pub all-same : (declared : ℕ) (s w w′ : List ℕ) → Kept LOCALS w w′ → allEntries declared s w′ ≡ allEntries declared s w
+pub all-same : (s w w′ : List ℕ) → Kept LOCALS w w′ → allEntries s w′ ≡ allEntries s w
 unfolding allEntries
-all-same declared s w w′ k = rw (scope-same s w w′ k, types-same s w w′ k) refl
+all-same s w w′ k = rw (scope-same s w w′ k) refl
 
 pub writable-same : (s w w′ : List ℕ) → Kept LOCALS w w′ → Writable s w → Writable s w′
 writable-same s w w′ k v =
     let d = scope-same s w w′ k in
+    let e = types-same s w w′ k in
     record {
       left = record {
         stream = v .left .stream;
@@ -78,47 +56,26 @@ writable-same s w w′ k v =
         ahead = ahead-kept s w w′ begin (kept-less TYPES LOCALS (omega arith) k) (v .left .ahead);
         recalled = recalled-same s w w′ _ k (v .left .recalled);
       };
+      typed = record { all = rw e (v .typed .all); size = rw (e, kept-word k SIZE (omega arith)) (v .typed .size) };
       fine = rw d (v .fine);
     }
 
--- a place goes as far by a measure that has saturated
-past-more : (at m n : ℕ) → past at m ≤ past at (past 0 (m + n))
-unfolding past
-past-more at m n = omega arith
-
 -- ## The content
 
-module _ (k declared : ℕ) (s w w′ old : List ℕ) (at : ℕ) where
-  pub area-room : (bs new : Bytes) (a : ℕ) → Writable s w → Writes bs old at a new w w′ → WORDS ≤ length w′
-  area-room bs new a v p = rw (p .area .long) (v .left .room)
+module _ (k : ℕ) (s w w′ old : List ℕ) (at : ℕ) where
+  -- those of the fields
+  pub entries-put : (new : Bytes) (r : ℕ) → Writes (bytesIn k (entriesOf (scopeIn s w) (fieldsIn s))) old at r new w w′ → Writes (joined (inSection k (allEntries s w))) old at r new w w′
+  unfolding allEntries bytesIn
+  entries-put new r p = p
 
-  -- those of the fields, and those of the added types
-  pub entries-put : (mid new : Bytes) (a b : ℕ) → Writes (bytesIn k (entriesOf (scopeIn s w) (fieldsIn s))) old at a mid w w′ → Put mid a (addedIn k declared s w′) b new
-      → Writes (joined (inSection k (allEntries declared s w))) old at b new w w′
-  unfolding allEntries bytesIn addedIn
-  entries-put mid new a b p q =
-      let d = types-same s w w′ (p .area) in
-      let es = kept (entriesOf (scopeIn s w) (fieldsIn s)) in
-      let ts = typeEntries (drop declared (typesIn s w)) in
-      let q′ : Put mid a (joined (inSection k ts)) b new = put-is q (rw d refl) in
-      record {
-        put = put-is (put-then (p .put) q′) (sym (joined-append (inSection k es) (inSection k ts)) ∙ ap joined (sym (section-append k es ts)));
-        area = p .area;
-      }
-
-  -- the fields' entries end where all do, or before
-  pub entries-reach : (size end : ℕ) → size ≡ past 0 (length (joined (inSection k (allEntries declared s w)))) → end ≡ past at size
+  -- they end where all do
+  pub entries-reach : (size end : ℕ) → size ≡ past 0 (length (joined (inSection k (allEntries s w)))) → end ≡ past at size
       → past at (length (bytesIn k (entriesOf (scopeIn s w) (fieldsIn s)))) ≤ end
   unfolding allEntries bytesIn
-  entries-reach size end e d =
-      let es = kept (entriesOf (scopeIn s w) (fieldsIn s)) in
-      let ts = typeEntries (drop declared (typesIn s w)) in
-      let n : length (joined (inSection k (es ++ ts))) ≡ length (joined (inSection k es)) + length (joined (inSection k ts)) =
-      ap (λ z. length (joined z)) (section-append k es ts) ∙ ap length (joined-append (inSection k es) (inSection k ts)) ∙ length-append (joined (inSection k es)) (joined (inSection k ts)) in
-      rw (d, e, n) (past-more at (length (joined (inSection k es))) (length (joined (inSection k ts))))
+  entries-reach size end e d = rw (d, e, past-measured at (length (joined (inSection k (kept (entriesOf (scopeIn s w) (fieldsIn s))))))) (omega arith)
 
-  pub content-start : (r : ℕ) (new : Bytes) → k ≡ START → Writes (joined (inSection k (allEntries declared s w))) old at r new w w′
-      → Writes (content k (inSection k (allEntries declared s w))) old at r new w w′
+  pub content-start : (r : ℕ) (new : Bytes) → k ≡ START → Writes (joined (inSection k (allEntries s w))) old at r new w w′
+      → Writes (content k (inSection k (allEntries s w))) old at r new w w′
   unfolding content
   content-start r new h p = rw (eq-eqb k START h) p
 
@@ -141,12 +98,12 @@ counted-put es {a} {b} {c} {n} {at} {r} {q} s m x y = go (decLe (2 ^ 63) (length
       short = x .short;
     }
 
-module _ (k declared : ℕ) (s w w′ old : List ℕ) (at : ℕ) where
-  pub content-counted : (n r q : ℕ) (mid new : Bytes) → k < SECTIONS → (k ≡ START → ⊥) → Counts n k (allEntries declared s w) → Put old at (u n) r mid
-      → Writes (joined (inSection k (allEntries declared s w))) mid r q new w w′ → Writes (content k (inSection k (allEntries declared s w))) old at q new w w′
+module _ (k : ℕ) (s w w′ old : List ℕ) (at : ℕ) where
+  pub content-counted : (n r q : ℕ) (mid new : Bytes) → k < SECTIONS → (k ≡ START → ⊥) → Counts n k (allEntries s w) → Put old at (u n) r mid
+      → Writes (joined (inSection k (allEntries s w))) mid r q new w w′ → Writes (content k (inSection k (allEntries s w))) old at q new w w′
   unfolding content
   content-counted n r q mid new l h c x p = rw (ne-eqb k START h, ne-eqb k DATA_COUNT (λ z. omega arith)) (record {
-    put = counted-put (inSection k (allEntries declared s w)) (c .few) (c .number) x (p .put);
+    put = counted-put (inSection k (allEntries s w)) (c .few) (c .number) x (p .put);
     area = p .area;
   })
 
@@ -205,39 +162,39 @@ module _ (t : Tally) (es : Entries) (c : Counted t es) (k : ℕ) (h : k < SECTIO
 -- ## All sections
 
 -- those before section k are put
-pub record Sectioning (t : Tally) (declared : ℕ) (kept s w₀ old : List ℕ) (at from to k o : ℕ) (out w : List ℕ) : Type 0 where
-  pub supplied : Supplied t declared kept s w
+pub record Sectioning (t : Tally) (kept s w₀ old : List ℕ) (at from to k o : ℕ) (out w : List ℕ) : Type 0 where
+  pub supplied : Supplied t kept s w
   pub area : Kept LOCALS w₀ w
-  pub put : Putting old at (sectionsFrom (to - from) from (allEntries declared s w₀)) (sectionsFrom (to - k) k (allEntries declared s w)) o out
+  pub put : Putting old at (sectionsFrom (to - from) from (allEntries s w₀)) (sectionsFrom (to - k) k (allEntries s w)) o out
 
-pub sections-begin : (t : Tally) (declared : ℕ) (kept s w old : List ℕ) (at from to : ℕ) → Supplied t declared kept s w → length old * 1 < 2 ^ 63
-    → Sectioning t declared kept s w old at from to from at old w
-sections-begin t declared kept s w old at from to v h = record {
+pub sections-begin : (t : Tally) (kept s w old : List ℕ) (at from to : ℕ) → Supplied t kept s w → length old * 1 < 2 ^ 63
+    → Sectioning t kept s w old at from to from at old w
+sections-begin t kept s w old at from to v h = record {
   supplied = v;
   area = kept-same LOCALS w;
-  put = putting-begin old at (sectionsFrom (to - from) from (allEntries declared s w)) (sectionsFrom (to - from) from (allEntries declared s w)) h refl;
+  put = putting-begin old at (sectionsFrom (to - from) from (allEntries s w)) (sectionsFrom (to - from) from (allEntries s w)) h refl;
 }
 
 -- what the writer has is there still
-supplied-same : (t : Tally) (declared : ℕ) (kept s w w′ : List ℕ) → Kept LOCALS w w′ → Supplied t declared kept s w → Supplied t declared kept s w′
-supplied-same t declared kept s w w′ k v = let z = all-same declared s w w′ k in
+supplied-same : (t : Tally) (kept s w w′ : List ℕ) → Kept LOCALS w w′ → Supplied t kept s w → Supplied t kept s w′
+supplied-same t kept s w w′ k v = let z = all-same s w w′ k in
     record { writable = writable-same s w w′ k (v .writable); held = rw z (v .held); counted = rw z (v .counted) }
 
-module _ (t : Tally) (declared : ℕ) (kept s w₀ old : List ℕ) (at from to k o : ℕ) (out w : List ℕ) (v : Sectioning t declared kept s w₀ old at from to k o out w) where
-  pub sections-again : (r : ℕ) (new w′ : List ℕ) → k < to → Writes (section (allEntries declared s w) k) out o r new w w′
-      → Sectioning t declared kept s w₀ old at from to (k + 1) r new w′
+module _ (t : Tally) (kept s w₀ old : List ℕ) (at from to k o : ℕ) (out w : List ℕ) (v : Sectioning t kept s w₀ old at from to k o out w) where
+  pub sections-again : (r : ℕ) (new w′ : List ℕ) → k < to → Writes (section (allEntries s w) k) out o r new w w′
+      → Sectioning t kept s w₀ old at from to (k + 1) r new w′
   unfolding sectionsFrom
   sections-again r new w′ h p =
       let m : to - k ≡ suc (to - (k + 1)) = omega arith in
-      let z = all-same declared s w w′ (p .area) in
+      let z = all-same s w w′ (p .area) in
       let u = v .put in
       record {
-        supplied = supplied-same t declared kept s w w′ (p .area) (v .supplied);
+        supplied = supplied-same t kept s w w′ (p .area) (v .supplied);
         area = kept-then (v .area) (p .area);
-        put = rw z (putting-more (rw m at u) (section (allEntries declared s w) k) (sectionsFrom (to - (k + 1)) (k + 1) (allEntries declared s w)) r new refl (p .put));
+        put = rw z (putting-more (rw m at u) (section (allEntries s w) k) (sectionsFrom (to - (k + 1)) (k + 1) (allEntries s w)) r new refl (p .put));
       }
 
-  pub sections-done : to ≤ k → Writes (sectionsFrom (to - from) from (allEntries declared s w₀)) old at o out w₀ w
+  pub sections-done : to ≤ k → Writes (sectionsFrom (to - from) from (allEntries s w₀)) old at o out w₀ w
   unfolding sectionsFrom
   sections-done h = let m : to - k ≡ 0 = omega arith in let u = v .put in record { put = putting-done (rw m at u) refl; area = v .area }
 
@@ -285,69 +242,79 @@ count-put named es {a} {b} {c} {d} {before} {n} {at} {p} {r} {q} g m x y z = go 
         }
 
 -- what the second run of sections needs
-pub after-supplied : (t : Tally) (declared : ℕ) (kept s w bs old mid w₁ : List ℕ) (at a : ℕ) → Writes bs old at a mid w w₁ → Supplied t declared kept s w → Supplied t declared kept s w₁
-after-supplied t declared kept s w bs old mid w₁ at a x v = supplied-same t declared kept s w w₁ (x .area) v
+pub after-supplied : (t : Tally) (kept s w bs old mid w₁ : List ℕ) (at a : ℕ) → Writes bs old at a mid w w₁ → Supplied t kept s w → Supplied t kept s w₁
+after-supplied t kept s w bs old mid w₁ at a x v = supplied-same t kept s w w₁ (x .area) v
 
-module _ (t : Tally) (declared : ℕ) (kept s w old : List ℕ) (at a : ℕ) (mid w₁ : List ℕ) (v : Supplied t declared kept s w)
-    (x : Writes (sectionsFrom (CODE - 1) 1 (allEntries declared s w)) old at a mid w w₁) where
+module _ (t : Tally) (kept s w old : List ℕ) (at a : ℕ) (mid w₁ : List ℕ) (v : Supplied t kept s w)
+    (x : Writes (sectionsFrom (CODE - IMPORT) IMPORT (allEntries s w)) old at a mid w w₁) where
   pub all-put : (b q : ℕ) (late new w₂ : List ℕ) → Put mid a (countSection (dataNamedIn w₁) (getD (t .counts) DATAS 0)) b late
-      → Writes (sectionsFrom (SECTIONS - CODE) CODE (allEntries declared s w₁)) late b q new w₁ w₂ → Writes (allSections (dataNamedIn w) (allEntries declared s w)) old at q new w w₂
+      → Writes (sectionsFrom (SECTIONS - CODE) CODE (allEntries s w₁)) late b q new w₁ w₂ → Writes (allSections (dataNamedIn w) (allEntries s w)) old at q new w w₂
   unfolding allSections
   all-put b q late new w₂ y z =
       let c = v .counted in
-      let e = all-same declared s w w₁ (x .area) in
+      let e = all-same s w w₁ (x .area) in
       let f = flag-kept DATA_NAMED (x .area) (omega arith) in
       let p = z .put in
       record {
-        put = count-put (dataNamedIn w) (allEntries declared s w) (c .good) (count-of c DATAS (omega arith)) (x .put) (rw f at y) (rw e at p);
+        put = count-put (dataNamedIn w) (allEntries s w) (c .good) (count-of c DATAS (omega arith)) (x .put) (rw f at y) (rw e at p);
         area = kept-then (x .area) (z .area);
       }
 
+-- ## The section of types
+
+module _ (s w : List ℕ) (size : ℕ) (is : size ≡ getD w SIZE 0) (v : Writable s w) (old : Bytes) (at : ℕ) where
+  -- without types
+  pub types-none : size ≡ 0 → length old * 1 < 2 ^ 63 → Put old at (typeSection s w) at old
+  unfolding typeSection typesSize
+  types-none z g = go (typesIn s w) (sym is ∙ z) (v .typed .size)
+    where
+      go : (ts : List FuncType) → getD w SIZE 0 ≡ 0 → getD w SIZE 0 ≡ typesSize ts → Put old at (sectionOf 1 (map funcType ts)) at old
+      go [] d e = put-none at (omega arith)
+      go (t ∷ ts) d e = absurd (omega (arith, content-some ts t))
+
+  pub types-put : (n a b r : ℕ) (one two new : Bytes) → (size ≡ 0 → ⊥) → n ≡ min (getD w TOTAL 0) 256
+      → Put old at (1 ∷ u size) a one → Put one a (u n) b two → Put two b (joined (map funcType (typesIn s w))) r new → Put old at (typeSection s w) r new
+  unfolding typeSection typesSize content
+  types-put n a b r one two new z d x y q = go (typesIn s w) (is ∙ v .typed .size) (d ∙ sym (types-count s w)) q
+    where
+      go : (ts : List FuncType) → size ≡ typesSize ts → n ≡ length ts → Put two b (joined (map funcType ts)) r new → Put old at (sectionOf 1 (map funcType ts)) r new
+      go [] e l q = absurd (z e)
+      go (t ∷ ts) e l q =
+          let f : length (map funcType (t ∷ ts)) ≡ n = length-map (t ∷ ts) funcType ∙ sym l in
+          put-is (put-then x (put-then y q)) (rw (types-written t ts, e, f) refl)
+
 -- ## The module
 
-concat-append : (is js : List Item) → concatMap entries (is ++ js) ≡ concatMap entries is ++ concatMap entries js
-unfolding concatMap
-concat-append [] js = refl
-concat-append (i ∷ is) js = ap (λ (z : Entries). entries i ++ z) (concat-append is js) ∙ sym (append-assoc (entries i) (concatMap entries is) (concatMap entries js))
+-- sections that have the same entries
+sections-same : (left k : ℕ) (es fs : Entries) → 2 ≤ k → ((j : ℕ) → (j ≡ 1 → ⊥) → inSection j es ≡ inSection j fs) → sectionsFrom left k es ≡ sectionsFrom left k fs
+unfolding sectionsFrom section
+sections-same zero k es fs h f = refl
+sections-same (suc left) k es fs h f = rw (f k (λ e. omega arith), sections-same left (k + 1) es fs (omega arith) f) refl
 
-type-items : (ts : List FuncType) → concatMap entries (map typeI ts) ≡ typeEntries ts
-unfolding concatMap entries typeEntries
-type-items [] = refl
-type-items (t ∷ ts) = ap (λ (z : Entries). (1, funcType t) ∷ z) (type-items ts)
+all-same-sections : (named : Bool) (es fs : Entries) → ((j : ℕ) → (j ≡ TYPE → ⊥) → inSection j es ≡ inSection j fs) → allSections named es ≡ allSections named fs
+unfolding allSections
+all-same-sections named es fs f = rw (sections-same (CODE - IMPORT) IMPORT es fs (omega arith) f, f DATAS (λ e. omega arith), sections-same (SECTIONS - CODE) CODE es fs (omega arith) f) refl
 
-field-items : (declared : ℕ) (s w : List ℕ) → kept (entriesOf (scopeIn s w) (fieldsIn s)) ≡ concatMap entries (keptItems (resolveAll (scopeIn s w) (fieldsIn s)))
-unfolding entriesOf _>>=_
-field-items declared s w = go (resolveAll (scopeIn s w) (fieldsIn s))
-  where
-    go : (a : Answer (List Item)) → kept (a >>= λ is. ok (concatMap entries is)) ≡ concatMap entries (keptItems a)
-    go (ok is) = refl
-    go (fails q) = unfold concatMap in refl
+-- the section of types, and those that the fields' entries make
+module-parts : (s w : List ℕ) → Writable s w → preamble ++ (typeSection s w ++ allSections (dataNamedIn w) (allEntries s w)) ≡ module′ (moduleItems s w)
+unfolding typeSection
+module-parts s w v =
+    let is = moduleItems s w in
+    rw (named-items s w v, ← first-section s w v, ← all-same-sections (any namesData is) (concatMap entries is) (allEntries s w) (others-same s w))
+    (module-is is)
 
--- all entries are those of the module's items
-pub items-are : (declared : ℕ) (s w : List ℕ) → allEntries declared s w ≡ concatMap entries (moduleItems declared s w)
-unfolding allEntries moduleItems
-items-are declared s w =
-    let ts = drop declared (typesIn s w) in
-    ap (λ (z : Entries). z ++ typeEntries ts) (field-items declared s w)
-    ∙ ap (λ (z : Entries). concatMap entries (keptItems (resolveAll (scopeIn s w) (fieldsIn s))) ++ z) (sym (type-items ts))
-    ∙ sym (concat-append (keptItems (resolveAll (scopeIn s w) (fieldsIn s))) (map typeI ts))
+counted-all : (t : Tally) (s w : List ℕ) → t ≡ tallies noTally (allEntries s w) → Counted t (allEntries s w)
+counted-all t s w e = record { tally = e; good = rw (field-items s w) (good-items (keptItems (resolveAll (scopeIn s w) (fieldsIn s)))) }
 
-pub supplied-all : (t : Tally) (declared : ℕ) (kept s w : List ℕ) → Writable s w → Held kept (allEntries declared s w) → t ≡ tallies noTally (allEntries declared s w)
-    → Supplied t declared kept s w
-supplied-all t declared kept s w v h e = record {
-  writable = v;
-  held = h;
-  counted = record { tally = e; good = rw (items-are declared s w) (good-items (moduleItems declared s w)) };
-}
+pub supplied-all : (t : Tally) (kept s w : List ℕ) → Writable s w → Held kept (allEntries s w) → t ≡ tallies noTally (allEntries s w) → Supplied t kept s w
+supplied-all t kept s w v h e = record { writable = v; held = h; counted = counted-all t s w e }
 
-pub module-put : (declared : ℕ) (s w w′ old mid new : List ℕ) (a q : ℕ) → Writable s w → Put old 0 preamble a mid
-    → Writes (allSections (dataNamedIn w) (allEntries declared s w)) mid a q new w w′ → Writes (module′ (moduleItems declared s w)) old 0 q new w w′
-module-put declared s w w′ old mid new a q v x p = record {
-  put = put-is (put-then x (p .put)) (rw (named-items declared s w v, items-are declared s w) (module-is (moduleItems declared s w)));
-  area = p .area;
-}
+pub module-put : (s w w′ old one two new : List ℕ) (a b q : ℕ) → Writable s w → Put old 0 preamble a one → Put one a (typeSection s w) b two
+    → Writes (allSections (dataNamedIn w) (allEntries s w)) two b q new w w′ → Writes (module′ (moduleItems s w)) old 0 q new w w′
+module-put s w w′ old one two new a b q v x y p = record { put = put-is (put-then x (put-then y (p .put))) (module-parts s w v); area = p .area }
 
--- what the tally says of the module's length
-pub module-len-is : (t : Tally) (declared : ℕ) (s w : List ℕ) → Writable s w → t ≡ tallies noTally (allEntries declared s w)
-    → moduleLen (dataNamedIn w) t ≡ past 0 (length (module′ (moduleItems declared s w)))
-module-len-is t declared s w v e = rw (named-items declared s w v) (module-long t (moduleItems declared s w) (rw (← items-are declared s w) e))
+-- what the size beside the types and the tally say of the module's length
+pub module-len-is : (t : Tally) (s w : List ℕ) → Writable s w → t ≡ tallies noTally (allEntries s w) → moduleLen (getD w SIZE 0) (dataNamedIn w) t ≡ past 0 (length (module′ (moduleItems s w)))
+module-len-is t s w v e =
+    module-long (getD w SIZE 0) (dataNamedIn w) t (typeSection s w) (allEntries s w) (types-long s w (v .typed) (v .left .stream)) (counted-all t s w e)
+    ∙ ap (λ (z : Bytes). past 0 (length z)) (module-parts s w v)

@@ -1,9 +1,11 @@
-// How long the module is, by the tally of its sections' entries. Lengths saturate, as places do.
+// How long the module is, by the size beside the types and by the tally of the other sections' entries. Lengths saturate, as places do.
 use kept::Tally;
 ghost use mathlib.Core.Path.{_≡_};
 ghost use Prim.Native.Nat.{_-_, _≤_, _<_};
+ghost use lib.ListN.{getD};
 ghost use Rattle.area.specs.Flags.{dataNamedIn};
-ghost use Rattle.module.specs.Length.{contentLen, sizedLen, sectionLen, lensFrom, countLen, moduleLen};
+ghost use Rattle.area.specs.Layout.{SIZE};
+ghost use Rattle.module.specs.Length.{contentLen, sizedLen, sectionLen, typesLen, lensFrom, countLen, moduleLen};
 ghost use Rattle.kept.specs.Sections.{SECTIONS};
 
 // The start section holds no count.
@@ -64,11 +66,23 @@ fn count_len(t: Tally, work: &[u32]) -> usize
     0
 }
 
+// The section of types, whose content has this size: none where there are no types.
+fn types_len(size: usize) -> usize
+    ensures { λ r. ⌜ r ≡ typesLen size ⌝ }
+{
+    if size == 0 {
+        return 0;
+    }
+    sized_len(size)
+}
+
 // The preamble and all sections: the data count stands before code and data.
 pub fn module_len(t: Tally, work: &[u32]) -> usize
-    ensures { λ r. ⌜ r ≡ moduleLen (dataNamedIn (now (work .entry))) t ⌝ }
+    ensures { λ r. ⌜ r ≡ moduleLen (getD (now (work .entry)) SIZE 0) (dataNamedIn (now (work .entry))) t ⌝ }
 {
-    let a = sections_len(t, 1, kept::CODE, 8);
-    let b = emit::tally(a, count_len(t, work));
-    sections_len(t, kept::CODE, kept::DATA_COUNT, b)
+    let size = area::word(work, area::SIZE) as usize;
+    let a = emit::tally(8, types_len(size));
+    let b = sections_len(t, kept::IMPORT, kept::CODE, a);
+    let c = emit::tally(b, count_len(t, work));
+    sections_len(t, kept::CODE, kept::DATA_COUNT, c)
 }

@@ -1,4 +1,4 @@
-// The bytes of the module. `declared` is the number of types that fields declare, and `t` the tally of all entries.
+// The bytes of the module. `t` is the tally of the entries of all sections but the first, whose size stands beside the types.
 use crate::length::content_len;
 use kept::Tally;
 use sections::emit_fields;
@@ -8,13 +8,12 @@ ghost use mathlib.Core.List.{_∷_};
 ghost use Prim.Native.Nat.{_-_, _≤_, _<_};
 ghost use lib.ListN.{length, getD};
 ghost use Rattle.area.specs.Flags.{dataNamedIn};
-ghost use Rattle.area.specs.Layout.{WORDS};
 ghost use Rattle.definition.specs.Binary as Binary;
 ghost use Rattle.emit.specs.Put.{Put, past};
 ghost use Rattle.kept.specs.Sections.{DATAS, SECTIONS};
 ghost use Rattle.kept.specs.Tally.{tallies, noTally};
-ghost use Rattle.module.specs.Length.{Supplied, sectionsFrom, countSection, allSections};
-ghost use Rattle.sections.specs.Write.{Writes, Writable, Held, Counts, allEntries, addedIn, moduleItems};
+ghost use Rattle.module.specs.Length.{Supplied, sectionsFrom, countSection, allSections, typeSection};
+ghost use Rattle.sections.specs.Write.{Writes, Writable, Held, Counts, allEntries, moduleItems};
 
 // The magic and the version.
 fn put_preamble(out: &mut [u8], at: usize) -> usize
@@ -23,54 +22,33 @@ fn put_preamble(out: &mut [u8], at: usize) -> usize
     emit::copy(out, at, b"\0asm\x01\0\0\0")
 }
 
-// The added types are entries of section 1.
-fn put_added(k: u8, declared: u32, s: &[u8], work: &[u32], out: &mut [u8], at: usize) -> usize
-    requires { ⌜ WORDS ≤ length (now work) ⌝ }
-    ensures { λ r. ⌜ Put (now (out .entry)) at (addedIn k declared (now (s .entry)) (now (work .entry))) r (now (out .exit)) ⌝ }
-{
-    if k == 1 {
-        return put_types(s, work, out, at, declared);
-    }
-    at
-}
-
 // All entries of a section, `size` bytes, resolved once more.
-fn put_again(
-    k: u8,
-    size: usize,
-    declared: u32,
-    s: &[u8],
-    work: &mut [u32],
-    out: &mut [u8],
-    at: usize,
-) -> usize
-    requires { ⌜ Writable (now s) (now work) × (size ≡ past 0 (length (Binary.joined (Binary.inSection k (allEntries declared (now s) (now work)))))) ⌝ }
-    ensures { λ r. ⌜ Writes (Binary.joined (Binary.inSection k (allEntries declared (now (s .entry)) (now (work .entry))))) (now (out .entry)) at r (now (out .exit)) (now (work .entry)) (now (work .exit)) ⌝ }
+fn put_again(k: u8, size: usize, s: &[u8], work: &mut [u32], out: &mut [u8], at: usize) -> usize
+    requires { ⌜ Writable (now s) (now work) × (size ≡ past 0 (length (Binary.joined (Binary.inSection k (allEntries (now s) (now work)))))) ⌝ }
+    ensures { λ r. ⌜ Writes (Binary.joined (Binary.inSection k (allEntries (now (s .entry)) (now (work .entry))))) (now (out .entry)) at r (now (out .exit)) (now (work .entry)) (now (work .exit)) ⌝ }
 {
-    let a = emit_fields(s, work, out, at, k, emit::tally(at, size));
-    put_added(k, declared, s, work, out, a)
+    emit_fields(s, work, out, at, k, emit::tally(at, size))
 }
 
 // All entries of a section, `size` bytes: those that were kept, if all of them had room in their part.
 fn put_entries(
     k: u8,
     size: usize,
-    declared: u32,
     kept: &[u8],
     s: &[u8],
     work: &mut [u32],
     out: &mut [u8],
     at: usize,
 ) -> usize
-    requires { ⌜ (k < SECTIONS) × Writable (now s) (now work) × Held (now kept) (allEntries declared (now s) (now work)) × (size ≡ past 0 (length (Binary.joined (Binary.inSection k (allEntries declared (now s) (now work)))))) ⌝ }
-    ensures { λ r. ⌜ Writes (Binary.joined (Binary.inSection k (allEntries declared (now (s .entry)) (now (work .entry))))) (now (out .entry)) at r (now (out .exit)) (now (work .entry)) (now (work .exit)) ⌝ }
+    requires { ⌜ (k < SECTIONS) × Writable (now s) (now work) × Held (now kept) (allEntries (now s) (now work)) × (size ≡ past 0 (length (Binary.joined (Binary.inSection k (allEntries (now s) (now work)))))) ⌝ }
+    ensures { λ r. ⌜ Writes (Binary.joined (Binary.inSection k (allEntries (now (s .entry)) (now (work .entry))))) (now (out .entry)) at r (now (out .exit)) (now (work .entry)) (now (work .exit)) ⌝ }
 {
     let a = kept::start_of(kept.len(), k);
     let b = kept::start_of(kept.len(), k + 1);
     if size <= b - a {
         return emit::copy(out, at, &kept[a..a + size]);
     }
-    put_again(k, size, declared, s, work, out, at)
+    put_again(k, size, s, work, out, at)
 }
 
 // The start section holds no count.
@@ -78,21 +56,20 @@ fn put_content(
     k: u8,
     size: usize,
     count: u64,
-    declared: u32,
     kept: &[u8],
     s: &[u8],
     work: &mut [u32],
     out: &mut [u8],
     at: usize,
 ) -> usize
-    requires { ⌜ (k < SECTIONS) × Writable (now s) (now work) × Held (now kept) (allEntries declared (now s) (now work)) × (size ≡ past 0 (length (Binary.joined (Binary.inSection k (allEntries declared (now s) (now work)))))) × Counts count k (allEntries declared (now s) (now work)) ⌝ }
-    ensures { λ r. ⌜ Writes (Binary.content k (Binary.inSection k (allEntries declared (now (s .entry)) (now (work .entry))))) (now (out .entry)) at r (now (out .exit)) (now (work .entry)) (now (work .exit)) ⌝ }
+    requires { ⌜ (k < SECTIONS) × Writable (now s) (now work) × Held (now kept) (allEntries (now s) (now work)) × (size ≡ past 0 (length (Binary.joined (Binary.inSection k (allEntries (now s) (now work)))))) × Counts count k (allEntries (now s) (now work)) ⌝ }
+    ensures { λ r. ⌜ Writes (Binary.content k (Binary.inSection k (allEntries (now (s .entry)) (now (work .entry))))) (now (out .entry)) at r (now (out .exit)) (now (work .entry)) (now (work .exit)) ⌝ }
 {
     if k == kept::START {
-        return put_entries(k, size, declared, kept, s, work, out, at);
+        return put_entries(k, size, kept, s, work, out, at);
     }
     let a = leb::put_u(out, at, count);
-    put_entries(k, size, declared, kept, s, work, out, a)
+    put_entries(k, size, kept, s, work, out, a)
 }
 
 // A section's number and the length of its content.
@@ -107,15 +84,14 @@ pub fn put_head(k: u8, n: usize, out: &mut [u8], at: usize) -> usize
 fn put_section(
     k: u8,
     t: Tally,
-    declared: u32,
     kept: &[u8],
     s: &[u8],
     work: &mut [u32],
     out: &mut [u8],
     at: usize,
 ) -> usize
-    requires { ⌜ (k < SECTIONS) × Supplied t declared (now kept) (now s) (now work) ⌝ }
-    ensures { λ r. ⌜ Writes (Binary.section (allEntries declared (now (s .entry)) (now (work .entry))) k) (now (out .entry)) at r (now (out .exit)) (now (work .entry)) (now (work .exit)) ⌝ }
+    requires { ⌜ (k < SECTIONS) × Supplied t (now kept) (now s) (now work) ⌝ }
+    ensures { λ r. ⌜ Writes (Binary.section (allEntries (now (s .entry)) (now (work .entry))) k) (now (out .entry)) at r (now (out .exit)) (now (work .entry)) (now (work .exit)) ⌝ }
 {
     let i = k as usize;
     let sizes = t.sizes;
@@ -127,7 +103,21 @@ fn put_section(
     let size = sizes[i] as usize;
     let n = content_len(k, size, count);
     let a = put_head(k, n, out, at);
-    put_content(k, size, count, declared, kept, s, work, out, a)
+    put_content(k, size, count, kept, s, work, out, a)
+}
+
+// The section of types: the size beside them, how many there are, and the types. Without types it is omitted.
+fn put_type_section(s: &[u8], work: &[u32], out: &mut [u8], at: usize) -> usize
+    requires { ⌜ Writable (now s) (now work) ⌝ }
+    ensures { λ r. ⌜ Put (now (out .entry)) at (typeSection (now (s .entry)) (now (work .entry))) r (now (out .exit)) ⌝ }
+{
+    let size = area::word(work, area::SIZE) as usize;
+    if size == 0 {
+        return at;
+    }
+    let a = put_head(kept::TYPE, size, out, at);
+    let b = leb::put_u(out, a, type_table::total(work) as u64);
+    put_types(s, work, out, b)
 }
 
 // The sections from one to before another.
@@ -135,20 +125,19 @@ fn put_sections(
     from: u8,
     to: u8,
     t: Tally,
-    declared: u32,
     kept: &[u8],
     s: &[u8],
     work: &mut [u32],
     out: &mut [u8],
     at: usize,
 ) -> usize
-    requires { ⌜ (to ≤ SECTIONS) × Supplied t declared (now kept) (now s) (now work) ⌝ }
-    ensures { λ r. ⌜ Writes (sectionsFrom (to - from) from (allEntries declared (now (s .entry)) (now (work .entry)))) (now (out .entry)) at r (now (out .exit)) (now (work .entry)) (now (work .exit)) ⌝ }
+    requires { ⌜ (to ≤ SECTIONS) × Supplied t (now kept) (now s) (now work) ⌝ }
+    ensures { λ r. ⌜ Writes (sectionsFrom (to - from) from (allEntries (now (s .entry)) (now (work .entry)))) (now (out .entry)) at r (now (out .exit)) (now (work .entry)) (now (work .exit)) ⌝ }
 {
     let mut o = at;
     let mut k = from;
     while k < to {
-        o = put_section(k, t, declared, kept, s, work, out, o);
+        o = put_section(k, t, kept, s, work, out, o);
         k += 1;
     }
     o
@@ -167,46 +156,22 @@ fn put_count(t: Tally, work: &[u32], out: &mut [u8], at: usize) -> usize
     at
 }
 
-// All sections in their order: the data count stands before code and data.
-fn put_all(
-    t: Tally,
-    declared: u32,
-    kept: &[u8],
-    s: &[u8],
-    work: &mut [u32],
-    out: &mut [u8],
-    at: usize,
-) -> usize
-    requires { ⌜ Supplied t declared (now kept) (now s) (now work) ⌝ }
-    ensures { λ r. ⌜ Writes (allSections (dataNamedIn (now (work .entry))) (allEntries declared (now (s .entry)) (now (work .entry)))) (now (out .entry)) at r (now (out .exit)) (now (work .entry)) (now (work .exit)) ⌝ }
+// The sections after that of types: the data count stands before code and data.
+fn put_all(t: Tally, kept: &[u8], s: &[u8], work: &mut [u32], out: &mut [u8], at: usize) -> usize
+    requires { ⌜ Supplied t (now kept) (now s) (now work) ⌝ }
+    ensures { λ r. ⌜ Writes (allSections (dataNamedIn (now (work .entry))) (allEntries (now (s .entry)) (now (work .entry)))) (now (out .entry)) at r (now (out .exit)) (now (work .entry)) (now (work .exit)) ⌝ }
 {
-    let a = put_sections(1, kept::CODE, t, declared, kept, s, work, out, at);
+    let a = put_sections(kept::IMPORT, kept::CODE, t, kept, s, work, out, at);
     let b = put_count(t, work, out, a);
-    put_sections(
-        kept::CODE,
-        kept::DATA_COUNT,
-        t,
-        declared,
-        kept,
-        s,
-        work,
-        out,
-        b,
-    )
+    put_sections(kept::CODE, kept::DATA_COUNT, t, kept, s, work, out, b)
 }
 
 // The module, from the first byte on.
-pub fn put_module(
-    t: Tally,
-    declared: u32,
-    kept: &[u8],
-    s: &[u8],
-    work: &mut [u32],
-    out: &mut [u8],
-) -> usize
-    requires { ⌜ Writable (now s) (now work) × Held (now kept) (allEntries declared (now s) (now work)) × (t ≡ tallies noTally (allEntries declared (now s) (now work))) ⌝ }
-    ensures { λ r. ⌜ Writes (Binary.module′ (moduleItems declared (now (s .entry)) (now (work .entry)))) (now (out .entry)) 0 r (now (out .exit)) (now (work .entry)) (now (work .exit)) ⌝ }
+pub fn put_module(t: Tally, kept: &[u8], s: &[u8], work: &mut [u32], out: &mut [u8]) -> usize
+    requires { ⌜ Writable (now s) (now work) × Held (now kept) (allEntries (now s) (now work)) × (t ≡ tallies noTally (allEntries (now s) (now work))) ⌝ }
+    ensures { λ r. ⌜ Writes (Binary.module′ (moduleItems (now (s .entry)) (now (work .entry)))) (now (out .entry)) 0 r (now (out .exit)) (now (work .entry)) (now (work .exit)) ⌝ }
 {
     let a = put_preamble(out, 0);
-    put_all(t, declared, kept, s, work, out, a)
+    let b = put_type_section(s, work, out, a);
+    put_all(t, kept, s, work, out, b)
 }

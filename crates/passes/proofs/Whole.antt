@@ -8,24 +8,24 @@ use lib.ListN.{length, getD}
 use native.Mathlib.Omega.{arith}
 use Rattle.syntax.specs.Refusals.{refusalOf}
 use Rattle.syntax.specs.declared.Refusal.{Refusal}
-use Rattle.area.specs.Layout.{BYTES, TYPES, WORDS, STRICT, DECLARED}
+use Rattle.area.specs.Layout.{BYTES, WORDS, STRICT, DECLARED}
 use Rattle.definition.specs.Basic as Basic
 use Rattle.definition.specs.Basic.{if_then_else_, refusal, Answer, ok, fails, refused, _>>=_, sameBytes}
 use Rattle.definition.specs.Syntax.{Bytes, Identifier, Rec, Item, FuncType}
 use Rattle.definition.specs.Read.{read}
 use Rattle.definition.specs.Deinline.{Numbered, importOrder, deinline}
-use Rattle.definition.specs.Types.{uses, allTypes, declared}
+use Rattle.definition.specs.Types.{uses, allTypes}
 use Rattle.definition.specs.Names.{Items, Scope, space, definers, register}
 use Rattle.definition.specs.Binary.{module′}
 use Rattle.definition.specs.Assemble.{scope, itemsIn, items, resolved, fitting, Maker, moduleIn, namedModuleIn}
 use Rattle.definition.specs.Assemble.{refusing, say, sayRead, assembleBy}
+use Rattle.laws.proofs.Interning.{came}
 use Rattle.laws.proofs.Passes.{scope-then}
 use Rattle.laws.specs.Steps.{total}
 use Rattle.stream.specs.Pass.{reading, counted, Reads}
 use Rattle.stream.specs.declared.pass.Count.{Count}
 use Rattle.stream.specs.declared.pass.Count.the-variants as C
-use Rattle.type_table.specs.Table.{typeTable, typesIn, Recalled}
-use Rattle.type_table.proofs.Types.{table-length}
+use Rattle.type_table.specs.Table.{typesIn, Recalled}
 use Rattle.walk.specs.Walk.{begin, fieldsIn, Ahead}
 use Rattle.walk.proofs.Steps.{ahead-kept, ahead-below}
 use Rattle.passes.proofs.Join.{fields-in}
@@ -37,7 +37,7 @@ use Rattle.survey.specs.declared.Surveyed.the-variants as S
 use Rattle.scope.specs.Scope.{scopeIn}
 use Rattle.kept.specs.declared.tally.Verdict.{Verdict}
 use Rattle.kept.specs.declared.tally.Verdict.the-variants as V′
-use Rattle.sections.specs.Write.{moduleItems}
+use Rattle.sections.specs.Write.{Typed, moduleItems}
 use Rattle.passes.specs.Passes.{Found, fromNames, fromTypes, fromFields, PassesBy, Passes}
 use Rattle.passes.specs.Passes.{makes, writes, saidBy, ReadyBy, Prepares}
 use Rattle.passes.specs.declared.Passed.{Passed}
@@ -71,6 +71,11 @@ module _ (s w : List ℕ) (q : Surveyed) (w₁ : List ℕ) (h : Surveys s w q w�
     pub survey-recalled : Recalled w₁ (typesIn s w₁) (uses (fieldsIn s))
     survey-recalled = stands .recalled
 
+    -- the order of imports was fine, so the types are those of the definition
+    pub survey-typed : Typed s w₁
+    unfolding typesAfterOrder
+    survey-typed = record { all = came (importOrder (fieldsIn s)) (λ _. allTypes (fieldsIn s)) (typesIn s w₁) (stands .all) .2; size = stands .size }
+
     scope-is : _≡_ {A = Scope Identifier} (record { strict = strictIn w; eq = sameBytes; names = λ k. space k (stands .items); definers = λ k. definers k (stands .items); allTypes = typesIn s w₁ }) (scopeIn s w₁)
     unfolding scopeIn
     scope-is = let k = sym (flag-kept STRICT (stands .kept) (omega arith)) in λ i. record { strict = k i; eq = sameBytes; names = λ k. stands .tables .each k i; definers = λ k. stands .tables .made k i; allTypes = typesIn s w₁ }
@@ -86,10 +91,6 @@ module _ (s w : List ℕ) (q : Surveyed) (w₁ : List ℕ) (h : Surveys s w q w�
       refuses _ count s w p w₁ b r (falls-then (typesAfterOrder (fieldsIn s)) (register sameBytes [] (fieldsIn s)) _ (refusalOf r) (g .says)) v (g .long))
 
 -- ## The declared types
-
--- as many as are in the table
-pub table-count : (s w : List ℕ) (d : ℕ) → typeTable d s w TYPES ≡ declared (fieldsIn s) → d ≡ length (declared (fieldsIn s))
-table-count s w d e = sym (table-length d s w TYPES) ∙ ap length e
 
 module _ (s w : List ℕ) (d : ℕ) (w₁ : List ℕ) (h : DeclaredAll s w d w₁) where
   pub declared-long : WORDS ≤ length w → WORDS ≤ length w₁
@@ -203,7 +204,7 @@ module _ (strict : Bool) (s w : List ℕ) (q : Count) (w₁ : List ℕ) (h : Rea
 
       ends : (names : Bool) (room : ℕ) (v : Verdict) → PassesBy v (fromFields strict (fieldsIn s)) n s p w₂ b
           → say n (fromFields strict (fieldsIn s) >>= λ x. fitting room n (writes names (fieldsIn s) x))
-          ≡ saidBy v (p .count) room (writes names (fieldsIn s) (scopeIn s w₂, moduleItems (p .declared) s w₂))
+          ≡ saidBy v (p .count) room (writes names (fieldsIn s) (scopeIn s w₂, moduleItems s w₂))
       ends names room V′.Fine z = let f = z .found in let c = z .records in rw (f, c) refl
       ends names room (V′.Refused r) z = rw z refl
 

@@ -40,12 +40,12 @@ fromFields strict fs = typesAfterOrder fs >>= λ ts. fromTypes strict fs ts
 -- what a writer asks for: the items as the work area has them, their tally, and the bytes of their entries that were kept
 pub record Prepared (s : List ℕ) (p : Passed) (w kept : List ℕ) : Type 0 where
   pub writable : Writable s w
-  pub tally : p .tally ≡ tallies noTally (allEntries (p .declared) s w)
-  pub held : Held kept (allEntries (p .declared) s w)
+  pub tally : p .tally ≡ tallies noTally (allEntries s w)
+  pub held : Held kept (allEntries s w)
 
 -- the work area has what was found
 pub record Holds (a : Answer Found) (count : ℕ) (s : List ℕ) (p : Passed) (w kept : List ℕ) : Type 0 where
-  pub found : a ≡ ok (scopeIn s w, moduleItems (p .declared) s w)
+  pub found : a ≡ ok (scopeIn s w, moduleItems s w)
   pub records : p .count ≡ count
   pub ready : Prepared s p w kept
 
@@ -81,6 +81,6 @@ ReadyBy (V′.Refused q) s p w kept = Unit {0}
 -- all passes: what is left of any call is its writer
 pub record Prepares (strict : Bool) (s w : List ℕ) (p : Passed) (w′ kept : List ℕ) : Type 0 where
   pub says : (names : Bool) (room : ℕ) → assembleBy (makes strict names) s (length w) room
-      ≡ saidBy (p .verdict) (p .count) room (writes names (fieldsIn s) (scopeIn s w′, moduleItems (p .declared) s w′))
+      ≡ saidBy (p .verdict) (p .count) room (writes names (fieldsIn s) (scopeIn s w′, moduleItems s w′))
   pub ready : ReadyBy (p .verdict) s p w′ kept
   pub long : length w′ ≡ length w

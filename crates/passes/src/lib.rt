@@ -14,12 +14,12 @@ ghost use Rattle.definition.specs.Types as Types;
 ghost use Rattle.type_table.specs.Table.{typeTable, typesIn, Indexed, Recalled};
 ghost use Rattle.walk.specs.Walk.{Ahead, begin, fieldsIn};
 ghost use Rattle.scope.specs.Scope.{scopeIn};
+ghost use Rattle.sections.specs.Write.{Typed};
 ghost use Rattle.passes.specs.Passes.{Passes, Prepares, fromNames, fromFields};
 
-// What the passes leave for a writer, beside the kept bytes: how many records and declared types there are and how large the sections are; or their refusal.
+// What the passes leave for a writer, beside the kept bytes: how many records there are and how large the sections are; or their refusal.
 pub struct Passed {
     pub count: u32,
-    pub declared: u32,
     pub tally: Tally,
     pub verdict: Verdict,
 }
@@ -33,30 +33,25 @@ fn refuse(q: Refusal) -> Passed
     };
     Passed {
         count: 0,
-        declared: 0,
         tally,
         verdict: Verdict::Refused(q),
     }
 }
 
 // The fields, resolved in order.
-fn resolve(s: &[u8], work: &mut [u32], kept: &mut [u8], count: u32, declared: u32) -> Passed
-    requires { ⌜ Lent (now s) (now work) × Ahead (now s) (now work) begin × Recalled (now work) (typesIn (now s) (now work)) (Types.uses (fieldsIn (now s))) × (declared ≡ length (Types.declared (fieldsIn (now s)))) ⌝ }
+fn resolve(s: &[u8], work: &mut [u32], kept: &mut [u8], count: u32) -> Passed
+    requires { ⌜ Lent (now s) (now work) × Ahead (now s) (now work) begin × Recalled (now work) (typesIn (now s) (now work)) (Types.uses (fieldsIn (now s))) × Typed (now s) (now work) ⌝ }
     ensures { λ r. ⌜ Passes (fromNames (fieldsIn (now (s .entry))) (scopeIn (now (s .entry)) (now (work .entry)))) count (now (s .entry)) (now (work .entry)) r (now (work .exit)) (now (kept .exit)) ⌝ }
 {
     let r = resolve::check_fields(s, work, kept);
     let tally = r.tally;
     let v = r.verdict;
     match v {
-        Verdict::Fine => {
-            let tally = sections::keep_types(s, work, kept, declared, tally);
-            Passed {
-                count,
-                declared,
-                tally,
-                verdict: Verdict::Fine,
-            }
-        }
+        Verdict::Fine => Passed {
+            count,
+            tally,
+            verdict: Verdict::Fine,
+        },
         Verdict::Refused(q) => refuse(q),
     }
 }
@@ -67,7 +62,7 @@ fn intern(s: &[u8], work: &mut [u32], kept: &mut [u8], count: u32, declared: u32
     ensures { λ r. ⌜ Passes (fromFields (strictIn (now (work .entry))) (fieldsIn (now (s .entry)))) count (now (s .entry)) (now (work .entry)) r (now (work .exit)) (now (kept .exit)) ⌝ }
 {
     match survey::survey_all(s, work, declared) {
-        Surveyed::Done => resolve(s, work, kept, count, declared),
+        Surveyed::Done => resolve(s, work, kept, count),
         Surveyed::Refused(q) => refuse(q),
     }
 }

@@ -34,7 +34,7 @@ use Rattle.kept.specs.declared.tally.Tally.{Tally}
 use Rattle.kept.specs.declared.tally.Verdict.{Verdict}
 use Rattle.kept.specs.declared.tally.Verdict.the-variants as V′
 use Rattle.kept.specs.declared.tally.Checked.{Checked}
-use Rattle.kept.proofs.Tallies.{tallies-append, tallies-slots}
+use Rattle.kept.proofs.Tallies.{tallies-append}
 use Rattle.kept.proofs.Keeping.{reached-is, keeps-none, keeps-one, keeps-then}
 use Rattle.kept.proofs.Emitting.{section-below}
 
@@ -77,9 +77,6 @@ module _ (a b : Answer Entries) (t : Tally) (old mid new : Bytes) where
 pub refused-first : (a b : Answer Entries) (r : Refusal) → a ≡ refusedBy r → both a b ≡ refusedBy r
 unfolding both
 refused-first a b r e = rw e refl
-
-pub tallied-slots : {a : Answer Entries} {t t′ : Tally} {old new : Bytes} → Tallied a t old t′ new → Slots t → Slots t′
-tallied-slots {t = t} x w = rw (x .tally) (tallies-slots t (x .entries) w)
 
 -- ## What the code answers
 
@@ -135,7 +132,6 @@ ready-kept s w w′ r e k h = record { recalled = recalled-scope s w w′ (usesO
 -- only nothing has no section
 nothing-is : (e : Entry) → sectionNo e ≡ 0 → e ≡ E.Nothing
 nothing-is E.Nothing d = refl
-nothing-is (E.Type ps rs) d = absurd (omega arith)
 nothing-is (E.Import n x) d = absurd (omega arith)
 nothing-is (E.Func t) d = absurd (omega arith)
 nothing-is (E.Table t) d = absurd (omega arith)

@@ -1,3 +1,4 @@
 pub mod Tables
+pub mod Items
 pub mod Emitting
 pub mod Fields

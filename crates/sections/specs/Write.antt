@@ -2,14 +2,14 @@
 use Prim.Native.Nat.{ℕ, _≤_, _<_}
 use mathlib.Core.Path.{_≡_}
 use mathlib.Core.List.{List, [], _++_, map}
-use lib.ListN.{length, drop}
+use lib.ListN.{length, drop, getD}
 use Rattle.definition.specs.Basic.{Answer, ok, fails, refused}
 use Rattle.definition.specs.Syntax.{Bytes, Identifier, Item, typeI}
 use Rattle.definition.specs.Names.{resolveAll, Scope}
-use Rattle.definition.specs.Types.{uses}
-use Rattle.definition.specs.Binary.{inSection, joined}
+use Rattle.definition.specs.Types.{declared, uses, allTypes}
+use Rattle.definition.specs.Binary.{inSection, joined, typesSize}
 use Rattle.emit.specs.Put.{Put, past}
-use Rattle.area.specs.Layout.{BYTES, LOCALS, WORDS}
+use Rattle.area.specs.Layout.{BYTES, LOCALS, SIZE, WORDS}
 use Rattle.area.specs.Kept.{Kept}
 use Rattle.type_table.specs.Table.{typesIn, Recalled}
 use Rattle.walk.specs.Walk.{fieldsIn}
@@ -18,7 +18,7 @@ use Rattle.deinline.specs.Entry.{Entries, usesOf, HeadIn, WholeIn, entryIn, ent
 use Rattle.deinline.specs.Surveyed.{Surveyed}
 use Rattle.syntax.specs.declared.Entry.{Entry}
 use Rattle.kept.specs.Tally.{noTally, Keeps}
-use Rattle.kept.specs.Content.{Fine, kept, typeEntries}
+use Rattle.kept.specs.Content.{Fine, kept}
 
 -- bytes were put, and what the passes before have left in the work area stayed
 pub record Writes (bs old : Bytes) (at r : ℕ) (new : Bytes) (w w′ : List ℕ) : Type 0 where
@@ -41,23 +41,25 @@ pub record EmittableThree (s w : List ℕ) (r : ℕ) (x : Three) : Type 0 where
   pub second : Emittable s w r (x .second)
   pub third : Emittable s w r (x .third)
 
--- and for all fields
+-- the table has all types, and the size beside them is that of their section's content
+pub record Typed (s w : List ℕ) : Type 0 where
+  pub all : allTypes (fieldsIn s) ≡ ok (typesIn s w)
+  pub size : getD w SIZE 0 ≡ typesSize (typesIn s w)
+
+-- all fields, and all types
 pub record Writable (s w : List ℕ) : Type 0 where
   pub left : Surveyed s w
+  pub typed : Typed s w
   pub fine : Fine (entriesOf (scopeIn s w) (fieldsIn s))
 
--- all entries: those of the fields, and the added types after them
-unfoldable pub allEntries : ℕ → List ℕ → List ℕ → Entries
-allEntries declared s w = kept (entriesOf (scopeIn s w) (fieldsIn s)) ++ typeEntries (drop declared (typesIn s w))
+-- the entries of all fields, in which no type has one
+unfoldable pub allEntries : List ℕ → List ℕ → Entries
+allEntries s w = kept (entriesOf (scopeIn s w) (fieldsIn s))
 
 -- the kept bytes are those of the entries, whatever there was before
 pub record Held (new : Bytes) (es : Entries) : Type 0 where
   pub old : Bytes
   pub keeps : Keeps old noTally es new
-
--- the bytes of section k among the added types
-unfoldable pub addedIn : ℕ → ℕ → List ℕ → List ℕ → Bytes
-addedIn k declared s w = joined (inSection k (typeEntries (drop declared (typesIn s w))))
 
 -- the number of entries of section k, of which none is empty
 pub record Counts (n k : ℕ) (es : Entries) : Type 0 where
@@ -70,5 +72,5 @@ keptItems (ok is) = is
 keptItems (fails q) = []
 
 -- the items of the module: the added types come last
-unfoldable pub moduleItems : ℕ → List ℕ → List ℕ → List Item
-moduleItems declared s w = keptItems (resolveAll (scopeIn s w) (fieldsIn s)) ++ map typeI (drop declared (typesIn s w))
+unfoldable pub moduleItems : List ℕ → List ℕ → List Item
+moduleItems s w = keptItems (resolveAll (scopeIn s w) (fieldsIn s)) ++ map typeI (drop (length (declared (fieldsIn s))) (typesIn s w))

@@ -1,7 +1,6 @@
-// The entries of one section: those of the fields, and the types that uses have added.
-pub mod added;
+// The entries of one section: those of the fields, and of section 1 the types of the table.
 pub mod contents;
+pub mod types;
 
-pub use added::keep_types;
-pub use added::put_types;
 pub use contents::emit_fields;
+pub use types::put_types;

@@ -17,7 +17,7 @@ use Rattle.definition.specs.Types.{bodyUses, uses, declared, intern, allTypes}
 use Rattle.definition.specs.Names.{register}
 use Rattle.syntax.specs.Refusals.{refusal, refusedBy}
 use Rattle.syntax.specs.declared.Refusal.{Refusal}
-use Rattle.area.specs.Layout.{BYTES, NAMED, NAMES, TOTAL, TYPES, WORDS}
+use Rattle.area.specs.Layout.{BYTES, NAMED, NAMES, SIZE, TOTAL, TYPES, WORDS}
 use Rattle.syntax.specs.Fields.{fieldOf}
 use Rattle.syntax.specs.declared.Field.{Field}
 use Rattle.area.specs.Kept.{Kept}
@@ -81,6 +81,7 @@ surveys-since s w₀ w Y.Done w′ k x = record {
   all = x .all;
   recalled = x .recalled;
   few = x .few;
+  size = x .size;
   items = x .items;
   says = x .says;
   tables = x .tables;
@@ -265,6 +266,7 @@ module _ (s w₀ w : List ℕ) (c : Cursor) (late : Bool) (k : ℕ) (v : Surveyi
         recalled = rw (word, few, table) (recalled-kept TOTAL (typeTable k s w TYPES) (uses (fieldsIn s)) (omega arith) both
             (known-recalled w (typeTable k s w TYPES) (uses (fieldsIn s)) (knowing-done s c m told w k is (opened v .knowing))));
         few = rw word (v .indexed .few);
+        size = rw (word, few, table, kept-word both SIZE (omega arith)) (v .indexed .size);
         items = g .items;
         says = registering-done s w₁ c g m told is;
         tables = counted-tables s w₁ c g far w₂ e;

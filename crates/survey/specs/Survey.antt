@@ -11,9 +11,10 @@ use Rattle.definition.specs.Read.{fieldBody}
 use Rattle.definition.specs.Deinline.{Numbered, importsFrom, importOrder}
 use Rattle.definition.specs.Types.{uses, intern, allTypes}
 use Rattle.definition.specs.Names.{Items, register}
+use Rattle.definition.specs.Binary.{typesSize}
 use Rattle.syntax.specs.Refusals.{refusal, refusedBy}
 use Rattle.syntax.specs.declared.Refusal.{Refusal}
-use Rattle.area.specs.Layout.{TOTAL, TYPES}
+use Rattle.area.specs.Layout.{SIZE, TOTAL, TYPES}
 use Rattle.syntax.specs.Fields.{fieldOf}
 use Rattle.syntax.specs.declared.Field.{Field}
 use Rattle.area.specs.Kept.{Kept}
@@ -40,11 +41,12 @@ use Rattle.survey.specs.declared.Surveyed.the-variants as Y
 unfoldable pub typesAfterOrder : Numbered Identifier → Answer (List FuncType)
 typesAfterOrder fs = importOrder fs >>= λ _. allTypes fs
 
--- all types and names are in the work area
+-- all types and names are in the work area, and beside the types the size of their section's content
 pub record Stands (s w w′ : List ℕ) : Type 0 where
   pub all : typesAfterOrder (fieldsIn s) ≡ ok (typesIn s w′)
   pub recalled : Recalled w′ (typesIn s w′) (uses (fieldsIn s))
   pub few : getD w′ TOTAL 0 ≤ 256
+  pub size : getD w′ SIZE 0 ≡ typesSize (typesIn s w′)
   pub items : Items Identifier
   pub says : register sameBytes [] (fieldsIn s) ≡ ok items
   pub tables : Tables s w′ items

@@ -461,10 +461,10 @@ pub enum BlockType {
     Typed(TypeNo),
 }
 
-// Entries of one section. The inline forms have the number of their item.
+// Entries of one section; the types of section 1 are not among them, since the table of types has them. The inline forms have the number of
+// their item.
 pub enum Entry {
     Nothing,
-    Type(List, List),
     Import(ImportName, Extern),
     Func(TypeUse),
     Table(TableType),

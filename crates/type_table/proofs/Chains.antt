@@ -15,31 +15,42 @@ use Rattle.definition.specs.Syntax.{Bytes, FuncType}
 use Rattle.definition.specs.Types.{sameType, typeAt}
 use Rattle.laws.proofs.Equal.{same-eq, and-true}
 use Rattle.laws.proofs.Interning.{first-kept, same-type-itself}
-use Rattle.area.specs.Layout.{HASHES, HEADS, LINKS, TYPES, USES}
+use mir.Syntax.{w32}
+use mir.Val.{Fits}
+use Rattle.definition.specs.Binary.{typesSize}
+use Rattle.area.specs.Layout.{BYTES, HASHES, HEADS, LINKS, SIZE, TYPES, USES}
 use Rattle.area.specs.Kept.{Kept}
 use Rattle.area.proofs.Kept.{kept-same, kept-set, kept-then, kept-less, kept-word}
 use Rattle.type_table.specs.Hash.{BUCKETS, HALF, bucketOf, hashOf}
 use Rattle.syntax.specs.declared.List as Code
 use Rattle.syntax.specs.declared.TypeUse.{TypeUse}
-use Rattle.type_table.specs.Table.{ofUse, typesOf, signatureOf, entryIn, typeTable, numberOf, typeWords, linkAfter, hashIs, isType, onChain, Indexed, hashWords, chainWords, Inside, Emptied, Both, Fresh, Adds}
+use Rattle.type_table.specs.Table.{ofUse, typesOf, signatureOf, entryIn, typeTable, numberOf, typeWords, linkAfter, hashIs, isType, onChain, Indexed, hashWords, chainWords, Inside, HeadsEmptied, Emptied, Both, Fresh, Again, Adds}
+use Rattle.type_table.specs.Size.{hashed, more, signatureSize, sizeWords}
 use Rattle.type_table.specs.declared.entry.Signature.{Signature}
+use Rattle.type_table.specs.declared.index.Hashed.{Hashed}
 use Rattle.type_table.specs.declared.list.NextBoth.{NextBoth}
 use Rattle.type_table.specs.declared.list.NextBoth.the-variants as B
 use Rattle.type_table.specs.declared.table.TypeFound.{TypeFound}
 use Rattle.type_table.specs.declared.table.TypeFound.the-variants as T
 use Rattle.type_table.proofs.Entries.{same-not, same-results, inside-same, inside-set, inside-then, inside-above, entry-kept, type-inside, type-written}
 use Rattle.type_table.proofs.Lists.{InStep, in-step-differ, in-step-end}
+use Rattle.type_table.proofs.Sizes.{added-size, size-fits}
 use Rattle.type_table.proofs.Types.{table-length, table-kept, table-more, new-number}
 
 -- nothing was found
-pub none-found : (s w : List ℕ) (count : ℕ) (x : Signature) (h : ℕ) (q : TypeFound) → Indexed s w count → h ≡ hashOf (signatureOf s x)
+pub none-found : (s w : List ℕ) (count : ℕ) (x : Signature) (h : Hashed) (q : TypeFound) → Indexed s w count → h ≡ hashed (signatureOf s x)
     → typeAt (signatureOf s x) (typeTable count s w TYPES) ≡ numberOf q → q ≡ T.Nothing → Fresh s w count x h
-none-found s w count x h q v is e d = record { indexed = v; hash = is; missing = e ∙ ap numberOf d }
+none-found s w count x h q v is e d = record { indexed = v; walked = is; missing = e ∙ ap numberOf d }
 
 -- of a use
-pub none-used : (s w : List ℕ) (count : ℕ) (t : TypeUse) (x : Signature) (h : ℕ) (q : TypeFound) → x ≡ ofUse t → Indexed s w count → h ≡ hashOf (signatureOf s x)
+pub none-used : (s w : List ℕ) (count : ℕ) (t : TypeUse) (x : Signature) (h : Hashed) (q : TypeFound) → x ≡ ofUse t → Indexed s w count → h ≡ hashed (signatureOf s x)
     → typeAt (signatureOf s x) (typeTable count s w TYPES) ≡ numberOf q → q ≡ T.Nothing → Fresh s w count (ofUse t) h
 none-used s w count t x h q of v is e d = rw (← of) (none-found s w count x h q v is e d)
+
+-- an equal type was found
+pub some-found : (s w : List ℕ) (count : ℕ) (x : Signature) (h : Hashed) (q : TypeFound) (n : ℕ) → Indexed s w count → h ≡ hashed (signatureOf s x)
+    → typeAt (signatureOf s x) (typeTable count s w TYPES) ≡ numberOf q → q ≡ T.Number n → Again s w count x h
+some-found s w count x h q n v is e d = record { indexed = v; walked = is; number = n; found = e ∙ ap numberOf d }
 
 -- ## The words of the index
 
@@ -191,9 +202,18 @@ chain-kept (suc k) count s w w′ x link h u =
       chain-kept k count s w w′ x link (omega arith) u,
     )
 
--- words after the index do not matter
-pub index-kept : (n : ℕ) (s : Bytes) {w w′ : List ℕ} (count : ℕ) → USES ≤ n → Kept n w w′ → Indexed s w count → Indexed s w′ count
-index-kept n s {w} {w′} count h k v =
+-- the index alone
+record Chained (s : Bytes) (w : List ℕ) (count : ℕ) : Type 0 where
+  few : count ≤ 256
+  low : (b : ℕ) → b < BUCKETS → getD w (HEADS + b) 0 ≤ count
+  each : (x : FuncType) → typeAt x (typeTable count s w TYPES) ≡ onChain count s w x (getD w (HEADS + bucketOf (hashOf x)) 0)
+
+chained-of : {s w : List ℕ} {count : ℕ} → Indexed s w count → Chained s w count
+chained-of v = record { few = v .few; low = v .low; each = v .each }
+
+-- words after the index do not matter to it
+chained-kept : (n : ℕ) (s : Bytes) {w w′ : List ℕ} (count : ℕ) → SIZE ≤ n → Kept n w w′ → Chained s w count → Chained s w′ count
+chained-kept n s {w} {w′} count h k v =
     let f = v .few in
     record {
       few = f;
@@ -207,10 +227,22 @@ index-kept n s {w} {w′} count h k v =
           })));
     }
 
+-- nor to the size beside it
+pub index-kept : (n : ℕ) (s : Bytes) {w w′ : List ℕ} (count : ℕ) → USES ≤ n → Kept n w w′ → Indexed s w count → Indexed s w′ count
+index-kept n s {w} {w′} count h k v =
+    let f = v .few in
+    let c = chained-kept n s {w = w} {w′ = w′} count (omega arith) k (chained-of v) in
+    record {
+      few = f;
+      low = c .low;
+      each = c .each;
+      size = rw (kept-word k SIZE (omega arith), table-kept count s {w = w} {w′ = w′} TYPES n (omega arith) k) (v .size);
+    }
+
 -- no type yet
 pub index-none : (s w w′ : List ℕ) → Emptied w w′ → Indexed s w′ 0
-unfolding onChain typeTable typeAt firstAt
-index-none s w w′ v = record { few = omega arith; low = λ b l. rw (v .none b l) (omega arith); each = λ x. refl }
+unfolding onChain typeTable typeAt firstAt typesSize
+index-none s w w′ v = record { few = omega arith; low = λ b l. rw (v .heads .none b l) (omega arith); each = λ x. refl; size = v .size }
 
 -- ## One more type
 
@@ -245,6 +277,13 @@ chain-before count s w w′ x link h u =
     let c : count + 1 ≡ suc count = omega arith in
     rw (c, ne-eqb link (suc count) (λ e. omega arith)) (chain-kept count count s w w′ x link (omega arith) u)
 
+-- a type was added to the table and to the index, and the size stayed
+record Listed (s : Bytes) (w : List ℕ) (count : ℕ) (x : Signature) (w′ : List ℕ) : Type 0 where
+  types : typeTable (count + 1) s w′ TYPES ≡ typeTable count s w TYPES ++ (signatureOf s x ∷ [])
+  chained : Chained s w′ (count + 1)
+  inside : Inside (TYPES + 5 * count) USES w w′
+  size : getD w′ SIZE 0 ≡ getD w SIZE 0
+
 module _ (s w : List ℕ) (count : ℕ) (x : Signature) (few : count < 256) (long : USES ≤ length w) where
   abbrev new : FuncType
   new = signatureOf s x
@@ -259,10 +298,7 @@ module _ (s w : List ℕ) (count : ℕ) (x : Signature) (few : count < 256) (lon
   written-inside = type-inside s w (TYPES + 5 * count) x (TYPES + 5 * count) HEADS (omega arith) (omega arith)
 
   -- an equal type is there: chains stay as they are
-  module _ (v : Indexed s w count) (w′ : List ℕ) (is : w′ ≡ written) (q : TypeFound) (told : typeAt new old ≡ numberOf q) (n : ℕ) (number : q ≡ T.Number n) where
-    found : typeAt new old ≡ some n
-    found = told ∙ ap numberOf number
-
+  module _ (v : Chained s w count) (w′ : List ℕ) (is : w′ ≡ written) (n : ℕ) (found : typeAt new old ≡ some n) where
     again-unmoved : Unmoved count w written
     again-unmoved = record {
       kept = written-inside .kept;
@@ -279,58 +315,57 @@ module _ (s w : List ℕ) (count : ℕ) (x : Signature) (few : count < 256) (lon
         go true e = let d = same-one y new e in rw d (type-again new old n found ∙ sym found)
         go false e = type-miss y new old e
 
-    pub add-again : Adds s w count x w′
-    add-again = rw is (record {
+    again-listed : Listed s w count x w′
+    again-listed = rw is (record {
       types = table-more s w count x (omega arith);
-      indexed = record {
+      chained = record {
         few = omega arith;
         low = λ b l. let h = v .low b l in rw (inside-above written-inside (HEADS + b) (omega arith)) (omega arith);
         each = λ y. rw (table-more s w count x (omega arith)) (again-each y);
       };
       inside = type-inside s w (TYPES + 5 * count) x (TYPES + 5 * count) USES (omega arith) (omega arith);
+      size = inside-above written-inside SIZE (omega arith);
     })
 
   -- no equal type is there: it stands before the others of its bucket
-  module _ (h : ℕ) (fresh : Fresh s w count x h) (w₁ w₂ w₃ : List ℕ) (first : w₁ ≡ written) (second : w₂ ≡ hashWords w₁ count h) (third : w₃ ≡ chainWords w₂ count h) where
-    abbrev v : Indexed s w count
-    v = fresh .indexed
-
+  module _ (v : Chained s w count) (missing : typeAt new old ≡ none) (h : ℕ) (is : h ≡ hashOf new) (w₁ w₂ w₃ : List ℕ)
+      (first : w₁ ≡ written) (second : w₂ ≡ hashWords w₁ count h) (third : w₃ ≡ chainWords w₂ count h) where
     abbrev half : List ℕ
     half = set written (HASHES + 2 * count) (hashOf new % HALF)
 
-    abbrev hashed : List ℕ
-    hashed = hashWords written count (hashOf new)
+    abbrev spread : List ℕ
+    spread = hashWords written count (hashOf new)
 
     abbrev head : ℕ
     head = HEADS + bucketOf (hashOf new)
 
     abbrev linked : List ℕ
-    linked = set hashed (LINKS + count) (getD hashed head 0)
+    linked = set spread (LINKS + count) (getD spread head 0)
 
     abbrev chained : List ℕ
-    chained = chainWords hashed count (hashOf new)
+    chained = chainWords spread count (hashOf new)
 
-    hash-other : (i : ℕ) → (i ≡ HASHES + 2 * count → ⊥) → (i ≡ HASHES + 2 * count + 1 → ⊥) → getD hashed i 0 ≡ getD written i 0
+    hash-other : (i : ℕ) → (i ≡ HASHES + 2 * count → ⊥) → (i ≡ HASHES + 2 * count + 1 → ⊥) → getD spread i 0 ≡ getD written i 0
     unfolding hashWords
     hash-other i f g = getD-set-other half (HASHES + 2 * count + 1) i (hashOf new / HALF) 0 g ∙ getD-set-other written (HASHES + 2 * count) i (hashOf new % HALF) 0 f
 
-    chain-other : (i : ℕ) → (i ≡ head → ⊥) → (i ≡ LINKS + count → ⊥) → getD chained i 0 ≡ getD hashed i 0
+    chain-other : (i : ℕ) → (i ≡ head → ⊥) → (i ≡ LINKS + count → ⊥) → getD chained i 0 ≡ getD spread i 0
     unfolding chainWords
-    chain-other i f g = getD-set-other linked head i (count + 1) 0 f ∙ getD-set-other hashed (LINKS + count) i (getD hashed head 0) 0 g
+    chain-other i f g = getD-set-other linked head i (count + 1) 0 f ∙ getD-set-other spread (LINKS + count) i (getD spread head 0) 0 g
 
     added-inside : Inside (TYPES + 5 * count) USES w chained
     unfolding hashWords chainWords
     added-inside =
         inside-then (type-inside s w (TYPES + 5 * count) x (TYPES + 5 * count) USES (omega arith) (omega arith))
         (inside-then (inside-then (inside-set _ _ (HASHES + 2 * count) (hashOf new % HALF) written (omega arith) (omega arith)) (inside-set _ _ (HASHES + 2 * count + 1) (hashOf new / HALF) half (omega arith) (omega arith)))
-        (inside-then (inside-set _ _ (LINKS + count) (getD hashed head 0) hashed (omega arith) (omega arith)) (inside-set _ _ head (count + 1) linked (omega arith) (omega arith))))
+        (inside-then (inside-set _ _ (LINKS + count) (getD spread head 0) spread (omega arith) (omega arith)) (inside-set _ _ head (count + 1) linked (omega arith) (omega arith))))
 
     -- the words of the entry are not among those of the index
     entry-same : Kept HEADS written chained
     unfolding hashWords chainWords
     entry-same =
         kept-then (kept-then (kept-set HEADS (HASHES + 2 * count) (hashOf new % HALF) written (omega arith)) (kept-set HEADS (HASHES + 2 * count + 1) (hashOf new / HALF) half (omega arith)))
-        (kept-then (kept-set HEADS (LINKS + count) (getD hashed head 0) hashed (omega arith)) (kept-set HEADS head (count + 1) linked (omega arith)))
+        (kept-then (kept-set HEADS (LINKS + count) (getD spread head 0) spread (omega arith)) (kept-set HEADS head (count + 1) linked (omega arith)))
 
     added-types : typeTable (count + 1) s chained TYPES ≡ old ++ (new ∷ [])
     added-types = table-kept (count + 1) s TYPES HEADS (omega arith) entry-same ∙ table-more s w count x (omega arith)
@@ -353,21 +388,21 @@ module _ (s w : List ℕ) (count : ℕ) (x : Signature) (few : count < 256) (lon
     half-long : length half ≡ length w
     half-long = length-set written (HASHES + 2 * count) (hashOf new % HALF) ∙ written-long
 
-    hashed-long : length hashed ≡ length w
+    spread-long : length spread ≡ length w
     unfolding hashWords
-    hashed-long = length-set half (HASHES + 2 * count + 1) (hashOf new / HALF) ∙ half-long
+    spread-long = length-set half (HASHES + 2 * count + 1) (hashOf new / HALF) ∙ half-long
 
     head-new : getD chained head 0 ≡ count + 1
     unfolding chainWords
-    head-new = let l : length linked ≡ length w = length-set hashed (LINKS + count) (getD hashed head 0) ∙ hashed-long in getD-set-same linked head (count + 1) 0 (omega arith)
+    head-new = let l : length linked ≡ length w = length-set spread (LINKS + count) (getD spread head 0) ∙ spread-long in getD-set-same linked head (count + 1) 0 (omega arith)
 
     -- after it come those that were there
     link-new : linkAfter chained count ≡ getD w head 0
     unfolding chainWords
     link-new =
-        let l = hashed-long in
+        let l = spread-long in
         let e : getD chained (LINKS + count) 0 ≡ getD w head 0 =
-        getD-set-other linked head (LINKS + count) (count + 1) 0 (λ e. omega arith) ∙ getD-set-same hashed (LINKS + count) (getD hashed head 0) 0 (omega arith)
+        getD-set-other linked head (LINKS + count) (count + 1) 0 (λ e. omega arith) ∙ getD-set-same spread (LINKS + count) (getD spread head 0) 0 (omega arith)
         ∙ hash-other head (λ e. omega arith) (λ e. omega arith) ∙ inside-above written-inside head (omega arith) in
         let m = v .low (bucketOf (hashOf new)) (omega arith) in
         omega arith
@@ -408,7 +443,7 @@ module _ (s w : List ℕ) (count : ℕ) (x : Signature) (few : count < 256) (lon
         go : (b : Bool) → sameType y new ≡ b → typeAt y (old ++ (new ∷ [])) ≡ onChain (count + 1) s chained y (getD chained (HEADS + bucketOf (hashOf y)) 0)
         go true e =
             let d = same-one y new e in
-            rw (d, head-new) (new-number old new (fresh .missing) ∙ ap some (table-length count s w TYPES) ∙ sym (at-head new ∙ rw (hash-new, same-type-itself new)))
+            rw (d, head-new) (new-number old new missing ∙ ap some (table-length count s w TYPES) ∙ sym (at-head new ∙ rw (hash-new, same-type-itself new)))
         go false e = type-miss y new old e ∙ v .each y ∙ sym (bucket (eqb (bucketOf (hashOf y)) (bucketOf (hashOf new))) refl)
           where
             bucket : (b : Bool) → eqb (bucketOf (hashOf y)) (bucketOf (hashOf new)) ≡ b
@@ -424,16 +459,80 @@ module _ (s w : List ℕ) (count : ℕ) (x : Signature) (few : count < 256) (lon
     head-low b l true f = let d = eqb-true b (bucketOf (hashOf new)) f in rw (d, head-new) (omega arith)
     head-low b l false f = let m = v .low b l in rw (head-other b l (eqb-false b (bucketOf (hashOf new)) f)) (omega arith)
 
-    pub add-new : Adds s w count x w₃
-    add-new = rw (third, second, first, fresh .hash) (record {
+    new-listed : Listed s w count x w₃
+    new-listed = rw (third, second, first, is) (record {
       types = added-types;
-      indexed = record {
+      chained = record {
         few = omega arith;
         low = λ b l. head-low b l (eqb b (bucketOf (hashOf new))) refl;
         each = λ y. rw added-types (added-each y);
       };
       inside = added-inside;
+      size = chain-other SIZE (λ e. omega arith) (λ e. omega arith) ∙ hash-other SIZE (λ e. omega arith) (λ e. omega arith) ∙ inside-above written-inside SIZE (omega arith);
     })
+
+-- ## With its size
+
+module _ (s w : List ℕ) (count : ℕ) (x : Signature) (h : Hashed) (short : length s ≤ BYTES) (few : count < 256) (long : USES ≤ length w)
+    (v : Indexed s w count) (walked : h ≡ hashed (signatureOf s x)) (w₀ : List ℕ) (sized : w₀ ≡ sizeWords w count h) where
+  size-kept : Kept SIZE w w₀
+  unfolding sizeWords
+  size-kept = rw sized (kept-set SIZE SIZE (getD w SIZE 0 + more count + signatureSize h) w (omega arith))
+
+  size-inside : Inside (TYPES + 5 * count) USES w w₀
+  unfolding sizeWords
+  size-inside = rw sized (inside-set (TYPES + 5 * count) USES SIZE (getD w SIZE 0 + more count + signatureSize h) w (omega arith) (omega arith))
+
+  size-long : USES ≤ length w₀
+  size-long = rw (size-kept .long) long
+
+  same-table : typeTable count s w₀ TYPES ≡ typeTable count s w TYPES
+  same-table = table-kept count s {w = w} {w′ = w₀} TYPES SIZE (omega arith) size-kept
+
+  same-chained : Chained s w₀ count
+  same-chained = chained-kept SIZE s {w = w} {w′ = w₀} count (omega arith) size-kept (chained-of v)
+
+  -- the size is that of the types with the new one
+  size-told : getD w₀ SIZE 0 ≡ typesSize (typeTable count s w TYPES ++ (signatureOf s x ∷ []))
+  unfolding sizeWords
+  size-told = rw sized (getD-set-same w SIZE (getD w SIZE 0 + more count + signatureSize h) 0 (omega arith)) ∙ added-size s w count x h walked short v few
+
+  adds : (w′ : List ℕ) → Listed s w₀ count x w′ → Adds s w count x w′
+  adds w′ l =
+      let e : typeTable (count + 1) s w′ TYPES ≡ typeTable count s w TYPES ++ (signatureOf s x ∷ []) = l .types ∙ rw same-table refl in
+      record {
+        types = e;
+        indexed = record { few = l .chained .few; low = l .chained .low; each = l .chained .each; size = l .size ∙ size-told ∙ ap typesSize (sym e) };
+        inside = inside-then size-inside (l .inside);
+      }
+
+-- a type that is equal to none
+pub add-new : (s w : List ℕ) (count : ℕ) (x : Signature) (h : Hashed) → length s ≤ BYTES → count < 256 → USES ≤ length w → Fresh s w count x h
+    → (w₀ w₁ w₂ w₃ : List ℕ) → w₀ ≡ sizeWords w count h → w₁ ≡ typeWords s w₀ (TYPES + 5 * count) x → w₂ ≡ hashWords w₁ count (h .hash) → w₃ ≡ chainWords w₂ count (h .hash)
+    → Adds s w count x w₃
+add-new s w count x h short few long f w₀ w₁ w₂ w₃ a b c d =
+    let v = f .indexed in
+    let k = f .walked in
+    adds s w count x h short few long v k w₀ a w₃
+    (new-listed s w₀ count x few (size-long s w count x h short few long v k w₀ a) (same-chained s w count x h short few long v k w₀ a)
+    (rw (same-table s w count x h short few long v k w₀ a) (f .missing)) (h .hash) (ap (λ (z : Hashed). z .hash) k) w₁ w₂ w₃ b c d)
+
+-- one that is equal to another
+pub add-again : (s w : List ℕ) (count : ℕ) (x : Signature) (h : Hashed) → length s ≤ BYTES → count < 256 → USES ≤ length w → Again s w count x h
+    → (w₀ w₁ : List ℕ) → w₀ ≡ sizeWords w count h → w₁ ≡ typeWords s w₀ (TYPES + 5 * count) x → Adds s w count x w₁
+add-again s w count x h short few long f w₀ w₁ a b =
+    let v = f .indexed in
+    let k = f .walked in
+    adds s w count x h short few long v k w₀ a w₁
+    (again-listed s w₀ count x few (size-long s w count x h short few long v k w₀ a) (same-chained s w count x h short few long v k w₀ a) w₁ b (f .number)
+    (rw (same-table s w count x h short few long v k w₀ a) (f .found)))
+
+-- the size fits its word
+pub fresh-fits : (s w : List ℕ) (count : ℕ) (x : Signature) (h : Hashed) → Fresh s w count x h → length s ≤ BYTES → count < 256 → Fits w32 (getD w SIZE 0 + more count + signatureSize h)
+fresh-fits s w count x h f short few = size-fits s w count x h (f .walked) short (f .indexed) few
+
+pub again-fits : (s w : List ℕ) (count : ℕ) (x : Signature) (h : Hashed) → Again s w count x h → length s ≤ BYTES → count < 256 → Fits w32 (getD w SIZE 0 + more count + signatureSize h)
+again-fits s w count x h f short few = size-fits s w count x h (f .walked) short (f .indexed) few
 
 -- ## Emptied
 
@@ -461,5 +560,17 @@ module _ (w₀ w : List ℕ) (i : ℕ) (v : Emptying w₀ w i) where
           lt : (b i : ℕ) → b < i + 1 → (b ≡ i → ⊥) → b < i
           lt b i g z = omega arith
 
-  pub empty-done : BUCKETS ≤ i → Emptied w₀ w
+  pub empty-done : BUCKETS ≤ i → HeadsEmptied w₀ w
   empty-done h = record { none = λ b l. v .none b (omega arith); inside = v .inside }
+
+-- with the size of no section
+pub all-empty : (w w₁ : List ℕ) → HeadsEmptied w w₁ → USES ≤ length w → Emptied w (set w₁ SIZE 0)
+all-empty w w₁ v l =
+    let k = v .inside .kept .long in
+    record {
+      heads = record {
+        none = λ b h. getD-set-other w₁ SIZE (HEADS + b) 0 0 (λ e. omega arith) ∙ v .none b h;
+        inside = inside-then (v .inside) (inside-set HEADS USES SIZE 0 w₁ (omega arith) (omega arith));
+      };
+      size = getD-set-same w₁ SIZE 0 0 (omega arith);
+    }

@@ -19,6 +19,7 @@ use Rattle.area.specs.Kept.{Kept}
 use Rattle.area.proofs.Kept.{kept-word}
 use Rattle.type_table.specs.Table.{typesOf, signatureOf, ofUse, entryIn, typeTable, typesIn, numberOf, agreeing, typeWords, Indexed, Fresh, Adds, Interns}
 use Rattle.type_table.specs.declared.entry.Signature.{Signature}
+use Rattle.type_table.specs.declared.index.Hashed.{Hashed}
 use Rattle.type_table.specs.declared.table.TypeFound.{TypeFound}
 use Rattle.type_table.specs.declared.table.TypeFound.the-variants as T
 use Rattle.type_table.specs.declared.table.Interned.the-variants as I
@@ -119,7 +120,7 @@ module _ (s w : List ℕ) (count : ℕ) (t : TypeUse) (r : ℕ) (x : Signature) 
     inside = inside-same (TYPES + 5 * count) USES w;
   }
 
-module _ (s w : List ℕ) (count : ℕ) (t : TypeUse) (r h : ℕ) (fresh : Fresh s w count (ofUse t) h) where
+module _ (s w : List ℕ) (count : ℕ) (t : TypeUse) (r : ℕ) (h : Hashed) (fresh : Fresh s w count (ofUse t) h) where
   unused : typeAt (signature (useOf s t)) (typeTable count s w TYPES) ≡ none
   unused = ap (λ z. typeAt z (typeTable count s w TYPES)) (sym (use-signature s t)) ∙ fresh .missing
 

@@ -1,7 +1,9 @@
 -- The hash of a signature: of its value types alone, and so of none of its identifiers.
 use Prim.Native.Nat.{ℕ, _+_, _*_, _/_, _%_}
 use mathlib.Core.List.{List, [], _∷_}
+use lib.ListN.{length}
 use Rattle.definition.specs.Syntax.{ValType, FuncType}
+use Rattle.type_table.specs.declared.index.HashedList.{HashedList}
 
 -- how many buckets there are
 abbrev pub BUCKETS : ℕ
@@ -33,6 +35,10 @@ mixed h t = crossed ((h % HALF + t * SPREAD) % HALF) ((h / HALF + OTHER) % HALF)
 unfoldable pub hashFrom : ℕ → List ValType → ℕ
 hashFrom h [] = h
 hashFrom h (t ∷ ts) = hashFrom (mixed h t) ts
+
+-- with how many they are
+abbrev pub hashedList : ℕ → List ValType → HashedList
+hashedList h ts = record { hash = hashFrom h ts; count = length ts }
 
 -- the parameters, a mark that is no value type, the results
 unfoldable pub hashOf : FuncType → ℕ

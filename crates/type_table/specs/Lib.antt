@@ -1,3 +1,4 @@
 pub mod Hash
+pub mod Size
 pub mod Table
 pub mod Uses

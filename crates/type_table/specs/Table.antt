@@ -10,15 +10,18 @@ use Rattle.definition.specs.Basic.{if_then_else_, Answer, ok, refused, sameByte
 use Rattle.definition.specs.Syntax.{Bytes, ValType, FuncType}
 use Rattle.definition.specs.Reader.{Reader, _>>=_, give}
 use Rattle.definition.specs.Token.{param, valType}
+use Rattle.definition.specs.Binary.{typesSize}
 use Rattle.definition.specs.Types.{Uses, takeOrAdd, typeAt, typeNumber, sameType, signature}
 use Rattle.syntax.specs.Refusals.{refusedBy}
 use Rattle.syntax.specs.declared.Refusal.{Refusal}
-use Rattle.area.specs.Layout.{HASHES, HEADS, LINKS, TOTAL, TYPES, USES}
+use Rattle.area.specs.Layout.{HASHES, HEADS, LINKS, SIZE, TOTAL, TYPES, USES}
 use Rattle.syntax.specs.TypeUses.{elements, listOf, useOf}
 use Rattle.syntax.specs.declared.List as Code
 use Rattle.syntax.specs.declared.TypeUse.{TypeUse}
 use Rattle.area.specs.Kept.{Kept}
 use Rattle.type_table.specs.Hash.{BUCKETS, HALF, bucketOf, hashOf}
+use Rattle.type_table.specs.Size.{hashed}
+use Rattle.type_table.specs.declared.index.Hashed.{Hashed}
 use Rattle.type_table.specs.declared.list.NextType.{NextType}
 use Rattle.type_table.specs.declared.list.NextType.the-variants as N
 use Rattle.type_table.specs.declared.list.NextBoth.{NextBoth}
@@ -123,11 +126,13 @@ onChain zero s w x link = none
 onChain (suc k) s w x link =
     if eqb link (suc k) then (if isType s w x k then some k else onChain k s w x (linkAfter w k)) else onChain k s w x link
 
--- the index is true of `count` types: what is found on a signature's chain is the first equal type
+-- the index is true of `count` types: what is found on a signature's chain is the first equal type. So is the size beside them: it is what
+-- the section that is written of them has as its content
 pub record Indexed (s : Bytes) (w : List ℕ) (count : ℕ) : Type 0 where
   pub few : count ≤ 256
   pub low : (b : ℕ) → b < BUCKETS → getD w (HEADS + b) 0 ≤ count
   pub each : (x : FuncType) → typeAt x (typeTable count s w TYPES) ≡ onChain count s w x (getD w (HEADS + bucketOf (hashOf x)) 0)
+  pub size : getD w SIZE 0 ≡ typesSize (typeTable count s w TYPES)
 
 -- ## One more type
 
@@ -154,15 +159,27 @@ pub record Inside (low high : ℕ) (w w′ : List ℕ) : Type 0 where
   pub above : drop high w′ ≡ drop high w
 
 -- no bucket has a type
-pub record Emptied (w w′ : List ℕ) : Type 0 where
+pub record HeadsEmptied (w w′ : List ℕ) : Type 0 where
   pub none : (b : ℕ) → b < BUCKETS → getD w′ (HEADS + b) 0 ≡ 0
   pub inside : Inside HEADS USES w w′
 
--- a signature that is equal to none of `count` types, and its hash
-pub record Fresh (s : Bytes) (w : List ℕ) (count : ℕ) (x : Signature) (h : ℕ) : Type 0 where
+-- and no section is written
+pub record Emptied (w w′ : List ℕ) : Type 0 where
+  pub heads : HeadsEmptied w w′
+  pub size : getD w′ SIZE 0 ≡ 0
+
+-- a signature that is equal to none of `count` types, and what a walk over it tells
+pub record Fresh (s : Bytes) (w : List ℕ) (count : ℕ) (x : Signature) (h : Hashed) : Type 0 where
   pub indexed : Indexed s w count
-  pub hash : h ≡ hashOf (signatureOf s x)
+  pub walked : h ≡ hashed (signatureOf s x)
   pub missing : typeAt (signatureOf s x) (typeTable count s w TYPES) ≡ none
+
+-- one that is equal to one of them
+pub record Again (s : Bytes) (w : List ℕ) (count : ℕ) (x : Signature) (h : Hashed) : Type 0 where
+  pub indexed : Indexed s w count
+  pub walked : h ≡ hashed (signatureOf s x)
+  pub number : ℕ
+  pub found : typeAt (signatureOf s x) (typeTable count s w TYPES) ≡ some number
 
 -- a signature was added to `count` types
 pub record Adds (s : Bytes) (w : List ℕ) (count : ℕ) (x : Signature) (w′ : List ℕ) : Type 0 where

@@ -8,8 +8,9 @@ ghost use mathlib.Core.Path.{_≡_};
 ghost use Prim.Native.Nat.{_+_, _/_, _%_, _≤_, _<_};
 ghost use lib.ListN.{length, getD, set};
 ghost use Rattle.area.specs.Layout.{HEADS, USES};
-ghost use Rattle.type_table.specs.Hash.{HALF, bucketOf, hashFrom, hashOf, mixed};
-ghost use Rattle.type_table.specs.Table.{typesOf, signatureOf, linkAfter, hashIs, hashWords, chainWords, Emptied};
+ghost use Rattle.type_table.specs.Hash.{HALF, bucketOf, hashedList, mixed};
+ghost use Rattle.type_table.specs.Size.{hashed};
+ghost use Rattle.type_table.specs.Table.{typesOf, signatureOf, linkAfter, hashIs, hashWords, chainWords, HeadsEmptied, Emptied};
 
 const BUCKETS: u64 = 256;
 
@@ -32,9 +33,15 @@ fn mix(h: u64, t: u8) -> u64
     a * b + a + b
 }
 
+// The hash of a list's value types after a hash, and how many they are.
+pub struct HashedList {
+    pub hash: u64,
+    pub count: u32,
+}
+
 // The value types of a list, after a hash.
-fn hash_list(s: &[u8], named: bool, l: List, start: u64) -> u64
-    ensures { λ r. ⌜ r ≡ hashFrom start (typesOf named (now (s .entry)) l) ⌝ }
+fn hash_list(s: &[u8], named: bool, l: List, start: u64) -> HashedList
+    ensures { λ r. ⌜ r ≡ hashedList start (typesOf named (now (s .entry)) l) ⌝ }
 {
     let mut at = l.at;
     let mut left = l.count;
@@ -47,18 +54,32 @@ fn hash_list(s: &[u8], named: bool, l: List, start: u64) -> u64
                 left -= 1;
             }
             NextType::End => {
-                return h;
+                return HashedList {
+                    hash: h,
+                    count: l.count - left,
+                };
             }
         }
     }
 }
 
-// The hash of a signature: of its value types alone.
-pub fn hash_of(s: &[u8], x: Signature) -> u64
-    ensures { λ r. ⌜ r ≡ hashOf (signatureOf (now (s .entry)) x) ⌝ }
+// The hash of a signature, of its value types alone; and how many parameters and results it has, which the walk over them tells.
+pub struct Hashed {
+    pub hash: u64,
+    pub params: u32,
+    pub results: u32,
+}
+
+pub fn hash_of(s: &[u8], x: Signature) -> Hashed
+    ensures { λ r. ⌜ r ≡ hashed (signatureOf (now (s .entry)) x) ⌝ }
 {
-    let h = hash_list(s, x.named, x.params, START);
-    hash_list(s, false, x.results, mix(h, 0))
+    let p = hash_list(s, x.named, x.params, START);
+    let q = hash_list(s, false, x.results, mix(p.hash, 0));
+    Hashed {
+        hash: q.hash,
+        params: p.count,
+        results: q.count,
+    }
 }
 
 // Where the chain of a hash begins.
@@ -143,13 +164,22 @@ pub fn put_link(work: &mut [u32], n: u32, h: u64)
 }
 
 // No bucket has a type.
-pub fn clear_index(work: &mut [u32])
+fn clear_heads(work: &mut [u32])
     requires { ⌜ USES ≤ length (now work) ⌝ }
-    ensures { λ _. ⌜ Emptied (now (work .entry)) (now (work .exit)) ⌝ }
+    ensures { λ _. ⌜ HeadsEmptied (now (work .entry)) (now (work .exit)) ⌝ }
 {
     let mut i = 0;
     while i < 256 {
         work[area::HEADS + i] = 0;
         i += 1;
     }
+}
+
+// No type: no section is written of none.
+pub fn clear_index(work: &mut [u32])
+    requires { ⌜ USES ≤ length (now work) ⌝ }
+    ensures { λ _. ⌜ Emptied (now (work .entry)) (now (work .exit)) ⌝ }
+{
+    clear_heads(work);
+    work[area::SIZE] = 0;
 }

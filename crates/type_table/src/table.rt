@@ -4,6 +4,7 @@ use crate::entry::of_use;
 use crate::entry::put_type;
 use crate::entry::same_type;
 use crate::entry::type_at;
+use crate::index::Hashed;
 use crate::index::first_link;
 use crate::index::has_hash;
 use crate::index::hash_of;
@@ -13,6 +14,7 @@ use crate::index::put_link;
 use crate::list::NextBoth;
 use crate::list::next_both;
 use crate::list::same_list;
+use crate::size::put_size;
 use syntax::Refusal;
 use syntax::TypeUse;
 ghost use mathlib.Core.Path.{_≡_};
@@ -24,7 +26,7 @@ ghost use Rattle.definition.specs.Types as Types;
 ghost use Rattle.definition.specs.Names as Names;
 ghost use Rattle.syntax.specs.TypeUses.{useOf};
 ghost use Rattle.type_table.specs.Hash.{hashOf};
-ghost use Rattle.type_table.specs.Table.{ofUse, signatureOf, typeTable, typesIn, numberOf, agreeing, typeWords, Indexed, Fresh, Adds, Interns};
+ghost use Rattle.type_table.specs.Table.{ofUse, signatureOf, typeTable, typesIn, numberOf, agreeing, typeWords, Indexed, Fresh, Again, Adds, Interns};
 
 pub enum TypeFound {
     Number(u32),
@@ -78,23 +80,33 @@ fn put_entry(s: &[u8], work: &mut [u32], count: u32, x: Signature)
 }
 
 // A signature that is equal to none is added at the end, and to the index.
-fn add_type(s: &[u8], work: &mut [u32], count: u32, x: Signature, h: u64)
+fn add_type(s: &[u8], work: &mut [u32], count: u32, x: Signature, h: Hashed)
     requires { ⌜ (length (now s) ≤ BYTES) × (count < 256) × (USES ≤ length (now work)) × Fresh (now s) (now work) count x h ⌝ }
     ensures { λ _. ⌜ Adds (now (s .entry)) (now (work .entry)) count x (now (work .exit)) ⌝ }
 {
+    put_size(work, count, h);
     put_entry(s, work, count, x);
-    put_hash(work, count, h);
-    put_link(work, count, h);
+    put_hash(work, count, h.hash);
+    put_link(work, count, h.hash);
 }
 
-// A declared type stands at the end; one that is equal to an earlier one is not put into the index.
+// One that is equal to an earlier one is not put into the index.
+fn add_again(s: &[u8], work: &mut [u32], count: u32, x: Signature, h: Hashed)
+    requires { ⌜ (length (now s) ≤ BYTES) × (count < 256) × (USES ≤ length (now work)) × Again (now s) (now work) count x h ⌝ }
+    ensures { λ _. ⌜ Adds (now (s .entry)) (now (work .entry)) count x (now (work .exit)) ⌝ }
+{
+    put_size(work, count, h);
+    put_entry(s, work, count, x);
+}
+
+// A declared type stands at the end.
 pub fn declare_type(s: &[u8], work: &mut [u32], count: u32, x: Signature)
     requires { ⌜ (length (now s) ≤ BYTES) × (count < 256) × (USES ≤ length (now work)) × Indexed (now s) (now work) count ⌝ }
     ensures { λ _. ⌜ Adds (now (s .entry)) (now (work .entry)) count x (now (work .exit)) ⌝ }
 {
     let h = hash_of(s, x);
-    match find_type(s, work, count, x, h) {
-        TypeFound::Number(_) => put_entry(s, work, count, x),
+    match find_type(s, work, count, x, h.hash) {
+        TypeFound::Number(_) => add_again(s, work, count, x, h),
         TypeFound::Nothing => add_type(s, work, count, x, h),
     }
 }
@@ -106,7 +118,7 @@ pub enum Interned {
 }
 
 // A use that no type is equal to adds one at the end.
-fn add_use(s: &[u8], work: &mut [u32], count: u32, t: TypeUse, h: u64, rec: u32) -> Interned
+fn add_use(s: &[u8], work: &mut [u32], count: u32, t: TypeUse, h: Hashed, rec: u32) -> Interned
     requires { ⌜ (length (now s) ≤ BYTES) × (USES ≤ length (now work)) × Fresh (now s) (now work) count (ofUse t) h ⌝ }
     ensures { λ r. ⌜ Interns (now (s .entry)) (now (work .entry)) count t rec r (now (work .exit)) ⌝ }
 {
@@ -124,7 +136,7 @@ pub fn intern_use(s: &[u8], work: &mut [u32], count: u32, t: TypeUse, rec: u32) 
 {
     let x = of_use(t);
     let h = hash_of(s, x);
-    match find_type(s, work, count, x, h) {
+    match find_type(s, work, count, x, h.hash) {
         TypeFound::Number(n) => Interned::Number(n, count),
         TypeFound::Nothing => add_use(s, work, count, t, h, rec),
     }

@@ -2,12 +2,13 @@
 use Prim.Native.Nat.{ℕ, _+_, _≤_, _<_}
 use mathlib.Core.Path.{_≡_, refl, _∙_, ap}
 use mathlib.Core.List.{List, _++_}
-use lib.ListN.{length, drop, length-append}
+use lib.ListN.{length, drop, getD, length-append}
 use borrow.Author.Tests.{lt-leb, le-leb}
 use native.Mathlib.Omega.{arith}
 use Rattle.definition.specs.Binary.{module′}
 use Rattle.definition.specs.Assemble.{fitting, say, outputAfter}
 use Rattle.emit.specs.Put.{Put, past}
+use Rattle.area.specs.Layout.{SIZE}
 use Rattle.emit.proofs.Laws.{put-room, put-then, put-is}
 use Rattle.area.specs.Flags.{dataNamedIn}
 use Rattle.kept.specs.Tally.{tallies, noTally}
@@ -41,16 +42,16 @@ module _ (count : ℕ) (bs w old : List ℕ) (m : ℕ) (g : m ≡ past 0 (length
       record { says = rw (le-leb _ _ k, a, c) refl; long = y .area .long }
 
 -- the module's length
-pub module-long : (s w : List ℕ) (d : ℕ) (t : Tally) (m : ℕ) → Writable s w → t ≡ tallies noTally (allEntries d s w) → m ≡ moduleLen (dataNamedIn w) t → m ≡ past 0 (length (module′ (moduleItems d s w)))
-module-long s w d t m v e g = g ∙ module-len-is t d s w v e
+pub module-long : (s w : List ℕ) (t : Tally) (m : ℕ) → Writable s w → t ≡ tallies noTally (allEntries s w) → m ≡ moduleLen (getD w SIZE 0) (dataNamedIn w) t → m ≡ past 0 (length (module′ (moduleItems s w)))
+module-long s w t m v e g = g ∙ module-len-is t s w v e
 
 -- with its names
-pub both-long : (s w : List ℕ) (d : ℕ) (t n : Tally) (m l k : ℕ) → Writable s w → t ≡ tallies noTally (allEntries d s w) → m ≡ moduleLen (dataNamedIn w) t → NameTally s w n → l ≡ nameLen n → k ≡ past m l
-    → k ≡ past 0 (length (module′ (moduleItems d s w) ++ namesIn s w))
-both-long s w d t n m l k v e g x y z =
-    let a : m ≡ past 0 (length (module′ (moduleItems d s w))) = g ∙ module-len-is t d s w v e in
+pub both-long : (s w : List ℕ) (t n : Tally) (m l k : ℕ) → Writable s w → t ≡ tallies noTally (allEntries s w) → m ≡ moduleLen (getD w SIZE 0) (dataNamedIn w) t → NameTally s w n → l ≡ nameLen n → k ≡ past m l
+    → k ≡ past 0 (length (module′ (moduleItems s w) ++ namesIn s w))
+both-long s w t n m l k v e g x y z =
+    let a : m ≡ past 0 (length (module′ (moduleItems s w))) = g ∙ module-len-is t s w v e in
     let b : l ≡ past 0 (length (namesIn s w)) = y ∙ name-len-is s w n x in
-    z ∙ rw (a, b, length-append (module′ (moduleItems d s w)) (namesIn s w)) (past-measured _ (length (namesIn s w)) ∙ past-past 0 _ _)
+    z ∙ rw (a, b, length-append (module′ (moduleItems s w)) (namesIn s w)) (past-measured _ (length (namesIn s w)) ∙ past-past 0 _ _)
 
 -- the name section after the module
 pub both-put : (s w : List ℕ) (bs old mid new w′ : List ℕ) (at len : ℕ) → Writes bs old 0 at mid w w′ → Put mid at (namesIn s w′) len new → Writes (bs ++ namesIn s w) old 0 len new w w′

@@ -35,16 +35,15 @@ pub fn write_module(
     out: &mut [u8],
     kept: &[u8],
     count: u32,
-    declared: u32,
     t: Tally,
 ) -> Said
-    requires { ⌜ Writable (now s) (now work) × Held (now kept) (allEntries declared (now s) (now work)) × (t ≡ tallies noTally (allEntries declared (now s) (now work))) ⌝ }
-    ensures { λ r. ⌜ Does count (Binary.module′ (moduleItems declared (now (s .entry)) (now (work .entry)))) (now (work .entry)) (now (out .entry)) r (now (work .exit)) (now (out .exit)) ⌝ }
+    requires { ⌜ Writable (now s) (now work) × Held (now kept) (allEntries (now s) (now work)) × (t ≡ tallies noTally (allEntries (now s) (now work))) ⌝ }
+    ensures { λ r. ⌜ Does count (Binary.module′ (moduleItems (now (s .entry)) (now (work .entry)))) (now (work .entry)) (now (out .entry)) r (now (work .exit)) (now (out .exit)) ⌝ }
 {
     if out.len() < module_len(t, work) {
         return no_room(count);
     }
-    let len = module::put_module(t, declared, kept, s, work, out);
+    let len = module::put_module(t, kept, s, work, out);
     Said {
         number: 0,
         rec: count,
@@ -60,17 +59,16 @@ pub fn write_names(
     out: &mut [u8],
     kept: &[u8],
     count: u32,
-    declared: u32,
     t: Tally,
 ) -> Said
-    requires { ⌜ Writable (now s) (now work) × Held (now kept) (allEntries declared (now s) (now work)) × (t ≡ tallies noTally (allEntries declared (now s) (now work))) ⌝ }
-    ensures { λ r. ⌜ Does count (Binary.module′ (moduleItems declared (now (s .entry)) (now (work .entry))) ++ namesIn (now (s .entry)) (now (work .entry))) (now (work .entry)) (now (out .entry)) r (now (work .exit)) (now (out .exit)) ⌝ }
+    requires { ⌜ Writable (now s) (now work) × Held (now kept) (allEntries (now s) (now work)) × (t ≡ tallies noTally (allEntries (now s) (now work))) ⌝ }
+    ensures { λ r. ⌜ Does count (Binary.module′ (moduleItems (now (s .entry)) (now (work .entry))) ++ namesIn (now (s .entry)) (now (work .entry))) (now (work .entry)) (now (out .entry)) r (now (work .exit)) (now (out .exit)) ⌝ }
 {
     let n = name_section::measure(s, work);
     if out.len() < emit::tally(module_len(t, work), name_section::section_len(n)) {
         return no_room(count);
     }
-    let at = module::put_module(t, declared, kept, s, work, out);
+    let at = module::put_module(t, kept, s, work, out);
     let len = name_section::put_name_section(s, work, out, at, n);
     Said {
         number: 0,

@@ -1,4 +1,4 @@
-use Rattle.passes.proofs.Whole.{survey-long, survey-ahead, survey-recalled, survey-done, survey-not, table-count}
+use Rattle.passes.proofs.Whole.{survey-long, survey-ahead, survey-recalled, survey-typed, survey-done, survey-not}
 use borrow.Author.Needs.{needs}
 use Rattle.passes.proofs.intern.Statement.{statement}
 use Rattle.passes.proofs.intern.Tie as tie
@@ -10,7 +10,7 @@ enum-told : tie.Need-enum-told
 enum-told c = search needs
 
 resolve-requires : tie.Need-resolve-requires
-resolve-requires c κs = (search (survey-long, needs), search survey-ahead, search survey-recalled, search table-count)
+resolve-requires c κs = (search (survey-long, needs), search survey-ahead, search survey-recalled, search survey-typed)
 
 enum-known-q : tie.Need-enum-known-q
 enum-known-q c = search needs

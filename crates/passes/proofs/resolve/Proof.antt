@@ -1,4 +1,4 @@
-use Rattle.passes.proofs.Stages.{resolve-long, resolve-slots, resolve-done, resolve-not}
+use Rattle.passes.proofs.Stages.{resolve-done, resolve-not}
 use borrow.Author.Needs.{needs}
 use Rattle.passes.proofs.resolve.Statement.{statement}
 use Rattle.passes.proofs.resolve.Tie as tie
@@ -8,9 +8,6 @@ check-fields-requires c κs = search needs
 
 enum-told : tie.Need-enum-told
 enum-told c = search needs
-
-keep-types-requires : tie.Need-keep-types-requires
-keep-types-requires c κs = (search resolve-long, search resolve-slots)
 
 enum-known-v : tie.Need-enum-known-v
 enum-known-v c = search needs
@@ -42,7 +39,6 @@ resolve-spec =
     (tie.spec
     check-fields-requires
     enum-told
-    keep-types-requires
     enum-known-v
     refuse-requires
     same-length

@@ -4,20 +4,23 @@ use borrow.Author.Needs.{needs}
 use Rattle.deinline.proofs.entry.first_of.Statement.{statement}
 use Rattle.deinline.proofs.entry.first_of.Tie as tie
 
+enum-told : tie.Need-enum-told
+enum-told c = search needs
+
 enum-known-f : tie.Need-enum-known-f
 enum-known-f c = search needs
 
 enum-known-f-2 : tie.Need-enum-known-f-2
 enum-known-f-2 c = search needs
 
-enum-known-f-3 : tie.Need-enum-known-f-3
-enum-known-f-3 c = search needs
-
 source-space-requires : tie.Need-source-space-requires
 source-space-requires c κs = search needs
 
 exports-of-requires : tie.Need-exports-of-requires
 exports-of-requires c κs = search needs
+
+enum-known-f-3 : tie.Need-enum-known-f-3
+enum-known-f-3 c = search needs
 
 enum-known-f-4 : tie.Need-enum-known-f-4
 enum-known-f-4 c = search needs
@@ -27,9 +30,6 @@ enum-known-f-5 c = search needs
 
 enum-known-f-6 : tie.Need-enum-known-f-6
 enum-known-f-6 c = search needs
-
-enum-known-f-7 : tie.Need-enum-known-f-7
-enum-known-f-7 c = search needs
 
 returns : tie.Need-returns
 unfolding firstOf
@@ -62,15 +62,15 @@ pub first-of-spec : {M : Type 1} → statement M
 first-of-spec =
     tie.close
     (tie.spec
+    enum-told
     enum-known-f
     enum-known-f-2
-    enum-known-f-3
     source-space-requires
     exports-of-requires
+    enum-known-f-3
     enum-known-f-4
     enum-known-f-5
     enum-known-f-6
-    enum-known-f-7
     returns
     returns-2
     returns-3

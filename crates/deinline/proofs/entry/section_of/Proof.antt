@@ -51,9 +51,6 @@ enum-told-15 c = search needs
 enum-told-16 : tie.Need-enum-told-16
 enum-told-16 c = search needs
 
-enum-told-17 : tie.Need-enum-told-17
-enum-told-17 c = search needs
-
 returns : tie.Need-returns
 returns c = search is-section
 
@@ -102,9 +99,6 @@ returns-15 c = search is-section
 returns-16 : tie.Need-returns-16
 returns-16 c = search is-section
 
-returns-17 : tie.Need-returns-17
-returns-17 c = search is-section
-
 pub section-of-spec : {M : Type 1} → statement M
 section-of-spec =
     tie.close
@@ -125,7 +119,6 @@ section-of-spec =
     enum-told-14
     enum-told-15
     enum-told-16
-    enum-told-17
     returns
     returns-2
     returns-3
@@ -141,5 +134,4 @@ section-of-spec =
     returns-13
     returns-14
     returns-15
-    returns-16
-    returns-17)
+    returns-16)

@@ -1,4 +1,4 @@
-use Rattle.module.proofs.Sections.{area-room, entries-reach, entries-put}
+use Rattle.module.proofs.Sections.{entries-reach, entries-put}
 use borrow.Author.Needs.{needs}
 use Rattle.module.proofs.write.put_again.Statement.{statement}
 use Rattle.module.proofs.write.put_again.Tie as tie
@@ -8,9 +8,6 @@ tally-requires c κs = search needs
 
 emit-fields-requires : tie.Need-emit-fields-requires
 emit-fields-requires c κs = search (entries-reach, needs)
-
-put-added-requires : tie.Need-put-added-requires
-put-added-requires c κs = search area-room
 
 same-length : tie.Need-same-length
 same-length c = search needs
@@ -23,4 +20,4 @@ returns c = search entries-put
 
 pub put-again-spec : {M : Type 1} → statement M
 put-again-spec =
-    tie.close (tie.spec tally-requires emit-fields-requires put-added-requires same-length same-length-2 returns)
+    tie.close (tie.spec tally-requires emit-fields-requires same-length same-length-2 returns)

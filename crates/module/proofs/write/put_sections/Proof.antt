@@ -6,10 +6,10 @@ use Rattle.module.proofs.write.put_sections.Statement.{statement}
 use Rattle.module.proofs.write.put_sections.Tie as tie
 
 abbrev Inv-loop : tie.InvT-loop
-Inv-loop from to t declared kept s work₀ out₀ at o₀ k₀ work out o k = Sectioning t declared kept s work₀ out₀ at from to k o out work
+Inv-loop from to t kept s work₀ out₀ at o₀ k₀ work out o k = Sectioning t kept s work₀ out₀ at from to k o out work
 
 abbrev μ-loop : tie.MeasureT-loop
-μ-loop from to t declared kept s work₀ out₀ at o₀ k₀ work out o k = to - k
+μ-loop from to t kept s work₀ out₀ at o₀ k₀ work out o k = to - k
 
 loop-holds : tie.Need-loop-holds Inv-loop μ-loop
 loop-holds c = search sections-begin

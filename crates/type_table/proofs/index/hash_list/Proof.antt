@@ -1,52 +1,43 @@
+use Rattle.type_table.proofs.Hashes.{hash-low}
 use borrow.Author.Needs.{needs}
 use Rattle.type_table.proofs.Hashes.{Hashing, hash-begin, hash-again, hash-done}
 use Rattle.type_table.proofs.Lists.{next-some, next-less}
 use Rattle.type_table.proofs.index.hash_list.Statement.{statement}
 use Rattle.type_table.proofs.index.hash_list.Tie as tie
-use Rattle.type_table.proofs.index.hash_list.Reads as reads
-use Rattle.type_table.proofs.index.hash_list.Lts as lts
-use Rattle.type_table.proofs.index.mix.Reads as mix-reads
-use Rattle.type_table.proofs.list.next_type.Reads as next-type-reads
 
 abbrev Inv-loop : tie.InvT-loop
-Inv-loop s named start at₀ left₀ h₀ at left h = Hashing s named h₀ at₀ left₀ at left h
+Inv-loop s named l start at₀ left₀ h₀ at left h = Hashing s named h₀ at₀ left₀ at left h
 
 abbrev μ-loop : tie.MeasureT-loop
-μ-loop s named start at₀ left₀ h₀ at left h = left
+μ-loop s named l start at₀ left₀ h₀ at left h = left
 
--- src/index.rt:42:5
 loop-holds : tie.Need-loop-holds Inv-loop μ-loop
 loop-holds c = search hash-begin
 
--- src/index.rt:43:15
 next-type-requires : tie.Need-next-type-requires Inv-loop μ-loop
 next-type-requires c κs = search needs
 
--- src/index.rt:44:28
 enum-known-t : tie.Need-enum-known-t Inv-loop μ-loop
 enum-known-t c = search needs
 
--- src/index.rt:45:17
 mix-requires : tie.Need-mix-requires Inv-loop μ-loop
 mix-requires c κs = search needs
 
--- src/index.rt:47:17
 sub-left : tie.Need-sub-left Inv-loop μ-loop
 sub-left c = search (next-some, needs)
 
--- src/index.rt:42:5
 loop-less : tie.Need-loop-less Inv-loop μ-loop
 loop-less c = search next-less
 
--- src/index.rt:42:5
 loop-again : tie.Need-loop-again Inv-loop μ-loop
 loop-again c = search hash-again
 
--- src/index.rt:50:17
 enum-told : tie.Need-enum-told Inv-loop μ-loop
 enum-told c = search needs
 
--- src/index.rt:50:17
+sub-t11 : tie.Need-sub-t11 Inv-loop μ-loop
+sub-t11 c = search (hash-low, needs)
+
 returns : tie.Need-returns Inv-loop μ-loop
 returns c = search hash-done
 
@@ -64,4 +55,5 @@ hash-list-spec =
     loop-less
     loop-again
     enum-told
+    sub-t11
     returns)

@@ -1,3 +1,4 @@
+use Rattle.type_table.proofs.Hashes.{hash-told}
 use borrow.Author.Needs.{needs}
 use Rattle.type_table.proofs.Types.{intern-takes}
 use Rattle.type_table.proofs.Chains.{none-used}
@@ -11,7 +12,7 @@ hash-of-requires : tie.Need-hash-of-requires
 hash-of-requires c κs = search needs
 
 find-type-requires : tie.Need-find-type-requires
-find-type-requires c κs = search needs
+find-type-requires c κs = search (hash-told, needs)
 
 enum-known-n : tie.Need-enum-known-n
 enum-known-n c = search needs

@@ -1,22 +1,16 @@
 use borrow.Author.Needs.{needs}
 use Rattle.sections.proofs.Tables.{Typing, typing-begin, typing-again, typing-done, typing-long, typing-room, typing-next}
-use Rattle.sections.proofs.added.put_types.Statement.{statement}
-use Rattle.sections.proofs.added.put_types.Tie as tie
+use Rattle.sections.proofs.types.put_types.Statement.{statement}
+use Rattle.sections.proofs.types.put_types.Tie as tie
 
 abbrev Inv-loop : tie.InvT-loop
-Inv-loop s work out₀ at declared left₀ place₀ o₀ out left place o = Typing s work declared out₀ at left place o out
+Inv-loop s work out₀ at left₀ place₀ o₀ out left place o = Typing s work out₀ at left place o out
 
 abbrev μ-loop : tie.MeasureT-loop
-μ-loop s work out₀ at declared left₀ place₀ o₀ out left place o = left
+μ-loop s work out₀ at left₀ place₀ o₀ out left place o = left
 
-added-requires : tie.Need-added-requires Inv-loop μ-loop
-added-requires c κs = search needs
-
-mul-place : tie.Need-mul-place Inv-loop μ-loop
-mul-place c = search needs
-
-add-place : tie.Need-add-place Inv-loop μ-loop
-add-place c = search needs
+total-requires : tie.Need-total-requires Inv-loop μ-loop
+total-requires c κs = search needs
 
 loop-holds : tie.Need-loop-holds Inv-loop μ-loop
 loop-holds c = search typing-begin
@@ -24,8 +18,8 @@ loop-holds c = search typing-begin
 put-type-requires : tie.Need-put-type-requires Inv-loop μ-loop
 put-type-requires c κs = search typing-room
 
-add-place-2 : tie.Need-add-place-2 Inv-loop μ-loop
-add-place-2 c = search typing-next
+add-place : tie.Need-add-place Inv-loop μ-loop
+add-place c = search typing-next
 
 sub-left : tie.Need-sub-left Inv-loop μ-loop
 sub-left c = search needs
@@ -48,12 +42,10 @@ put-types-spec =
     (tie.spec
     Inv-loop
     μ-loop
-    added-requires
-    mul-place
-    add-place
+    total-requires
     loop-holds
     put-type-requires
-    add-place-2
+    add-place
     sub-left
     loop-less
     loop-again

@@ -1,7 +1,7 @@
 use Rattle.sections.proofs.Tables.{type-put}
 use borrow.Author.Needs.{needs}
-use Rattle.sections.proofs.added.put_type.Statement.{statement}
-use Rattle.sections.proofs.added.put_type.Tie as tie
+use Rattle.sections.proofs.types.put_type.Statement.{statement}
+use Rattle.sections.proofs.types.put_type.Tie as tie
 
 type-at-requires : tie.Need-type-at-requires
 type-at-requires c κs = search needs
