@@ -1,2 +1,5 @@
+pub mod Places
 pub mod Blocks
+pub mod Stretches
+pub mod Folds
 pub mod Bodies

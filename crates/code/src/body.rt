@@ -7,16 +7,15 @@ use syntax::Form;
 use syntax::Place;
 ghost use Prim.Native.Nat.{_-_, _≤_};
 ghost use Rattle.area.specs.Lent.{Lent};
-ghost use Rattle.definition.specs.Instructions as Instructions;
-ghost use Rattle.laws.specs.Depths.{deep};
-ghost use Rattle.scope.specs.Scope.{localsIn, FewLocals};
-ghost use Rattle.plain.specs.Turns.{InBody, Turned};
-ghost use Rattle.code.specs.Body.{Resolvable, EmitsBody};
+ghost use Rattle.instr.specs.Bodies.{bodyFrom};
+ghost use Rattle.scope.specs.Scope.{FewLocals};
+ghost use Rattle.plain.specs.Turns.{InBody};
+ghost use Rattle.code.specs.Body.{Resolvable, BodyTurned, EmitsBody};
 
-// One record of a body. Its end, FF, is no opcode either.
+// One record of a body, and all of a folded one. Neither F0 nor the body's end, FF, is an opcode.
 fn one_record(s: &[u8], work: &mut [u32], out: &mut [u8], at: usize, p: Place, l: Locals) -> Turn
-    requires { ⌜ Lent (now s) (now work) × FewLocals l × InBody p × Resolvable (now s) (now work) (p .rec) (p .depth - 1) (p .at) ⌝ }
-    ensures { λ r. ⌜ Turned (now (s .entry)) (now (work .entry)) (localsIn (now (s .entry)) (now (work .entry)) l) (p .depth - 1) (p .rec) (Instructions.bodyRec (deep (p .depth - 1)) (now (s .entry)) (p .at)) (now (out .entry)) at r (now (work .exit)) (now (out .exit)) ⌝ }
+    requires { ⌜ Lent (now s) (now work) × FewLocals l × InBody p × Resolvable (now s) (now work) (bodyFrom (p .depth - 1) (p .rec) (now s) (p .at)) ⌝ }
+    ensures { λ r. ⌜ BodyTurned (now (s .entry)) (now (work .entry)) l p (now (out .entry)) at r (now (work .exit)) (now (out .exit)) ⌝ }
 {
     match token::read_byte(s, p.at) {
         ByteAt::Got(b, a) => {
@@ -26,7 +25,12 @@ fn one_record(s: &[u8], work: &mut [u32], out: &mut [u8], at: usize, p: Place, l
                 depth: p.depth,
             };
             match instr::opcode_form(b) {
-                Form::NoOpcode => Turn::Done,
+                Form::NoOpcode => {
+                    if b == 0xF0 {
+                        return crate::fold::emit_folded(s, work, out, at, p, l, 32);
+                    }
+                    Turn::Done
+                }
                 Form::Opening => crate::block::opens_record(s, work, out, at, q, b),
                 Form::Elsing => crate::block::closing_record(s, work, out, at, q, 0x05, 0),
                 Form::Ending => crate::block::closing_record(s, work, out, at, q, 0x0B, 1),
@@ -48,7 +52,7 @@ pub fn emit_body(
     rec: u32,
     l: Locals,
 ) -> Emitted
-    requires { ⌜ Lent (now s) (now work) × FewLocals l × (rec ≤ 4096) × Resolvable (now s) (now work) rec 0 here ⌝ }
+    requires { ⌜ Lent (now s) (now work) × FewLocals l × (rec ≤ 4096) × Resolvable (now s) (now work) (bodyFrom 0 rec (now s) here) ⌝ }
     ensures { λ r. ⌜ EmitsBody (now (s .entry)) (now (work .entry)) l rec here (now (out .entry)) at r (now (work .exit)) (now (out .exit)) ⌝ }
 {
     let mut o = at;

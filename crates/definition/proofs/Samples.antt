@@ -1,7 +1,7 @@
--- The starred samples of document 01, a few more, those of one spelling (02 §5), and those of the name section: one table, and one
+-- The starred samples of document 01, a few more, those of document 02 by its sections, and those of the name section: one table, and one
 -- statement, proved by computing.
 use mathlib.Core.Path.{_≡_, refl}
-use Prim.Native.Nat.{ℕ}
+use Prim.Native.Nat.{ℕ, _-_}
 use mathlib.Core.Bool.{Bool, true, false, _&&_}
 use mathlib.Core.List.{List, [], _∷_, _++_, map}
 use mathlib.Core.Option.{Option, none, some}
@@ -19,6 +19,7 @@ use Rattle.definition.specs.Token
 use Rattle.definition.specs.Instructions
 use Rattle.definition.specs.Records
 use Rattle.definition.specs.Read
+use Rattle.definition.specs.Folded
 use Rattle.definition.specs.Deinline
 use Rattle.definition.specs.Types
 use Rattle.definition.specs.Names
@@ -52,6 +53,10 @@ pub data Sample : Type 0 where
   interned : List FuncType → List FuncType → List ℕ → Sample
   -- types, and the size of their section's content
   typesTake : List FuncType → ℕ → Sample
+  -- a stream, and the records of its type uses in their order
+  uses : Bytes → List ℕ → Sample
+  -- so many records at most, a stream with one more, a refusal's number
+  passesCeiling : ℕ → Bytes → ℕ → Sample
 
 -- `Depth` is the sort of a label's depth: here its number
 abbrev depthIs : Answer Syntax.Depth → Answer ℕ → Bool
@@ -80,6 +85,14 @@ abbrev numbersAre : List FuncType → List ℕ → Answer (List FuncType) → Bo
 numbersAre us ns (ok ts) = sameBytes (map (λ u. Types.typeNumber u ts) us) ns
 numbersAre us ns (fails q) = false
 
+abbrev usesAre : List ℕ → Answer (List (Syntax.Rec Identifier)) → Bool
+usesAre ns (ok rs) = sameBytes (map (λ u. u .0) (Types.uses (Deinline.deinline rs))) ns
+usesAre ns (fails q) = false
+
+abbrev refusedBy : ℕ → ℕ → Answer (List (Syntax.Rec Identifier)) → Bool
+refusedBy n r (ok rs) = false
+refusedBy n r (fails q) = eqb (q .number) n && eqb (q .rec) r
+
 abbrev holds : Sample → Bool
 holds (assembles stream count bytes) = says (assembled stream) 0 count count bytes
 holds (assemblesNames stream count bytes names) = says (assembledNames stream) 0 count count (bytes ++ names)
@@ -93,6 +106,8 @@ holds (signedGroups z bs) = sameBytes (Binary.s z) bs
 holds (labelled blocks x a) = depthIs (Names.depthOf emptyScope blocks 0 x) a
 holds (interned ds us ns) = numbersAre us ns (Types.intern ds (map (λ u. (0, u)) us))
 holds (typesTake ts n) = eqb (Binary.typesSize ts) n
+holds (uses stream ns) = usesAre ns (Read.read stream)
+holds (passesCeiling count stream n) = refusedBy n count (Read.records count 0 Read.nothingSeen stream 0)
 
 abbrev every : List Sample → Bool
 every [] = true
@@ -133,6 +148,31 @@ brNumber n = 0x0C ∷ 0x01 ∷ n ∷ []
 
 abbrev bodyEnd : Bytes
 bodyEnd = 0xFF ∷ []
+
+-- an operator with its own operands, folded, and its folded operands
+abbrev fold : Bytes → List Bytes → Bytes
+fold op xs = 0xF0 ∷ op ++ (length xs ∷ concatMap (λ x. x) xs)
+
+-- nops that wait for one operand each, one in the other; and with a last one, so many deep
+abbrev waiting : ℕ → Bytes
+waiting n = concatMap {A = ℕ} (λ _. 0xF0 ∷ 0x01 ∷ 0x01 ∷ []) (replicate n 0)
+
+abbrev nested : ℕ → Bytes
+nested n = waiting (n - 1) ++ (0xF0 ∷ 0x01 ∷ 0x00 ∷ [])
+
+abbrev i32Const : ℕ → Bytes
+i32Const n = 0x41 ∷ n ∷ []
+
+-- a local by its identifier
+abbrev localGet : Identifier → Bytes
+localGet l = 0x20 ∷ 0x02 ∷ length l ∷ l
+
+abbrev localSet : Identifier → Bytes
+localSet l = 0x21 ∷ 0x02 ∷ length l ∷ l
+
+-- a call_indirect with no table index, of a type with one parameter and no results
+abbrev callIndirect : ℕ → Bytes
+callIndirect t = 0x11 ∷ 0x00 ∷ 0x00 ∷ 0x01 ∷ 0x00 ∷ t ∷ 0x00 ∷ []
 
 -- a table of its own with a minimum of 0
 abbrev table : Identifier → Bytes
@@ -339,6 +379,51 @@ samples =
     -- a strict call: data 0 where there is none, and a memory that is not named where there is none
     ∷ refusesStrict (function ++ (0xFC ∷ 0x09 ∷ 0x01 ∷ 0x00 ∷ []) ++ bodyEnd) 20 1
     ∷ refusesStrict (function ++ (0xFC ∷ 0x0A ∷ 0x00 ∷ 0x00 ∷ []) ++ bodyEnd) 20 1
+    -- (02 §4) i32.store (i32.add (i32.const 1) (i32.const 2)) (i32.const 3), and drop of memory.fill: operands first, then the operator; with no
+    -- operands the operator alone
+    ∷ assembles (function ++ fold (0x36 ∷ 0x00 ∷ 0x00 ∷ 0x00 ∷ []) (fold (0x6A ∷ []) (fold (i32Const 1) [] ∷ fold (i32Const 2) [] ∷ []) ∷ fold (i32Const 3) [] ∷ [])
+    ++ fold (0x1A ∷ []) (fold (0xFC ∷ 0x0B ∷ 0x00 ∷ []) [] ∷ []) ++ fold (i32Const 4) [] ++ bodyEnd) 10
+    (oneFunction ++ (0x0A ∷ 0x14 ∷ 0x01 ∷ 0x12 ∷ 0x00 ∷ 0x41 ∷ 0x01 ∷ 0x41 ∷ 0x02 ∷ 0x6A ∷ 0x41 ∷ 0x03 ∷ 0x36 ∷ 0x02 ∷ 0x00 ∷ 0xFC ∷ 0x0B ∷ 0x00 ∷ 0x1A ∷ 0x41 ∷ 0x04 ∷ 0x0B ∷ []))
+    -- resolving goes in flat order: the operand's fault at record 2 before its operator's at 1, and of two operands the left one's
+    ∷ refuses (function ++ fold (localSet a) (fold (localGet b) [] ∷ []) ++ bodyEnd) 14 2
+    ∷ refuses (function ++ fold (localSet a) (fold (0x6A ∷ []) (fold (localGet b) [] ∷ fold (localGet c) [] ∷ []) ∷ []) ++ bodyEnd) 14 3
+    -- types are added in flat order, each at its own record
+    ∷ uses (function ++ fold (callIndirect 0x7E) (fold (callIndirect 0x7D) (fold (callIndirect 0x7F) [] ∷ []) ∷ fold (callIndirect 0x7C) [] ∷ []) ++ callIndirect 0x7F ++ bodyEnd)
+    (0 ∷ 3 ∷ 2 ∷ 4 ∷ 1 ∷ 5 ∷ [])
+    ∷ assembles (function ++ fold (callIndirect 0x7E) (fold (callIndirect 0x7F) [] ∷ []) ++ bodyEnd) 4
+    (S1 ++ (0x01 ∷ 0x0C ∷ 0x03 ∷ 0x60 ∷ 0x00 ∷ 0x00 ∷ 0x60 ∷ 0x01 ∷ 0x7F ∷ 0x00 ∷ 0x60 ∷ 0x01 ∷ 0x7E ∷ 0x00 ∷ 0x03 ∷ 0x02 ∷ 0x01 ∷ 0x00 ∷ 0x0A ∷ 0x0A ∷ 0x01 ∷ 0x08 ∷ 0x00 ∷ 0x11 ∷ 0x01 ∷ 0x00 ∷ 0x11 ∷ 0x02 ∷ 0x00 ∷ 0x0B ∷ []))
+    -- a barred operator: block, loop, if, else, end, FF, F0; 8 is not asked. No opcode; no operator; no count
+    ∷ refuses (function ++ (0xF0 ∷ 0x02 ∷ [])) 4 1
+    ∷ refuses (function ++ (0xF0 ∷ 0x03 ∷ [])) 4 1
+    ∷ refuses (function ++ (0xF0 ∷ 0x04 ∷ [])) 4 1
+    ∷ refuses (function ++ (0xF0 ∷ 0x05 ∷ [])) 4 1
+    ∷ refuses (function ++ (0xF0 ∷ 0x0B ∷ [])) 4 1
+    ∷ refuses (function ++ (0xF0 ∷ 0xFF ∷ [])) 4 1
+    ∷ refuses (function ++ (0xF0 ∷ 0xF0 ∷ [])) 4 1
+    ∷ refuses (function ++ (0xF0 ∷ 0x06 ∷ [])) 4 1
+    ∷ refuses (function ++ (0xF0 ∷ [])) 2 1
+    ∷ refuses (function ++ (0xF0 ∷ 0x1A ∷ [])) 2 1
+    -- 16 operands, and 17 at the count's last byte, after 19
+    ∷ assembles (function ++ fold (0x1A ∷ []) (replicate 16 (nested 1)) ++ bodyEnd) 19 (oneFunction ++ (0x0A ∷ 0x15 ∷ 0x01 ∷ 0x13 ∷ 0x00 ∷ []) ++ replicate 16 0x01 ++ (0x1A ∷ 0x0B ∷ []))
+    ∷ refuses (function ++ (0xF0 ∷ 0x1A ∷ 0x11 ∷ [])) 7 1
+    ∷ refuses (function ++ (0xF0 ∷ 0x1A ∷ 0x91 ∷ 0x00 ∷ [])) 19 1
+    -- where an operand is due, a nop, an else and FF at the next record's number, and the stream's end
+    ∷ refuses (function ++ waiting 1 ++ (0x01 ∷ [])) 4 2
+    ∷ refuses (function ++ waiting 1 ++ (0x05 ∷ [])) 4 2
+    ∷ refuses (function ++ waiting 1 ++ bodyEnd) 4 2
+    ∷ refuses (function ++ waiting 2) 2 3
+    ∷ refuses (function ++ fold (0x6A ∷ []) (nested 2 ∷ (0x01 ∷ []) ∷ [])) 4 4
+    -- nested 32 deep, in both operands; and once more, in the first and in the second, at the number that it would have
+    ∷ assembles (function ++ fold (0x01 ∷ []) (nested 31 ∷ nested 31 ∷ []) ++ bodyEnd) 65 (oneFunction ++ (0x0A ∷ 0x43 ∷ 0x01 ∷ 0x41 ∷ 0x00 ∷ []) ++ replicate 63 0x01 ++ (0x0B ∷ []))
+    ∷ refuses (function ++ waiting 32 ++ (0xF0 ∷ [])) 7 33
+    ∷ refuses (function ++ fold (0x01 ∷ []) (nested 31 ∷ waiting 31 ∷ []) ++ (0xF0 ∷ [])) 7 64
+    -- one record too many: 7, and 4 where no record may begin so; no F0 outside a body
+    ∷ passesCeiling 1 (function ++ (0xF0 ∷ [])) 7
+    ∷ passesCeiling 1 (function ++ (0x06 ∷ [])) 4
+    ∷ passesCeiling 2 (function ++ waiting 1 ++ (0xF0 ∷ [])) 7
+    ∷ passesCeiling 2 (function ++ waiting 1 ++ (0x01 ∷ [])) 4
+    ∷ passesCeiling 2 (function ++ waiting 1 ++ bodyEnd) 4
+    ∷ refuses (0xF0 ∷ []) 4 0
     -- no name, no section
     ∷ assemblesNames [] 0 S1 []
     -- S7's parameter x is 0, and its function has no identifier; S8's l is 2
@@ -357,14 +442,15 @@ unfolding Basic._>>=_ Basic.each Basic.concatMap Basic.any Basic.same Basic.same
     Token.param Token.typeUse Instructions.opcodes Instructions.formIn Instructions.formOf Instructions.naturals Instructions.exponent
     Instructions.alignment Instructions.bulks Instructions.spacesIn Instructions.spacesOf Instructions.indexIn Instructions.indices Instructions.plainOf Instructions.constant Instructions.instruction Instructions.isOpen
     Instructions.mayElse Instructions.admits Instructions.opened Instructions.elsed Instructions.openAfter Instructions.insideAfter
-    Instructions.bodyRec Records.importName
+    Instructions.complete Instructions.awaiting Instructions.foldedAfter Instructions.unfoldedRec Instructions.mayFold Instructions.operator Instructions.fold Instructions.foldedRec
+    Instructions.isDue Instructions.bodyRec Instructions.bodyBegins Records.importName
     Records.funcExtern Records.tableExtern Records.memExtern Records.globalExtern Records.importOf Records.importRec Records.itemRec
     Records.importForm Records.ownFuncForm Records.funcRec Records.ownTableForm Records.inlineTableForm Records.tableRec
     Records.ownMemForm Records.inlineMemForm Records.memRec Records.ownGlobalForm Records.globalRec Records.typeRec Records.kind
-    Records.exportRec Records.startRec Records.activeMode Records.mode Records.elemRec Records.dataRec Records.fieldRecs Records.fieldRec
+    Records.exportRec Records.startRec Records.activeMode Records.mode Records.elemRec Records.dataRec Records.fieldRecs Records.fieldRec Records.fieldBegins
     Read.nothingSeen Read.room Read.ownBody Read.sourceBody Read.fieldBody Read.isStart Read.bodyAfter Read.itemsAfter
-    Read.startedAfter Read.seenAfter Read.oneRecord Read.records Read.read Deinline.exactly Deinline.pages Deinline.zeroOffset
-    Deinline.sourceFields Deinline.fieldsOf Deinline.bodyOf Deinline.deinlineFrom Deinline.deinline Deinline.importsFrom
+    Read.startedAfter Read.seenAfter Read.oneRecord Read.records Read.read Folded.follow Folded.still Folded.flatten Folded.bodyOf Deinline.exactly Deinline.pages Deinline.zeroOffset
+    Deinline.sourceFields Deinline.fieldsOf Deinline.deinlineFrom Deinline.deinline Deinline.importsFrom
     Deinline.importOrder Types.signature Types.sameType Types.typeAt Types.typeNumber Types.isInline Types.isShort Types.useOf
     Types.instrUses Types.bodyUses Types.externUses Types.ownUses Types.fieldUses Types.uses Types.declaredBy Types.declared Types.intern
     Types.allTypes Names.find Names.taken Names.distinct Names.space Names.definers Names.holder Names.itemOf Names.register Names.below Names.numberIn Names.isAbsent

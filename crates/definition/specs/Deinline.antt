@@ -7,10 +7,11 @@ use mathlib.Core.List.{List, [], _∷_, _++_, map}
 use mathlib.Core.Option.{Option, none, some}
 use lib.ListN.{length}
 use Rattle.definition.specs.Basic.{if_then_else_, Answer, ok, refused}
-use Rattle.definition.specs.Syntax.{Space, Limits, active, number, ownIndex, ownTable, ownMem, Plain, int32, int64, Instr}
-use Rattle.definition.specs.Syntax.{Source, own, imported, tableOf, memOf, FieldRec, typeR, importR, itemR, exportR, startR, elemR, dataR, Rec, field, instr, bodyEnd}
-use Rattle.definition.specs.Syntax.{Field, typeF, importF, ownF, exportF, startF, elemF, dataF}
+use Rattle.definition.specs.Syntax.{Space, Limits, active, number, ownIndex, ownTable, ownMem, Plain, int32, int64}
+use Rattle.definition.specs.Syntax.{Source, own, imported, tableOf, memOf, FieldRec, typeR, importR, itemR, exportR, startR, elemR, dataR, Rec, field, instr, folded, bodyEnd}
+use Rattle.definition.specs.Syntax.{Body, Field, typeF, importF, ownF, exportF, startF, elemF, dataF}
 use Rattle.definition.specs.Spaces.{sourceSpace, brings, count}
+use Rattle.definition.specs.Folded.{bodyOf}
 
 -- minimum and maximum alike
 unfoldable pub exactly : Bool → ℕ → Limits
@@ -25,7 +26,7 @@ unfoldable pub zeroOffset : {I : Type 0} → Bool → Plain I
 zeroOffset wide = if wide then record { opcode = 0x42; operand = int64 0 } else record { opcode = 0x41; operand = int32 0 }
 
 -- the fields of an item that has the number `n` in its space; `b` is the body that follows
-unfoldable pub sourceFields : {I : Type 0} → Option I → ℕ → Source I → List (Instr I) → List (Field I)
+unfoldable pub sourceFields : {I : Type 0} → Option I → ℕ → Source I → Body I → List (Field I)
 sourceFields i n (own o) b = ownF i o b ∷ []
 sourceFields i n (imported m d) b = importF m i d ∷ []
 sourceFields i n (tableOf wide xs) b =
@@ -38,7 +39,7 @@ sourceFields i n (memOf wide d) b =
     ∷ []
 
 -- the fields of a record; `next` is the number of the next item of each space
-unfoldable pub fieldsOf : {I : Type 0} → (Space → ℕ) → FieldRec I → List (Instr I) → List (Field I)
+unfoldable pub fieldsOf : {I : Type 0} → (Space → ℕ) → FieldRec I → Body I → List (Field I)
 fieldsOf next (typeR i t) b = typeF i t ∷ []
 fieldsOf next (importR n i d) b = importF n i d ∷ []
 fieldsOf next (itemR i es x) b =
@@ -49,13 +50,6 @@ fieldsOf next (startR x) b = startF x ∷ []
 fieldsOf next (elemR i m xs) b = elemF i m xs ∷ []
 fieldsOf next (dataR i m d) b = dataF i m d ∷ []
 
--- the instructions up to the body's end
-unfoldable pub bodyOf : {I : Type 0} → List (Rec I) → List (Instr I)
-bodyOf [] = []
-bodyOf (field f ∷ rs) = []
-bodyOf (instr x ∷ rs) = x ∷ bodyOf rs
-bodyOf (bodyEnd ∷ rs) = []
-
 abbrev pub Numbered : Type 0 → Type 0
 Numbered I = List (ℕ × Field I)
 
@@ -63,8 +57,9 @@ Numbered I = List (ℕ × Field I)
 unfoldable pub deinlineFrom : {I : Type 0} → ℕ → List Space → List (Rec I) → Numbered I
 deinlineFrom r seen [] = []
 deinlineFrom r seen (field f ∷ rs) =
-    map (λ x. (r, x)) (fieldsOf (λ k. count k seen) f (bodyOf rs)) ++ deinlineFrom (r + 1) (brings f ++ seen) rs
+    map (λ x. (r, x)) (fieldsOf (λ k. count k seen) f (bodyOf (r + 1) rs)) ++ deinlineFrom (r + 1) (brings f ++ seen) rs
 deinlineFrom r seen (instr x ∷ rs) = deinlineFrom (r + 1) seen rs
+deinlineFrom r seen (folded x n ∷ rs) = deinlineFrom (r + 1) seen rs
 deinlineFrom r seen (bodyEnd ∷ rs) = deinlineFrom (r + 1) seen rs
 
 unfoldable pub deinline : {I : Type 0} → List (Rec I) → Numbered I

@@ -1,15 +1,15 @@
 -- The instruction records of a body, and constants (document 01; opcodes as in the standard, 5.4).
-use Prim.Native.Nat.{ℕ, _-_}
-use mathlib.Core.Bool.{Bool, true, false, _||_, not}
+use Prim.Native.Nat.{ℕ, zero, suc, _-_}
+use mathlib.Core.Bool.{Bool, true, false, _&&_, _||_, not}
 use mathlib.Core.List.{List, [], _∷_, tail}
 use mathlib.Core.Option.{Option, none, some}
 use lib.Dec.{eqb, leb, ltb}
 use lib.ListN.{length, getD}
 use Rattle.definition.specs.Basic.{if_then_else_, between, isSome}
 use Rattle.definition.specs.Syntax.{Identifier, Space, funcs, mems, globals, datas, sameSpace, Index}
-use Rattle.definition.specs.Syntax.{Operand, nothing, label, labels, local, item, items, access, int32, int64, raw, Plain, Instr, opens, elses, ends, indirect, plain, Rec, instr, bodyEnd}
+use Rattle.definition.specs.Syntax.{Operand, nothing, label, labels, local, item, items, access, int32, int64, raw, Plain, Instr, opens, elses, ends, indirect, plain, Rec, instr, folded, bodyEnd}
 use Rattle.definition.specs.Reader.{Reader, _>>=_, _>>_, give, refuse, require, byte, byteOf, many, choose}
-use Rattle.definition.specs.Token.{u32, u64, counted, identifier, refType, present, optional, typeUse}
+use Rattle.definition.specs.Token.{u32, u64, upTo, counted, identifier, refType, present, optional, typeUse}
 
 -- ## What stands after an opcode
 
@@ -138,19 +138,20 @@ instruction op ending = identifier >>= λ l. give (ends l)
 instruction op calling = optional >>= λ x. typeUse >>= λ t. give (indirect x t)
 instruction op (operands x) = plainOf op x >>= λ p. give (plain p)
 
--- ## What may come in a body (document 02, §3)
+-- ## Where reading stands in a body (document 02, §3 and §4)
 
 -- the open blocks, innermost first, each with whether an else may still come in it
 abbrev pub Blocks : Type 0
 Blocks = List Bool
 
--- where reading stands in a body
+-- the open blocks; and the folded records that wait for operands, innermost first, each with how many are still due
 pub record Inside : Type 0 where
   pub blocks : Blocks
+  pub due : List ℕ
 
--- at a body's beginning no block is open
+-- at a body's beginning no block is open and no operand is due
 abbrev pub begun : Inside
-begun = record { blocks = [] }
+begun = record { blocks = []; due = [] }
 
 unfoldable pub isOpen : Blocks → Bool
 isOpen [] = false
@@ -185,7 +186,20 @@ openAfter (indirect x t) bs = bs
 openAfter (plain p) bs = bs
 
 unfoldable pub insideAfter : {I : Type 0} → Instr I → Inside → Inside
-insideAfter x i = record { blocks = openAfter x (i .blocks) }
+insideAfter x i = record { blocks = openAfter x (i .blocks); due = i .due }
+
+-- an operand is complete: a folded record that waited for it alone is complete too, and so on outward
+unfoldable pub complete : List ℕ → List ℕ
+complete [] = []
+complete (n ∷ ns) = if leb n 1 then complete ns else (n - 1) ∷ ns
+
+-- after a folded record, by the count of its operands
+unfoldable pub awaiting : ℕ → List ℕ → List ℕ
+awaiting zero ns = complete ns
+awaiting (suc n) ns = suc n ∷ ns
+
+unfoldable pub foldedAfter : ℕ → Inside → Inside
+foldedAfter n i = record { blocks = i .blocks; due = awaiting n (i .due) }
 
 -- ## The records of a body
 
@@ -193,11 +207,44 @@ abbrev pub formed : Inside → ℕ → Option Form → Reader (Instr Identifier)
 formed i op none = refuse 4
 formed i op (some form) = admits i form >> instruction op form
 
--- the byte FF, refused by 8 where a block is open, or an instruction
-unfoldable pub bodyRec : Inside → Reader (Rec Identifier)
-bodyRec i = byte >>= λ b.
+-- a record that is not folded, by its first byte: FF, refused by 8 where a block is open, or an instruction
+unfoldable pub unfoldedRec : Inside → ℕ → Reader (Rec Identifier)
+unfoldedRec i b =
     if eqb b 0xFF then (require 8 (not (isOpen (i .blocks))) >> give bodyEnd) else (formed i b (formOf b) >>= λ x. give (instr x))
 
+-- blocks, loops, ifs, elses and ends may not be folded
+unfoldable pub mayFold : Form → Bool
+mayFold opening = false
+mayFold elsing = false
+mayFold ending = false
+mayFold calling = true
+mayFold (operands x) = true
+
+abbrev pub operatorOf : ℕ → Option Form → Reader (Instr Identifier)
+operatorOf op none = refuse 4
+operatorOf op (some form) = require 4 (mayFold form) >> instruction op form
+
+unfoldable pub operator : Reader (Instr Identifier)
+operator = byte >>= λ b. operatorOf b (formOf b)
+
+-- what stands after F0: the operator, and the count of its operands
+unfoldable pub fold : Reader (Rec Identifier)
+fold = operator >>= λ x. upTo 7 16 >>= λ n. give (folded x n)
+
+-- F0 is refused by 7 where it would be nested 33 deep
+unfoldable pub foldedRec : Inside → Reader (Rec Identifier)
+foldedRec i = require 7 (ltb (length (i .due)) 32) >> fold
+
+unfoldable pub isDue : List ℕ → Bool
+isDue [] = false
+isDue (n ∷ ns) = true
+
+-- a record by its first byte: F0, and where no operand is due any other
+unfoldable pub bodyRec : Inside → Reader (Rec Identifier)
+bodyRec i = do
+  b ← byte
+  if eqb b 0xF0 then foldedRec i else (require 4 (not (isDue (i .due))) >> unfoldedRec i b)
+
 -- may a record of a body begin with this byte?
-unfoldable pub bodyBegins : ℕ → Bool
-bodyBegins b = eqb b 0xFF || isSome (formOf b)
+unfoldable pub bodyBegins : Inside → ℕ → Bool
+bodyBegins i b = eqb b 0xF0 || (not (isDue (i .due)) && (eqb b 0xFF || isSome (formOf b)))

@@ -6,6 +6,7 @@ pub mod Token
 pub mod Instructions
 pub mod Records
 pub mod Read
+pub mod Folded
 pub mod Deinline
 pub mod Types
 pub mod Names

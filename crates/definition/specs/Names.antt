@@ -10,7 +10,7 @@ use Rattle.definition.specs.Basic.{if_then_else_, Answer, ok, fails, ref
 use Rattle.definition.specs.Syntax.{ValType, Space, funcs, tables, mems, types, elems, datas, sameSpace, FuncType, ExternType, func, table, mem, global}
 use Rattle.definition.specs.Syntax.{Mode, passive, active, Index, absent, number, named, ownIndex, Local, TypeUse, Own, ownFunc, ownTable, ownMem, ownGlobal}
 use Rattle.definition.specs.Syntax.{Operand, nothing, label, labels, local, item, items, access, int32, int64, raw, Plain, Instr, opens, elses, ends, indirect, plain}
-use Rattle.definition.specs.Syntax.{Field, typeF, importF, ownF, exportF, startF, elemF, dataF}
+use Rattle.definition.specs.Syntax.{Body, Field, typeF, importF, ownF, exportF, startF, elemF, dataF}
 use Rattle.definition.specs.Syntax.{LocalNo, TypeNo, Depth, BlockType, empty, single, typed, Op}
 use Rattle.definition.specs.Syntax.{Imm, noImm, blockImm, labelImm, labelsImm, localImm, itemImm, itemsImm, indirectImm, accessImm, int32Imm, int64Imm, rawImm}
 use Rattle.definition.specs.Syntax.{Item, typeI, importI, funcI, tableI, memI, globalI, exportI, startI, elemI, dataI}
@@ -225,10 +225,10 @@ module _ {I : Type 0} (Γ : Scope I) where
       itemNo tables r x >>= λ n. typeNo r t >>= λ y. ok (record { opcode = 0x11; imm = indirectImm y n })
   instrOp locals blocks r (plain p) = plainOp locals blocks r p
 
-  unfoldable pub body : Namespace I → Namespace I → ℕ → List (Instr I) → Answer (List Op)
-  body locals blocks r [] = ok []
-  body locals blocks r (x ∷ xs) =
-      instrOp locals blocks r x >>= λ o. body locals (blocksAfter blocks x) (r + 1) xs >>= λ os. ok (o ∷ os)
+  unfoldable pub body : Namespace I → Namespace I → Body I → Answer (List Op)
+  body locals blocks [] = ok []
+  body locals blocks ((r, x) ∷ xs) =
+      instrOp locals blocks r x >>= λ o. body locals (blocksAfter blocks x) xs >>= λ os. ok (o ∷ os)
 
   -- ## Fields
 
@@ -237,11 +237,11 @@ module _ {I : Type 0} (Γ : Scope I) where
   distinctLocals r locals = if distinct (Γ .eq) [] locals then ok tt else refused 13 r
 
   -- in a function the type use, the locals, the body
-  unfoldable pub ownItem : ℕ → Own I → List (Instr I) → Answer Item
+  unfoldable pub ownItem : ℕ → Own I → Body I → Answer Item
   ownItem r (ownFunc t ls) b =
       typeNo r t >>= λ n.
       distinctLocals r (localsOf (Γ .allTypes) n t ls) >>= λ _.
-      body (localsOf (Γ .allTypes) n t ls) [] (r + 1) b >>= λ os.
+      body (localsOf (Γ .allTypes) n t ls) [] b >>= λ os.
       ok (funcI n (map (λ l. l .type) ls) os)
   ownItem r (ownTable t) b = ok (tableI t)
   ownItem r (ownMem l) b = ok (memI l)

@@ -7,9 +7,9 @@ use lib.Dec.{leb, ltb}
 use lib.ListN.{length, getD}
 use Rattle.definition.specs.Basic.{if_then_else_, Answer, ok, fails, refused, between, isSome}
 use Rattle.definition.specs.Syntax.{Bytes, Identifier, Space, Instr, opens, elses, ends, indirect, plain, Own, ownFunc, ownTable, ownMem, ownGlobal}
-use Rattle.definition.specs.Syntax.{Source, own, imported, tableOf, memOf, FieldRec, typeR, importR, itemR, exportR, startR, elemR, dataR, Rec, field, instr, bodyEnd}
+use Rattle.definition.specs.Syntax.{Source, own, imported, tableOf, memOf, FieldRec, typeR, importR, itemR, exportR, startR, elemR, dataR, Rec, field, instr, folded, bodyEnd}
 use Rattle.definition.specs.Reader.{Step, got, fault, Reader, _>>=_, give}
-use Rattle.definition.specs.Instructions.{Inside, begun, insideAfter, bodyRec, bodyBegins}
+use Rattle.definition.specs.Instructions.{Inside, begun, insideAfter, foldedAfter, bodyRec, bodyBegins}
 use Rattle.definition.specs.Records.{Room, fieldRec, fieldBegins}
 use Rattle.definition.specs.Spaces.{brings, count}
 
@@ -63,20 +63,27 @@ abbrev pub instrBody : {I : Type 0} → Instr I → Option Inside → Option Ins
 instrBody x none = none
 instrBody x (some i) = some (insideAfter x i)
 
+abbrev pub foldedBody : ℕ → Option Inside → Option Inside
+foldedBody n none = none
+foldedBody n (some i) = some (foldedAfter n i)
+
 -- where the body stands after a record
 unfoldable pub bodyAfter : {I : Type 0} → Option Inside → Rec I → Option Inside
 bodyAfter body (field f) = fieldBody f
 bodyAfter body (instr x) = instrBody x body
+bodyAfter body (folded x n) = foldedBody n body
 bodyAfter body bodyEnd = none
 
 unfoldable pub itemsAfter : {I : Type 0} → List Space → Rec I → List Space
 itemsAfter items (field f) = brings f ++ items
 itemsAfter items (instr x) = items
+itemsAfter items (folded x n) = items
 itemsAfter items bodyEnd = items
 
 unfoldable pub startedAfter : {I : Type 0} → Bool → Rec I → Bool
 startedAfter started (field f) = isStart f || started
 startedAfter started (instr x) = started
+startedAfter started (folded x n) = started
 startedAfter started bodyEnd = started
 
 -- what has been seen after one record more
@@ -97,7 +104,7 @@ oneRecord seen = recordIn (room seen) (seen .body)
 -- may a record begin with this byte?
 abbrev pub beginsIn : ℕ → Option Inside → Bool
 beginsIn b none = fieldBegins b
-beginsIn b (some i) = bodyBegins b
+beginsIn b (some i) = bodyBegins i b
 
 -- where the stream ends: in a body refused by 2, at the next record's number
 abbrev pub atEnd : ℕ → Option Inside → Answer (List (Rec Identifier))

@@ -142,18 +142,24 @@ pub data FieldRec (I : Type 0) : Type 0 where
   elemR : Option I → Mode (Index I) (Plain I) → List (Index I) → FieldRec I
   dataR : Option I → Mode (Index I) (Plain I) → Bytes → FieldRec I
 
+-- `folded` is F0 with its operator and the count of its operands, which are the records after it (document 02, §4)
 pub data Rec (I : Type 0) : Type 0 where
   field : FieldRec I → Rec I
   instr : Instr I → Rec I
+  folded : Instr I → ℕ → Rec I
   bodyEnd : Rec I
 
--- ## Fields: a module with nothing inline
+-- ## Fields: a module with nothing inline and nothing folded
+
+-- a body: its instructions in flat order, each with the number of its record
+abbrev pub Body : Type 0 → Type 0
+Body I = List (ℕ × Instr I)
 
 -- an own function has its body; every other item has none
 pub data Field (I : Type 0) : Type 0 where
   typeF : Option I → FuncType → Field I
   importF : ImportName → Option I → ExternType (TypeUse I) → Field I
-  ownF : Option I → Own I → List (Instr I) → Field I
+  ownF : Option I → Own I → Body I → Field I
   exportF : Bytes → Space → Index I → Field I
   startF : Index I → Field I
   elemF : Option I → Mode (Index I) (Plain I) → List (Index I) → Field I

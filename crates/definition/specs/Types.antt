@@ -9,7 +9,7 @@ use lib.ListN.{length}
 use Rattle.definition.specs.Basic.{if_then_else_, Answer, ok, refused, _>>=_, sameBytes, firstAt, someOr}
 use Rattle.definition.specs.Syntax.{FuncType, ExternType, func, table, mem, global, Index, absent, number, named, ownIndex, TypeUse}
 use Rattle.definition.specs.Syntax.{Instr, opens, elses, ends, indirect, plain, Own, ownFunc, ownTable, ownMem, ownGlobal}
-use Rattle.definition.specs.Syntax.{Field, typeF, importF, ownF, exportF, startF, elemF, dataF}
+use Rattle.definition.specs.Syntax.{Body, Field, typeF, importF, ownF, exportF, startF, elemF, dataF}
 use Rattle.definition.specs.Deinline.{Numbered}
 
 -- ## Signatures
@@ -61,9 +61,9 @@ Uses = List (ℕ × FuncType)
 abbrev pub usedAt : ℕ → List FuncType → Uses
 usedAt r ts = map (λ t. (r, t)) ts
 
-unfoldable pub bodyUses : {I : Type 0} → ℕ → List (Instr I) → Uses
-bodyUses r [] = []
-bodyUses r (x ∷ xs) = usedAt r (instrUses x) ++ bodyUses (r + 1) xs
+unfoldable pub bodyUses : {I : Type 0} → Body I → Uses
+bodyUses [] = []
+bodyUses ((r, x) ∷ xs) = usedAt r (instrUses x) ++ bodyUses xs
 
 unfoldable pub externUses : {I : Type 0} → ExternType (TypeUse I) → List FuncType
 externUses (func t) = useOf t
@@ -81,7 +81,7 @@ ownUses (ownGlobal t c) = []
 unfoldable pub fieldUses : {I : Type 0} → ℕ → Field I → Uses
 fieldUses r (typeF i t) = []
 fieldUses r (importF n i d) = usedAt r (externUses d)
-fieldUses r (ownF i o b) = usedAt r (ownUses o) ++ bodyUses (r + 1) b
+fieldUses r (ownF i o b) = usedAt r (ownUses o) ++ bodyUses b
 fieldUses r (exportF n k x) = []
 fieldUses r (startF x) = []
 fieldUses r (elemF i m xs) = []

@@ -7,7 +7,7 @@ use mathlib.Core.Option.{Option, none}
 use lib.ListN.{length}
 use Rattle.definition.specs.Basic.{Answer, ok, fails, _>>=_, each, concatMap}
 use Rattle.definition.specs.Syntax as Syntax
-use Rattle.definition.specs.Syntax.{Bytes, Identifier, FuncType, Space, ExternType, Index, number, ownIndex, active, Plain, Instr, TypeUse, TypeNo, Item, Field, typeF, importF, ownF, exportF, startF, elemF, dataF}
+use Rattle.definition.specs.Syntax.{Bytes, Identifier, FuncType, Space, ExternType, Index, number, ownIndex, active, Plain, Body, TypeUse, TypeNo, Item, Field, typeF, importF, ownF, exportF, startF, elemF, dataF}
 use Rattle.definition.specs.Syntax.{ownFunc, ownTable, ownMem, ownGlobal}
 use Rattle.definition.specs.Token as Token
 use Rattle.definition.specs.Spaces.{sourceSpace}
@@ -122,7 +122,7 @@ module _ (Γ : Scope Identifier) (r : ℕ) where
   unfolding resolve entries untyped entryOf
   import-single n i d = single-then 2 (externNo Γ r d) (λ e. ok (Syntax.importI n e)) (λ e. refl)
 
-  global-single : (i : Option Identifier) (t : Syntax.GlobalType) (c : Plain Identifier) (b : List (Instr Identifier)) → Single 6 (resolve Γ r (ownF i (ownGlobal t c) b))
+  global-single : (i : Option Identifier) (t : Syntax.GlobalType) (c : Plain Identifier) (b : Body Identifier) → Single 6 (resolve Γ r (ownF i (ownGlobal t c) b))
   unfolding resolve ownItem entries untyped entryOf
   global-single i t c b = single-then 6 (constOp Γ r c) (λ o. ok (Syntax.globalI t o)) (λ o. refl)
 
@@ -168,13 +168,13 @@ function-two (ok n) f h = go (f n) (h n)
     go (fails q) e = refl
 
 module _ (Γ : Scope Identifier) (r : ℕ) where
-  function-both : (i : Option Identifier) (t : TypeUse Identifier) (ls : List (Syntax.Local Identifier)) (b : List (Instr Identifier))
+  function-both : (i : Option Identifier) (t : TypeUse Identifier) (ls : List (Syntax.Local Identifier)) (b : Body Identifier)
       → resolvedIn (resolve Γ r (ownF i (ownFunc t ls) b)) ≡ both (tagged 3 (oneOf typeBytes (typeNo Γ r t))) (tagged 10 (oneOf codeOf (resolve Γ r (ownF none (ownFunc t ls) b))))
   unfolding resolve ownItem entries untyped typeBytes
   function-both i t ls b =
       function-two (typeNo Γ r t) _
       (λ n. function-then n (Names.distinctLocals Γ r (Names.localsOf (Γ .allTypes) n t ls)) _
-      (λ z. function-then n (Names.body Γ (Names.localsOf (Γ .allTypes) n t ls) [] (r + 1) b) (λ os. ok (Syntax.funcI n (map (λ l. l .type) ls) os)) (λ os. refl)))
+      (λ z. function-then n (Names.body Γ (Names.localsOf (Γ .allTypes) n t ls) [] b) (λ os. ok (Syntax.funcI n (map (λ l. l .type) ls) os)) (λ os. refl)))
 
   -- ## Exports: a number resolves to itself
 
@@ -253,7 +253,7 @@ module _ (Γ : Scope Identifier) (s : Bytes) (r : ℕ) where
       → entriesOf Γ (map (λ x. (r, x)) (map (λ e. exportF e (spaceOf (ownSpaceOf o)) (ownIndex n)) (listOf Token.string s es) ++ (ownF i (ownOf s o) (bodyIn (ownBody (ownOf s o)) (r + 1) s here) ∷ [])))
       ≡ threeIn Γ s r (threeOf (E.Exports es (ownSpaceOf o) n) (secondOf (S.Own o) seen) (thirdOf (S.Own o) here))
   unfolding entryIn answerOf resolve ownItem ownBody entries untyped tagged funcField secondOf thirdOf
-  own-three es i (O.Func t ls) seen n here = item-three es K.Funcs n _ (E.Func t) (E.Code t ls here) (entries-one Γ r _ ∙ function-both Γ r i (useOf s t) (listOf Token.param s ls) (bodyFrom (4096 - (r + 1)) 0 s here))
+  own-three es i (O.Func t ls) seen n here = item-three es K.Funcs n _ (E.Func t) (E.Code t ls here) (entries-one Γ r _ ∙ function-both Γ r i (useOf s t) (listOf Token.param s ls) (bodyFrom 0 (r + 1) s here .body))
   own-three es i (O.Table t) seen n here = item-three es K.Tables n _ (E.Table t) E.Nothing (item-one _ (E.Table t) refl)
   own-three es i (O.Mem l) seen n here = item-three es K.Mems n _ (E.Mem l) E.Nothing (item-one _ (E.Mem l) refl)
   own-three es i (O.Global t c) seen n here = item-three es K.Globals n _ (E.Global t c) E.Nothing (item-one _ (E.Global t c) (single 6 _ (global-single Γ r i (globalTypeIs t) (constantAt s c) [])))

@@ -62,7 +62,7 @@ module _ (P : ℕ → FuncType → Type 0) where
     unfolding fieldsHere fieldsOf fieldBody sourceBody ownBody sourceFields uses fieldUses ownUses usesOf three firstOf itemIn secondOf thirdOf
     own-uses i es (O.Func t ls) here a =
         let u = usedAt (c .rec) (Types.useOf (useOf s t)) in
-        let b = Types.bodyUses (c .rec + 1) (bodyFrom (4096 - (c .rec + 1)) 0 s here) in
+        let b = Types.bodyUses (bodyFrom 0 (c .rec + 1) s here .body) in
         let all : All (u ++ b) = all-first (u ++ b) [] (exports-use _ _ _ (listOf Token.string s es) _ a) in
         record { first = tt; second = all-first u b all; third = all }
     own-uses i es (O.Table t) here a = record { first = tt; second = tt; third = tt }

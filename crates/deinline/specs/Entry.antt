@@ -31,7 +31,7 @@ use Rattle.syntax.specs.declared.Space as Kind
 use Rattle.syntax.specs.Fields.{modeOf}
 use Rattle.syntax.specs.declared.Field.{Field}
 use Rattle.syntax.specs.declared.Field.the-variants as F
-use Rattle.instr.specs.Bodies.{bodyFrom, wholeBody}
+use Rattle.instr.specs.Bodies.{bodyFrom}
 use Rattle.instr.specs.Functions.{funcField}
 use Rattle.frames.specs.Locals.{Head}
 use Rattle.import_export.specs.Entry.{entryOf, exportEntries}
@@ -104,7 +104,7 @@ usesOf s r (E.Exports es k n) = []
 usesOf s r (E.Start x) = []
 usesOf s r (E.Elem m xs) = []
 usesOf s r (E.InlineElem w n xs) = []
-usesOf s r (E.Code t ls here) = usedAt r (Types.useOf (useOf s t)) ++ Types.bodyUses (r + 1) (bodyFrom (4096 - (r + 1)) 0 s here)
+usesOf s r (E.Code t ls here) = usedAt r (Types.useOf (useOf s t)) ++ Types.bodyUses (bodyFrom 0 (r + 1) s here .body)
 usesOf s r (E.Data m d) = []
 usesOf s r (E.InlineData w n d) = []
 
@@ -133,7 +133,7 @@ HeadIn s e = onCode (λ t ls here. Head s t ls) e
 
 -- a function's body reads to its end; `r` is the function's record
 abbrev pub WholeIn : Bytes → ℕ → Entry → Type 0
-WholeIn s r e = onCode (λ t ls here. wholeBody (4096 - (r + 1)) 0 s here ≡ true) e
+WholeIn s r e = onCode (λ t ls here. bodyFrom 0 (r + 1) s here .whole ≡ true) e
 
 -- ## The entries of a field
 

@@ -26,7 +26,7 @@ use Rattle.binary.specs.declared.Emitted.{Emitted}
 use Rattle.binary.specs.declared.Emitted.the-variants as E
 use Rattle.binary.proofs.Emitting.{was-wrote, has-halted}
 use Rattle.type_table.specs.Table.{typesIn}
-use Rattle.instr.specs.Bodies.{bodyFrom}
+use Rattle.instr.specs.Bodies.{Stretch, bodyFrom}
 use Rattle.scope.specs.Scope.{scopeIn, localsIn, FewLocals}
 use Rattle.scope.specs.Answers.{typeAnswer}
 use Rattle.scope.specs.declared.Locals.{Locals}
@@ -101,8 +101,8 @@ module _ (s w : List ℕ) (ls : Code.List) (r here : ℕ) (l : Locals) (old : Li
   pub sized-long : WORDS ≤ length w → WORDS ≤ length w₁
   sized-long h = rw (m .kept .long) h
 
-  pub sized-resolvable : (rec k place : ℕ) → Resolvable s w rec k place → Resolvable s w₁ rec k place
-  sized-resolvable rec k place h = resolvable-kept s w w₁ rec k place (kept-less LOCALS LABELS (omega arith) (m .kept)) h
+  pub sized-resolvable : (t : Stretch) → Resolvable s w t → Resolvable s w₁ t
+  sized-resolvable t h = resolvable-kept s w w₁ t (kept-less LOCALS LABELS (omega arith) (m .kept)) h
 
   module _ (b : ℕ) (d : q ≡ E.To b) where
     x : Wrote (codeBytes s ls) (bodyAnswer s w r here l) old (at + 1) b mid
@@ -167,10 +167,10 @@ module _ (s w : List ℕ) (r : ℕ) (n : TypeNo) (t : TypeUse) (ls : Code.List) 
     pub typed-long : WORDS ≤ length w → WORDS ≤ length w₁
     typed-long g = rw (set .kept .long) g
 
-    pub typed-resolvable : (rec k place : ℕ) → Resolvable s w rec k place → Resolvable s w₁ rec k place
-    typed-resolvable rec k place g = resolvable-kept s w w₁ rec k place (set .kept) g
+    pub typed-resolvable : (v : Stretch) → Resolvable s w v → Resolvable s w₁ v
+    typed-resolvable v g = resolvable-kept s w w₁ v (set .kept) g
 
-    body-set : body (scopeIn s w) (localsOf (typesIn s w) n (useOf s t) (listOf Token.param s ls)) [] (r + 1) (bodyFrom (4096 - (r + 1)) 0 s here) ≡ bodyAnswer s w₁ r here l
+    body-set : body (scopeIn s w) (localsOf (typesIn s w) n (useOf s t) (listOf Token.param s ls)) [] (bodyFrom 0 (r + 1) s here .body) ≡ bodyAnswer s w₁ r here l
     unfolding bodyAnswer
     body-set =
         let a : scopeIn s w₁ ≡ scopeIn s w = scope-kept s w w₁ (set .kept) in

@@ -1,5 +1,5 @@
 -- A function's entry in the code section, by the work area.
-use Prim.Native.Nat.{ℕ, _+_, _-_}
+use Prim.Native.Nat.{ℕ, _+_}
 use mathlib.Core.Path.{_≡_}
 use mathlib.Core.List.{List, [], _++_}
 use lib.ListN.{length}
@@ -29,7 +29,7 @@ use Rattle.scope.specs.declared.Locals.{Locals}
 
 -- the body, resolved
 unfoldable pub bodyAnswer : Bytes → List ℕ → ℕ → ℕ → Locals → Answer (List Op)
-bodyAnswer s w r here l = body (scopeIn s w) (localsIn s w l) [] (r + 1) (bodyFrom (4096 - (r + 1)) 0 s here)
+bodyAnswer s w r here l = body (scopeIn s w) (localsIn s w l) [] (bodyFrom 0 (r + 1) s here .body)
 
 -- locals in runs, and then the instructions
 unfoldable pub codeBytes : Bytes → Code.List → List Op → Bytes
@@ -87,7 +87,7 @@ AreaBy (E.Refused r) w w′ = length w′ ≡ length w
 unfoldable pub typedAnswer : Bytes → List ℕ → ℕ → Syntax.TypeNo → TypeUse → Code.List → ℕ → Answer Item
 typedAnswer s w r n t ls here =
     distinctLocals (scopeIn s w) r (localsOf (typesIn s w) n (useOf s t) (listOf Token.param s ls)) >>= λ _.
-    body (scopeIn s w) (localsOf (typesIn s w) n (useOf s t) (listOf Token.param s ls)) [] (r + 1) (bodyFrom (4096 - (r + 1)) 0 s here) >>= λ os.
+    body (scopeIn s w) (localsOf (typesIn s w) n (useOf s t) (listOf Token.param s ls)) [] (bodyFrom 0 (r + 1) s here .body) >>= λ os.
     ok (Syntax.funcI n (localTypes s (ls .at) (ls .count)) os)
 
 pub record EmitsTyped (s w : List ℕ) (r : ℕ) (n : Syntax.TypeNo) (t : TypeUse) (ls : Code.List) (here : ℕ) (old : List ℕ) (at : ℕ) (q : Emitted) (w′ new : List ℕ) : Type 0 where

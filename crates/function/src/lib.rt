@@ -20,6 +20,7 @@ ghost use Rattle.syntax.specs.Resolved.{typeNoOf};
 ghost use Rattle.type_table.specs.Table.{typesIn, Recalled};
 ghost use Rattle.scope.specs.Scope.{FewLocals};
 ghost use Rattle.frames.specs.Locals.{Head};
+ghost use Rattle.instr.specs.Bodies.{bodyFrom};
 ghost use Rattle.code.specs.Body.{Resolvable};
 ghost use Rattle.function.specs.Function.{bodyAnswer, codeBytes, sizedBytes, EmitsCode, MeasuresCode, MeasuresSized, EmitsAgain, EmitsTyped, EmitsFunc};
 
@@ -34,7 +35,7 @@ fn emit_code(
     ls: List,
     l: Locals,
 ) -> Emitted
-    requires { ⌜ Lent (now s) (now work) × FewLocals l × (rec < 4096) × Resolvable (now s) (now work) (rec + 1) 0 here × Readable (now s) ls ⌝ }
+    requires { ⌜ Lent (now s) (now work) × FewLocals l × (rec < 4096) × Resolvable (now s) (now work) (bodyFrom 0 (rec + 1) (now s) here) × Readable (now s) ls ⌝ }
     ensures { λ r. ⌜ EmitsCode (codeBytes (now (s .entry)) ls) (bodyAnswer (now (s .entry)) (now (work .entry)) rec here l) (now (work .entry)) (now (out .entry)) at r (now (work .exit)) (now (out .exit)) ⌝ }
 {
     let a = runs::put_runs(s, out, at, ls);
@@ -46,7 +47,7 @@ fn emit_code(
 
 // How long they are.
 fn measure_code(s: &[u8], work: &mut [u32], here: usize, rec: u32, ls: List, l: Locals) -> Emitted
-    requires { ⌜ Lent (now s) (now work) × FewLocals l × (rec < 4096) × Resolvable (now s) (now work) (rec + 1) 0 here × Readable (now s) ls ⌝ }
+    requires { ⌜ Lent (now s) (now work) × FewLocals l × (rec < 4096) × Resolvable (now s) (now work) (bodyFrom 0 (rec + 1) (now s) here) × Readable (now s) ls ⌝ }
     ensures { λ r. ⌜ MeasuresCode (codeBytes (now (s .entry)) ls) (bodyAnswer (now (s .entry)) (now (work .entry)) rec here l) (now (work .entry)) r (now (work .exit)) ⌝ }
 {
     let mut none = [0u8; 1];
@@ -63,7 +64,7 @@ fn measure_sized(
     ls: List,
     l: Locals,
 ) -> Emitted
-    requires { ⌜ Lent (now s) (now work) × FewLocals l × (rec < 4096) × Resolvable (now s) (now work) (rec + 1) 0 here × Readable (now s) ls ⌝ }
+    requires { ⌜ Lent (now s) (now work) × FewLocals l × (rec < 4096) × Resolvable (now s) (now work) (bodyFrom 0 (rec + 1) (now s) here) × Readable (now s) ls ⌝ }
     ensures { λ r. ⌜ MeasuresSized (codeBytes (now (s .entry)) ls) (bodyAnswer (now (s .entry)) (now (work .entry)) rec here l) (now (work .entry)) at r (now (work .exit)) ⌝ }
 {
     match measure_code(s, work, here, rec, ls, l) {
@@ -104,7 +105,7 @@ fn emit_again(
     ls: List,
     l: Locals,
 ) -> Emitted
-    requires { ⌜ Lent (now s) (now work) × FewLocals l × (rec < 4096) × Resolvable (now s) (now work) (rec + 1) 0 here × Readable (now s) ls ⌝ }
+    requires { ⌜ Lent (now s) (now work) × FewLocals l × (rec < 4096) × Resolvable (now s) (now work) (bodyFrom 0 (rec + 1) (now s) here) × Readable (now s) ls ⌝ }
     ensures { λ r. ⌜ EmitsAgain (codeBytes (now (s .entry)) ls) (bodyAnswer (now (s .entry)) (now (work .entry)) rec here l) (now (work .entry)) (now (out .entry)) at n r (now (work .exit)) (now (out .exit)) ⌝ }
 {
     let a = leb::put_u(out, at, n as u64);
@@ -123,7 +124,7 @@ fn emit_sized(
     ls: List,
     l: Locals,
 ) -> Emitted
-    requires { ⌜ Lent (now s) (now work) × FewLocals l × (rec < 4096) × Resolvable (now s) (now work) (rec + 1) 0 here × Readable (now s) ls ⌝ }
+    requires { ⌜ Lent (now s) (now work) × FewLocals l × (rec < 4096) × Resolvable (now s) (now work) (bodyFrom 0 (rec + 1) (now s) here) × Readable (now s) ls ⌝ }
     ensures { λ r. ⌜ EmitsCode (sizedBytes (now (s .entry)) ls) (bodyAnswer (now (s .entry)) (now (work .entry)) rec here l) (now (work .entry)) (now (out .entry)) at r (now (work .exit)) (now (out .exit)) ⌝ }
 {
     if out.len() <= at {
@@ -158,7 +159,7 @@ pub fn emit_typed(
     here: usize,
     rec: u32,
 ) -> Emitted
-    requires { ⌜ At (now s) (now work) rec × Resolvable (now s) (now work) (rec + 1) 0 here × Head (now s) t ls ⌝ }
+    requires { ⌜ At (now s) (now work) rec × Resolvable (now s) (now work) (bodyFrom 0 (rec + 1) (now s) here) × Head (now s) t ls ⌝ }
     ensures { λ r. ⌜ EmitsTyped (now (s .entry)) (now (work .entry)) rec (typeNoOf n) t ls here (now (out .entry)) at r (now (work .exit)) (now (out .exit)) ⌝ }
 {
     match frames::set_locals(s, work, n, t, ls, rec) {
@@ -178,7 +179,7 @@ pub fn emit_func(
     here: usize,
     rec: u32,
 ) -> Emitted
-    requires { ⌜ At (now s) (now work) rec × Recalled (now work) (typesIn (now s) (now work)) (Types.usedAt rec (Types.useOf (useOf (now s) t))) × Resolvable (now s) (now work) (rec + 1) 0 here × Head (now s) t ls ⌝ }
+    requires { ⌜ At (now s) (now work) rec × Recalled (now work) (typesIn (now s) (now work)) (Types.usedAt rec (Types.useOf (useOf (now s) t))) × Resolvable (now s) (now work) (bodyFrom 0 (rec + 1) (now s) here) × Head (now s) t ls ⌝ }
     ensures { λ r. ⌜ EmitsFunc (now (s .entry)) (now (work .entry)) rec t ls here (now (out .entry)) at r (now (work .exit)) (now (out .exit)) ⌝ }
 {
     match scope::type_no(s, work, t, rec) {

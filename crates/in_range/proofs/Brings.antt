@@ -6,7 +6,7 @@ use mathlib.Core.Option.{Option}
 use borrow.Author.Tests.{eq-eqb}
 use native.Mathlib.Omega.{arith}
 use Rattle.definition.specs.Basic.{concatMap}
-use Rattle.definition.specs.Syntax.{Bytes, Space, code, ownIndex, Instr, Source, own, imported, tableOf, memOf}
+use Rattle.definition.specs.Syntax.{Bytes, Space, code, ownIndex, Body, Source, own, imported, tableOf, memOf}
 use Rattle.definition.specs.Syntax.{FieldRec, typeR, importR, itemR, exportR, startR, elemR, dataR, Field, exportF}
 use Rattle.definition.specs.Spaces.{ownSpace, sourceSpace, segments, brings, count}
 use Rattle.definition.specs.Deinline.{Numbered, sourceFields, fieldsOf}
@@ -28,7 +28,7 @@ module _ {I : Type 0} (k : Space) where
   exports-bring j n [] xs = refl
   exports-bring j n (e ∷ es) xs = exports-bring j n es xs
 
-  source-brings : (i : Option I) (n : ℕ) (x : Source I) (b : List (Instr I))
+  source-brings : (i : Option I) (n : ℕ) (x : Source I) (b : Body I)
       → count k (fieldSpaces (sourceFields i n x b)) ≡ count k (sourceSpace x ∷ segments x)
   unfolding sourceFields concatMap itemOf sourceSpace segments ownSpace count
   source-brings i n (own o) b = refl
@@ -36,7 +36,7 @@ module _ {I : Type 0} (k : Space) where
   source-brings i n (tableOf wide xs) b = omega arith
   source-brings i n (memOf wide d) b = omega arith
 
-  field-brings : (next : Space → ℕ) (f : FieldRec I) (b : List (Instr I)) → count k (fieldSpaces (fieldsOf next f b)) ≡ count k (brings f)
+  field-brings : (next : Space → ℕ) (f : FieldRec I) (b : Body I) → count k (fieldSpaces (fieldsOf next f b)) ≡ count k (brings f)
   unfolding fieldsOf brings
   field-brings next (typeR i t) b = unfold concatMap itemOf in refl
   field-brings next (importR n i d) b = unfold concatMap itemOf in refl
@@ -58,6 +58,6 @@ module _ {I : Type 0} (k : Space) where
       rw (count-append k (brought (itemOf x)) (spaces (map (λ y. (r, y)) xs ++ fs)), count-append k (brought (itemOf x)) (fieldSpaces xs), later)
       (omega arith)
 
-  pub record-brings : (r : ℕ) (next : Space → ℕ) (f : FieldRec I) (b : List (Instr I)) (fs : Numbered I)
+  pub record-brings : (r : ℕ) (next : Space → ℕ) (f : FieldRec I) (b : Body I) (fs : Numbered I)
       → count k (spaces (map (λ x. (r, x)) (fieldsOf next f b) ++ fs)) ≡ count k (brings f) + count k (spaces fs)
   record-brings r next f b fs = spaces-here r (fieldsOf next f b) fs ∙ ap (λ n. n + count k (spaces fs)) (field-brings next f b)

@@ -9,7 +9,7 @@ use lib.Seq.{drop-append-seam}
 use native.Mathlib.Omega.{arith}
 use native.Mathlib.Nat.{add-assoc, add-zero, zero-add}
 use Rattle.definition.specs.Basic.{if_then_else_, ok, each, concatMap}
-use Rattle.definition.specs.Syntax.{Space, funcs, tables, mems, globals, types, elems, datas, sameSpace, FuncType, ExternType, func, table, mem, global, TypeUse, TypeNo, Instr}
+use Rattle.definition.specs.Syntax.{Space, funcs, tables, mems, globals, types, elems, datas, sameSpace, FuncType, ExternType, func, table, mem, global, TypeUse, TypeNo, Body}
 use Rattle.definition.specs.Syntax.{Own, ownFunc, ownTable, ownMem, ownGlobal, Field, typeF, importF, ownF, exportF, startF, elemF, dataF}
 use Rattle.definition.specs.Syntax.{Item, typeI, importI, funcI, tableI, memI, globalI, exportI, startI, elemI, dataI}
 use Rattle.definition.specs.Spaces.{externSpace, ownSpace, count}
@@ -81,7 +81,7 @@ module _ {I : Type 0} (Γ : Scope I) (r : ℕ) where
   extern-space (mem l) = held (mem l) refl
   extern-space (global g) = held (global g) refl
 
-  own-same : (j : Option I) (o : Own I) (b : List (Instr I)) → Holds (Same (ownF j o b)) (ownItem Γ r o b)
+  own-same : (j : Option I) (o : Own I) (b : Body I) → Holds (Same (ownF j o b)) (ownItem Γ r o b)
   unfolding ownItem itemBrings typeOf declaredBy itemOf ownSpace
   own-same j (ownFunc t ls) b = held-then _ λ n. held-then _ λ _. held-then _ λ os. held _ (refl, refl)
   own-same j (ownTable t) b = held _ (refl, refl)

@@ -14,7 +14,7 @@ use Rattle.definition.specs.Reader.{Step, got, fault, Reader, onward, require, 
 use Rattle.definition.specs.Token.{groups, u32, u64, upTo, counted, idByte, identifier, identifier₁, stringByte, string, bytes, valType, refType, flag, flag64, bound, maximum, limitsOf, limits}
 use Rattle.definition.specs.Token.{tableType, globalType, numberIndex, namedIndex, present, optional, param, typeUse}
 use Rattle.definition.specs.Instructions.{Operands, bare, labelidx, labelidxs, localidx, funcidx, globalidx, memidx, memarg, i32, i64, f32, f64, heaptype, bulk}
-use Rattle.definition.specs.Instructions.{Form, opening, elsing, ending, calling, operands, alignment, indexIn, indices, bulkOf, plainOf, constant, instruction, Inside, admits, formed, bodyRec}
+use Rattle.definition.specs.Instructions.{Form, opening, elsing, ending, calling, operands, alignment, indexIn, indices, bulkOf, plainOf, constant, instruction, Inside, admits, formed, unfoldedRec, mayFold, operatorOf, operator, fold, foldedRec, bodyRec}
 use Rattle.definition.specs.Records.{Room, importName, funcExtern, tableExtern, memExtern, globalExtern, importOf, importRec, itemRec, importForm}
 use Rattle.definition.specs.Records.{ownFuncForm, funcRec, ownTableForm, inlineTableForm, tableRec, ownMemForm, inlineMemForm, memRec, ownGlobalForm, globalRec}
 use Rattle.definition.specs.Records.{typeRec, kind, exportRec, startRec, activeMode, mode, elemRec, dataRec, fieldRecs, fieldRec}
@@ -195,9 +195,18 @@ by-formed i op (some ending) s at = search tokens depth 12
 by-formed i op (some calling) s at = search tokens depth 12
 by-formed i op (some (operands w)) s at = search (tokens, by-plain) depth 12
 
+by-operator : (op : ℕ) (form : Option Form) (s : Bytes) (at : ℕ) → NotZero (operatorOf op form s at)
+unfolding mayFold instruction
+by-operator op none s at = search tokens
+by-operator op (some opening) s at = search tokens depth 12
+by-operator op (some elsing) s at = search tokens depth 12
+by-operator op (some ending) s at = search tokens depth 12
+by-operator op (some calling) s at = search tokens depth 12
+by-operator op (some (operands w)) s at = search (tokens, by-plain) depth 12
+
 by-body : (i : Inside) (s : Bytes) (at : ℕ) → NotZero (bodyRec i s at)
-unfolding bodyRec
-by-body i s at = search (tokens, by-formed) depth 12
+unfolding bodyRec unfoldedRec foldedRec fold operator
+by-body i s at = search (tokens, by-formed, by-operator) depth 20
 
 -- ## Records
 

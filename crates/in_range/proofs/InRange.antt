@@ -8,7 +8,7 @@ use lib.ListN.{length, length-append, length-map, drop}
 use native.Mathlib.Omega.{arith}
 use Rattle.definition.specs.Basic.{if_then_else_, Answer, ok, each, someOr, sameBytes}
 use Rattle.definition.specs.Syntax.{Bytes, Identifier, Rec, Space, funcs, tables, mems, FuncType, ExternType, func, table, mem, global, Mode, passive, active}
-use Rattle.definition.specs.Syntax.{Index, Local, TypeUse, Own, ownFunc, ownTable, ownMem, ownGlobal, Plain, Instr}
+use Rattle.definition.specs.Syntax.{Index, Local, TypeUse, Own, ownFunc, ownTable, ownMem, ownGlobal, Plain, Body}
 use Rattle.definition.specs.Syntax.{TypeNo, Item, typeI, Field, typeF, importF, ownF, exportF, startF, elemF, dataF}
 use Rattle.definition.specs.Spaces.{count}
 use Rattle.definition.specs.Deinline.{Numbered, importOrder, deinline}
@@ -20,7 +20,7 @@ use Rattle.in_range.specs.InRange.{Every, Below, ConstInRange, ExternInR
 use Rattle.laws.proofs.Interning.{came, use-finds-its-type}
 use Rattle.laws.proofs.Passes.{scope-then}
 use Rattle.in_range.proofs.Gives.{every-append, every-left, every-right, Holds, held, held-by, held-then, held-each}
-use Rattle.in_range.proofs.Sorts.{Told, OwnBelow, Sorted, InstrSorted}
+use Rattle.in_range.proofs.Sorts.{Told, OwnBelow, Sorted, BodySorted}
 use Rattle.in_range.proofs.SortedFields.{OwnSorted, ExternTold, ModeOwn, FieldSorted, NumberedSorted, stream-sorted}
 use Rattle.in_range.proofs.Counts.{spaces, Counted, named-fields, items-counted}
 use Rattle.in_range.proofs.StrictBodies.{Agrees, params-agree, AllServed, served, Strictly, item-held, told-held, typeNo-held, plain-held, body-held}
@@ -45,13 +45,13 @@ module _ {I : Type 0} (eq : I → I → Bool) (names : Space → Namespace I) (r
           length-append (paramNames ts n t) (map (λ l. l .id) ls)
           ∙ rw (params-agree ts t n h, length-map ls (λ l. l .id), length-map ls (λ l. l .type), c .types-are) refl
 
-      own-held : (o : Own I) (b : List (Instr I)) → OwnSorted o → Every InstrSorted b → AllServed ts (usedAt r (ownUses o) ++ bodyUses (r + 1) b)
+      own-held : (o : Own I) (b : Body I) → OwnSorted o → BodySorted b → AllServed ts (usedAt r (ownUses o) ++ bodyUses b)
           → Holds (ItemInRange is) (ownItem Γ r o b)
       unfolding ownItem ownUses
       own-held (ownFunc t ls) b s f h =
-          held-by _ (typeNo-held eq names records ts is c r t s (served ts r (useOf t) (every-left _ (usedAt r (useOf t)) (bodyUses (r + 1) b) h))) λ n g.
+          held-by _ (typeNo-held eq names records ts is c r t s (served ts r (useOf t) (every-left _ (usedAt r (useOf t)) (bodyUses b) h))) λ n g.
           held-then _ λ _.
-          held-by _ (body-held eq names records ts is c (localsOf ts n t ls) [] (r + 1) b f (every-right _ (usedAt r (useOf t)) (bodyUses (r + 1) b) h)) λ os k.
+          held-by _ (body-held eq names records ts is c (localsOf ts n t ls) [] b f (every-right _ (usedAt r (useOf t)) (bodyUses b) h)) λ os k.
           held _ (g .0, rw (← locals-length t ls n (g .1)) k)
       own-held (ownTable t) b s f h = held _ tt
       own-held (ownMem l) b s f h = held _ tt

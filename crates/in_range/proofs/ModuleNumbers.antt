@@ -7,7 +7,7 @@ use Rattle.definition.specs.Basic.{Answer}
 use Rattle.definition.specs.Syntax.{Bytes, Identifier, Space, FuncType, ExternType, func, table, mem, global, Mode, passive, active}
 use Rattle.definition.specs.Syntax.{Index, absent, number, named, ownIndex, TypeUse, Own, ownFunc, ownTable, ownMem, ownGlobal}
 use Rattle.definition.specs.Syntax.{Operand, nothing, label, labels, local, item, items, access, int32, int64, raw, Plain, Instr, opens, elses, ends, indirect, plain}
-use Rattle.definition.specs.Syntax.{Rec, Field, typeF, importF, ownF, exportF, startF, elemF, dataF}
+use Rattle.definition.specs.Syntax.{Rec, Body, Field, typeF, importF, ownF, exportF, startF, elemF, dataF}
 use Rattle.definition.specs.Deinline.{Numbered, importOrder}
 use Rattle.definition.specs.Types.{allTypes}
 use Rattle.definition.specs.Names.{Namespace, Scope, find, foundAt, below, numberIn, agrees, itemNo, checked, typeNoOf, typeNo, blockType, blocksAfter}
@@ -95,17 +95,17 @@ module _ {I : Type 0} (Γ : Scope I) where
     by-instr (indirect x t) = search (answers, by-item, by-type)
     by-instr (plain p) = by-plain p
 
-  by-body : (locals blocks : Namespace I) (r : ℕ) (xs : List (Instr I)) → Positive (body Γ locals blocks r xs)
+  by-body : (locals blocks : Namespace I) (xs : Body I) → Positive (body Γ locals blocks xs)
   unfolding body
-  by-body locals blocks r [] = search answers
-  by-body locals blocks r (x ∷ xs) = by-next _ _ (by-instr locals blocks r x) λ o. by-next _ _ (by-body locals (blocksAfter blocks x) (r + 1) xs) λ os. by-ok _
+  by-body locals blocks [] = search answers
+  by-body locals blocks ((r, x) ∷ xs) = by-next _ _ (by-instr locals blocks r x) λ o. by-next _ _ (by-body locals (blocksAfter blocks x) xs) λ os. by-ok _
 
   module _ (r : ℕ) where
     by-const : (p : Plain I) → Positive (constOp Γ r p)
     unfolding constOp
     by-const p = by-plain [] [] r p
 
-    by-own : (o : Own I) (b : List (Instr I)) → Positive (ownItem Γ r o b)
+    by-own : (o : Own I) (b : Body I) → Positive (ownItem Γ r o b)
     unfolding ownItem distinctLocals
     by-own (ownFunc t ls) b = search (answers, by-type, by-body) depth 12
     by-own (ownTable t) b = search answers

@@ -1,32 +1,33 @@
 -- Every instruction and constant of the fields of a stream that was read has the operand that its opcode tells, and an item's own number, which
 -- de-inlining writes, is below the count of its space.
 use mathlib.Core.Path.{_≡_, refl, subst}
-use Prim.Native.Nat.{ℕ, zero, suc, _+_, _≤_, _<_}
+use Prim.Native.Nat.{ℕ, zero, suc, _+_, _-_, _≤_, _<_}
 use mathlib.Core.Bool.{Bool, true, false}
 use mathlib.Core.List.{List, [], _∷_, _++_, map}
 use mathlib.Core.Option.{Option, none, some}
 use lib.Dec.{leb}
 use lib.ListN.{length}
 use native.Mathlib.Omega.{arith}
-use Rattle.definition.specs.Basic.{Answer, ok, fails, between}
+use Rattle.definition.specs.Basic.{if_then_else_, Answer, ok, fails, between}
 use Rattle.definition.specs.Syntax.{Bytes, Identifier, Space, tables, mems, ExternType, func, table, mem, global}
-use Rattle.definition.specs.Syntax.{Index, ownIndex, TypeUse, Mode, passive, active, Plain, Instr}
+use Rattle.definition.specs.Syntax.{Index, ownIndex, TypeUse, Mode, passive, active, Plain}
 use Rattle.definition.specs.Syntax.{Own, ownFunc, ownTable, ownMem, ownGlobal, Source, own, imported, tableOf, memOf}
-use Rattle.definition.specs.Syntax.{FieldRec, typeR, importR, itemR, exportR, startR, elemR, dataR, Rec, field, instr, bodyEnd}
-use Rattle.definition.specs.Syntax.{Field, typeF, importF, ownF, exportF, startF, elemF, dataF}
+use Rattle.definition.specs.Syntax.{FieldRec, typeR, importR, itemR, exportR, startR, elemR, dataR, Rec, field, instr, folded, bodyEnd}
+use Rattle.definition.specs.Syntax.{Body, Field, typeF, importF, ownF, exportF, startF, elemF, dataF}
 use Rattle.definition.specs.Reader.{Step, got, fault, onward}
-use Rattle.definition.specs.Instructions.{i32, i64, opcodes, formIn, formOf, Inside, bodyRec}
+use Rattle.definition.specs.Instructions.{i32, i64, opcodes, formIn, formOf, Inside, unfoldedRec, fold, foldedRec, bodyRec}
 use Rattle.definition.specs.Records.{Room, funcExtern, tableExtern, memExtern, globalExtern, importOf, importRec, itemRec, importForm}
 use Rattle.definition.specs.Records.{ownFuncForm, funcRec, ownTableForm, inlineTableForm, tableRec, ownMemForm, inlineMemForm, memRec, ownGlobalForm, globalRec}
 use Rattle.definition.specs.Records.{typeRec, exportRec, startRec, activeMode, mode, elemRec, dataRec, fieldRecs, fieldRec}
 use Rattle.definition.specs.Read.{Seen, nothingSeen, room, seenAfter, recordIn, oneRecord, atEnd, before, withRecord, records, read}
 use Rattle.definition.specs.Spaces.{sourceSpace, segments, brings, count}
-use Rattle.definition.specs.Deinline.{zeroOffset, sourceFields, fieldsOf, bodyOf, deinlineFrom, deinline}
+use Rattle.definition.specs.Folded.{Waiting, follow, still, flatten, bodyOf}
+use Rattle.definition.specs.Deinline.{zeroOffset, sourceFields, fieldsOf, deinlineFrom, deinline}
 use Rattle.in_range.specs.InRange.{Every}
 use Rattle.in_range.proofs.Gives.{every-append, every-map, Gives, gives, gives-by, Holds, held, held-none, held-not, held-if}
 use Rattle.in_range.proofs.Counts.{spaces, count-append}
 use Rattle.in_range.proofs.Brings.{counts-itself, record-brings}
-use Rattle.in_range.proofs.Sorts.{Told, OwnBelow, told-below, UseTold, tellings, Sorted, InstrSorted, constant-then, formed-then}
+use Rattle.in_range.proofs.Sorts.{Told, OwnBelow, told-below, UseTold, tellings, Sorted, InstrSorted, BodySorted, constant-then, formed-then, operator-then}
 
 -- ## Records: their constants and instructions
 
@@ -64,11 +65,12 @@ FieldRecSorted (dataR i m d) = ModeSorted m
 abbrev pub RecSorted : {I : Type 0} → Rec I → Type 0
 RecSorted (field f) = FieldRecSorted f
 RecSorted (instr x) = InstrSorted x
+RecSorted (folded x n) = InstrSorted x
 RecSorted bodyEnd = Unit {0}
 
 body-sorted : (i : Inside) (s : Bytes) (at : ℕ) → Gives RecSorted (bodyRec i s at)
-unfolding bodyRec
-body-sorted i s at = search (formed-then, tellings) depth 12
+unfolding bodyRec unfoldedRec foldedRec fold
+body-sorted i s at = search (formed-then, operator-then, tellings) depth 20
 
 -- a segment's mode, and a reader after it
 mode-sorted : (s : Bytes) (at : ℕ) → Gives ModeSorted (mode s at)
@@ -150,7 +152,7 @@ module _ (items : Space → ℕ) where
   abbrev pub FieldSorted : {I : Type 0} → Field I → Type 0
   FieldSorted (typeF i t) = Unit {0}
   FieldSorted (importF n i d) = ExternTold d
-  FieldSorted (ownF i o b) = OwnSorted o × Every InstrSorted b
+  FieldSorted (ownF i o b) = OwnSorted o × BodySorted b
   FieldSorted (exportF n k x) = OwnBelow (items k) x
   FieldSorted (startF x) = Told x
   FieldSorted (elemF i m xs) = ModeOwn tables m × Every Told xs
@@ -167,19 +169,48 @@ module _ {I : Type 0} where
   zero-sorted true = record { sort = i64; form = refl; suits = tt }
   zero-sorted false = record { sort = i32; form = refl; suits = tt }
 
-  bodyOf-sorted : (rs : List (Rec I)) → Every RecSorted rs → Every InstrSorted (bodyOf rs)
+  -- operators that wait for operands
+  abbrev WaitingSorted : Waiting I → Type 0
+  WaitingSorted ws = Every (λ w. InstrSorted (w .2)) ws
+
+  follow-sorted : (ws : Waiting I) → WaitingSorted ws → BodySorted (follow ws)
+  unfolding follow
+  follow-sorted [] h = tt
+  follow-sorted ((n, r, x) ∷ ws) h = go (leb n 1) (follow-sorted ws (h .1))
+    where
+      go : (t : Bool) → BodySorted (follow ws) → BodySorted (if t then (r, x) ∷ follow ws else [])
+      go true w = (h .0, w)
+      go false w = tt
+
+  still-sorted : (ws : Waiting I) → WaitingSorted ws → WaitingSorted (still ws)
+  unfolding still
+  still-sorted [] h = tt
+  still-sorted ((n, r, x) ∷ ws) h = go (leb n 1) (still-sorted ws (h .1))
+    where
+      go : (t : Bool) → WaitingSorted (still ws) → WaitingSorted (if t then still ws else (n - 1, r, x) ∷ ws)
+      go true w = w
+      go false w = h
+
+  flatten-sorted : (r : ℕ) (ws : Waiting I) (rs : List (Rec I)) → WaitingSorted ws → Every RecSorted rs → BodySorted (flatten r ws rs)
+  unfolding flatten
+  flatten-sorted r ws [] w h = tt
+  flatten-sorted r ws (field f ∷ rs) w h = tt
+  flatten-sorted r ws (instr x ∷ rs) w h = (h .0, flatten-sorted (r + 1) ws rs w (h .1))
+  flatten-sorted r ws (folded x zero ∷ rs) w h =
+      (h .0, every-append _ (follow ws) (flatten (r + 1) (still ws) rs) (follow-sorted ws w) (flatten-sorted (r + 1) (still ws) rs (still-sorted ws w) (h .1)))
+  flatten-sorted r ws (folded x (suc n) ∷ rs) w h = flatten-sorted (r + 1) ((suc n, r, x) ∷ ws) rs (h .0, w) (h .1)
+  flatten-sorted r ws (bodyEnd ∷ rs) w h = tt
+
+  bodyOf-sorted : (r : ℕ) (rs : List (Rec I)) → Every RecSorted rs → BodySorted (bodyOf r rs)
   unfolding bodyOf
-  bodyOf-sorted [] h = tt
-  bodyOf-sorted (field f ∷ rs) h = tt
-  bodyOf-sorted (instr x ∷ rs) h = (h .0, bodyOf-sorted rs (h .1))
-  bodyOf-sorted (bodyEnd ∷ rs) h = tt
+  bodyOf-sorted r rs h = flatten-sorted r [] rs tt h
 
   module _ (items : Space → ℕ) where
     mode-own : (k : Space) (m : Mode (Index I) (Plain I)) → ModeSorted m → ModeOwn items k m
     mode-own k passive h = tt
     mode-own k (active x c) h = (told-below (items k) x (h .0), h .1)
 
-    module _ (b : List (Instr I)) (bs : Every InstrSorted b) where
+    module _ (b : Body I) (bs : BodySorted b) where
       source-fields : (i : Option I) (n : ℕ) (x : Source I) → SourceSorted x → n < items (sourceSpace x) → Every (FieldSorted items) (sourceFields i n x b)
       unfolding sourceFields sourceSpace
       source-fields i n (own o) h l = ((h, bs), tt)
@@ -215,15 +246,16 @@ module _ {I : Type 0} where
     from-sorted r seen [] h l = tt
     from-sorted r seen (field f ∷ rs) h l =
         let next : Space → ℕ = λ k. count k seen in
-        let fs = fieldsOf next f (bodyOf rs) in
+        let fs = fieldsOf next f (bodyOf (r + 1) rs) in
         let later = deinlineFrom (r + 1) (brings f ++ seen) rs in
         let coming : Space → ℕ = λ k. count k (brings f) + count k (spaces later) in
-        let within : (k : Space) → next k + coming k ≤ items k = λ k. subst (λ n. next k + n ≤ items k) (record-brings k r next f (bodyOf rs) later) (l k) in
+        let within : (k : Space) → next k + coming k ≤ items k = λ k. subst (λ n. next k + n ≤ items k) (record-brings k r next f (bodyOf (r + 1) rs) later) (l k) in
         every-append (NumberedSorted items) (map (λ x. (r, x)) fs) later
         (every-map (NumberedSorted items) (λ x. (r, x)) fs
-        (fields-sorted (bodyOf rs) (bodyOf-sorted rs (h .1)) next f (h .0) (λ k. let w = within k in omega arith)))
+        (fields-sorted (bodyOf (r + 1) rs) (bodyOf-sorted (r + 1) rs (h .1)) next f (h .0) (λ k. let w = within k in omega arith)))
         (from-sorted (r + 1) (brings f ++ seen) rs (h .1) (λ k. let w = within k in rw (count-append k (brings f) seen) (omega arith)))
     from-sorted r seen (instr x ∷ rs) h l = from-sorted (r + 1) seen rs (h .1) l
+    from-sorted r seen (folded x n ∷ rs) h l = from-sorted (r + 1) seen rs (h .1) l
     from-sorted r seen (bodyEnd ∷ rs) h l = from-sorted (r + 1) seen rs (h .1) l
 
 -- the fields of a stream that was read

@@ -6,11 +6,11 @@ use mathlib.Core.List.{List, [], _∷_, map}
 use mathlib.Core.Option.{Option, none, some}
 use Rattle.definition.specs.Basic.{between}
 use Rattle.definition.specs.Syntax.{Bytes, Identifier, Space, mems, sameSpace, Index, absent, number, named, ownIndex, TypeUse}
-use Rattle.definition.specs.Syntax.{Operand, nothing, label, labels, local, item, items, access, int32, int64, raw, Plain, Instr, opens, elses, ends, indirect, plain}
-use Rattle.definition.specs.Reader.{Step, onward, byte, many}
+use Rattle.definition.specs.Syntax.{Operand, nothing, label, labels, local, item, items, access, int32, int64, raw, Plain, Instr, opens, elses, ends, indirect, plain, Body}
+use Rattle.definition.specs.Reader.{Step, onward, require, byte, many}
 use Rattle.definition.specs.Token.{counted, numberIndex, namedIndex, present, optional, typeUse}
 use Rattle.definition.specs.Instructions.{Operands, bare, labelidx, labelidxs, localidx, funcidx, globalidx, memidx, memarg, i32, i64, f32, f64, heaptype, bulk}
-use Rattle.definition.specs.Instructions.{Form, opening, elsing, ending, calling, operands, opcodes, formIn, formOf, spacesOf, indexIn, indices, bulkOf, plainOf, constant, instruction, Inside, admits, formed}
+use Rattle.definition.specs.Instructions.{Form, opening, elsing, ending, calling, operands, opcodes, formIn, formOf, spacesOf, indexIn, indices, bulkOf, plainOf, constant, instruction, Inside, admits, formed, mayFold, operatorOf, operator}
 use Rattle.in_range.specs.InRange.{Every, operandSpace}
 use Rattle.in_range.proofs.Gives.{Gives, gives, gives-none, gives-if, gives-by, gives-then, givings}
 
@@ -122,6 +122,10 @@ InstrSorted (ends l) = Unit {0}
 InstrSorted (indirect x t) = Told x × UseTold t
 InstrSorted (plain p) = Sorted p
 
+-- a body's instructions
+abbrev pub BodySorted : {I : Type 0} → Body I → Type 0
+BodySorted b = Every (λ x. InstrSorted (x .1)) b
+
 -- ## Instructions and constants
 
 index-told : (k : Space) (s : Bytes) (at : ℕ) → Gives Told (indexIn k s at)
@@ -188,3 +192,16 @@ constant-then s at k f = gives-by Sorted (constant-sorted s at) f
 pub formed-then : {B : Type 0} {P : B → Type 0} (i : Inside) (op : ℕ) (s : Bytes) (at : ℕ) (k : Instr Identifier → ℕ → Step B)
     → ((x : Instr Identifier) (n : ℕ) → InstrSorted x → Gives P (k x n)) → Gives P (onward k (formed i op (formOf op) s at))
 formed-then i op s at k f = gives-by InstrSorted (formed-sorted i op (formOf op) refl s at) f
+
+-- the operator of a folded record, and a reader after it
+opcode-sorted : (op : ℕ) (form : Option Form) → formOf op ≡ form → (s : Bytes) (at : ℕ) → Gives InstrSorted (operatorOf op form s at)
+opcode-sorted op none e s at = gives-none 4
+opcode-sorted op (some form) e s at = gives-then (require 4 (mayFold form) s at) _ λ _ n. instruction-sorted op form e s n
+
+operator-sorted : (s : Bytes) (at : ℕ) → Gives InstrSorted (operator s at)
+unfolding operator
+operator-sorted s at = gives-then (byte s at) _ λ b n. opcode-sorted b (formOf b) refl s n
+
+pub operator-then : {B : Type 0} {P : B → Type 0} (s : Bytes) (at : ℕ) (k : Instr Identifier → ℕ → Step B)
+    → ((x : Instr Identifier) (n : ℕ) → InstrSorted x → Gives P (k x n)) → Gives P (onward k (operator s at))
+operator-then s at k f = gives-by InstrSorted (operator-sorted s at) f

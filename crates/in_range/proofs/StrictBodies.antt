@@ -12,7 +12,7 @@ use Rattle.definition.specs.Basic.{if_then_else_, ok, refused, _>>=_, each, fir
 use Rattle.definition.specs.Syntax.{Space, tables, mems, types, FuncType, ValType}
 use Rattle.definition.specs.Syntax.{Index, absent, number, named, ownIndex, TypeUse}
 use Rattle.definition.specs.Syntax.{Operand, nothing, label, labels, local, item, items, access, int32, int64, raw, Plain, Instr, opens, elses, ends, indirect, plain}
-use Rattle.definition.specs.Syntax.{LocalNo, TypeNo, Depth, typed, Op}
+use Rattle.definition.specs.Syntax.{Body, LocalNo, TypeNo, Depth, typed, Op}
 use Rattle.definition.specs.Syntax.{noImm, labelImm, labelsImm, localImm, itemImm, itemsImm, accessImm, int32Imm, int64Imm, rawImm}
 use Rattle.definition.specs.Syntax.{Item}
 use Rattle.definition.specs.Instructions.{Operands, operands, opcodes, formIn, formOf}
@@ -23,7 +23,7 @@ use Rattle.in_range.specs.InRange.{Every, openBlocks, Below, EachBelow, 
 use Rattle.laws.proofs.Equal.{and-true, same-eq}
 use Rattle.laws.proofs.Interning.{first-passes, Interned}
 use Rattle.in_range.proofs.Gives.{every-left, every-right, Holds, held, held-not, held-by, held-then, held-each}
-use Rattle.in_range.proofs.Sorts.{Told, OwnBelow, told-below, UseTold, Suits, Sorted, InstrSorted}
+use Rattle.in_range.proofs.Sorts.{Told, OwnBelow, told-below, UseTold, Suits, Sorted, InstrSorted, BodySorted}
 use Rattle.in_range.proofs.Counts.{Counted}
 
 -- ## Numbers
@@ -229,13 +229,13 @@ module _ {I : Type 0} (eq : I → I → Bool) (names : Space → Namespace I) (r
       instr-held (indirect x t) s h = held-by _ (told-held tables r x (s .0)) λ n g. held-by _ (typeNo-held r t (s .1) h) λ y f. held _ ((f .0, g), refl)
       instr-held (plain p) s h = held-by _ (immediate-held (s .sort) (p .operand) (s .suits)) λ i g. held _ (rw (s .form) g, rw (s .form) refl)
 
-    pub body-held : (locals blocks : Namespace I) (r : ℕ) (xs : List (Instr I)) → Every InstrSorted xs → AllServed ts (bodyUses r xs)
-        → Holds (BodyInRange is (length locals) (length blocks)) (body Strictly locals blocks r xs)
+    pub body-held : (locals blocks : Namespace I) (xs : Body I) → BodySorted xs → AllServed ts (bodyUses xs)
+        → Holds (BodyInRange is (length locals) (length blocks)) (body Strictly locals blocks xs)
     unfolding body bodyUses
-    body-held locals blocks r [] s h = held [] tt
-    body-held locals blocks r (x ∷ xs) s h =
-        let here = served ts r (instrUses x) (every-left _ (usedAt r (instrUses x)) (bodyUses (r + 1) xs) h) in
-        let later = every-right _ (usedAt r (instrUses x)) (bodyUses (r + 1) xs) h in
+    body-held locals blocks [] s h = held [] tt
+    body-held locals blocks ((r, x) ∷ xs) s h =
+        let here = served ts r (instrUses x) (every-left _ (usedAt r (instrUses x)) (bodyUses xs) h) in
+        let later = every-right _ (usedAt r (instrUses x)) (bodyUses xs) h in
         held-by _ (instr-held locals blocks r x (s .0) here) λ o g.
-        held-by _ (body-held locals (blocksAfter blocks x) (r + 1) xs (s .1) later) λ os f.
+        held-by _ (body-held locals (blocksAfter blocks x) xs (s .1) later) λ os f.
         held (o ∷ os) (g .0, rw (g .1) f)

@@ -1,2 +1,5 @@
 pub mod Ways
+pub mod Folds
 pub mod Forms
+pub mod Heads
+pub mod Stretches

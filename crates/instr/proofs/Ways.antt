@@ -9,15 +9,18 @@ use native.Mathlib.Omega.{arith}
 use Rattle.definition.specs.Syntax as Syntax
 use Rattle.definition.specs.Syntax.{Bytes, Identifier}
 use Rattle.definition.specs.Reader.{Step, fault, onward, require, _>>_}
-use Rattle.definition.specs.Instructions.{Form, opening, elsing, ending, instruction, isOpen, admits, formed}
+use Rattle.definition.specs.Instructions.{Form, opening, elsing, ending, instruction, isOpen, admits, formed, operatorOf}
 use Rattle.laws.specs.Depths.{deep}
 use Rattle.laws.proofs.Bodies.{deep-length, deep-open, deep-else}
+use Rattle.syntax.specs.Tokens.{byteAt}
 use Rattle.syntax.specs.Instructions.{formIs, instrIs, instrAt}
+use Rattle.syntax.specs.declared.ByteAt.{ByteAt}
+use Rattle.syntax.specs.declared.ByteAt.the-variants as B
 use Rattle.syntax.specs.declared.Form as Code
 use Rattle.syntax.specs.declared.Instr.{Instr}
 use Rattle.syntax.specs.declared.InstrAt.{InstrAt}
 use Rattle.syntax.specs.declared.InstrAt.the-variants as IA
-use Rattle.instr.specs.Bodies.{deepInstr}
+use Rattle.instr.specs.Bodies.{deepInstr, Head, one, unread, onByte, oneOf}
 
 module _ {C : Type 0} (x : Step C) (s : Bytes) where
   pub instr-got : (k : Syntax.Instr Identifier → ℕ → Step C) (m : Step (Syntax.Instr Identifier)) (r : InstrAt) (a : Instr) (n : ℕ) → m ≡ instrAt s r → r ≡ IA.Got a n → k (instrIs s a) n ≡ x → onward k m ≡ x
@@ -69,3 +72,28 @@ deep-shut k e = rw (deep-open k, e)
 pub deep-not-shut : (k : ℕ) → (k ≡ 0 → ⊥) → not (isOpen (deep k .blocks)) ≡ false
 deep-not-shut zero n = absurd (n refl)
 deep-not-shut (suc k) n = rw (deep-open (suc k), lt-ltb 0 (suc k) (omega arith))
+
+-- ## What stands in a body
+
+module _ {C : Type 0} (x : C) where
+  pub byte-is : (m : Step ℕ) (q : ByteAt) (b n : ℕ) (f : ℕ → ℕ → C) (z : C) → m ≡ byteAt q → q ≡ B.Got b n → x ≡ f b n → x ≡ onByte m f z
+  byte-is m q b n f z e d p = rw (e, d) p
+
+  pub byte-none : (m : Step ℕ) (q : ByteAt) (n : ℕ) (f : ℕ → ℕ → C) (z : C) → m ≡ byteAt q → q ≡ B.Fault n → x ≡ z → x ≡ onByte m f z
+  byte-none m q n f z e d p = rw (e, d) p
+
+module _ (x : Head) (s : Bytes) (m : Step (Syntax.Instr Identifier)) (q : InstrAt) (e : m ≡ instrAt s q) where
+  pub one-is : (i : Instr) (n : ℕ) → q ≡ IA.Got i n → x ≡ one (instrIs s i) n → x ≡ oneOf m
+  one-is i n d p = rw (e, d) p
+
+  pub one-none : (n : ℕ) → q ≡ IA.Fault n → x ≡ unread → x ≡ oneOf m
+  one-none n d p = rw (e, d) p
+
+pub ruleset heads = (byte-is, byte-none, one-is, one-none)
+
+-- ## Folded records
+
+-- the form of an operator was matched
+pub operator-is : (o : Option Form) (r v : Code.Form) (op : ℕ) (s : Bytes) (at : ℕ) (x : Step (Syntax.Instr Identifier))
+    → o ≡ formIs r → r ≡ v → operatorOf op (formIs v) s at ≡ x → operatorOf op o s at ≡ x
+operator-is o r v op s at x e d p = rw (e, d) p

@@ -1,6 +1,8 @@
-// The records of a body: instructions, and its end.
+// The records of a body: instructions, folded ones, and its end.
 use syntax::BodyAt;
 use syntax::ByteAt;
+use syntax::FoldAt;
+use syntax::Folding;
 use syntax::Form;
 use syntax::Index;
 use syntax::IndexAt;
@@ -11,14 +13,19 @@ use syntax::Part;
 use syntax::PartAt;
 use syntax::Plain;
 use syntax::PlainAt;
+use syntax::Skip;
 use syntax::TypeUse;
+use syntax::U32;
 use syntax::UseAt;
 ghost use mathlib.Core.Path.{_≡_};
 ghost use Rattle.definition.specs.Instructions as Instructions;
 ghost use Rattle.laws.specs.Depths.{deep};
-ghost use Rattle.syntax.specs.Instructions.{formIs, instrAt, bodyAt};
-ghost use Rattle.instr.specs.Bodies.{deepInstr};
-ghost use Rattle.instr.specs.Readers.{lowForm, middleForm, highForm};
+ghost use Rattle.laws.specs.Steps.{stops};
+ghost use Rattle.syntax.specs.Numbers.{u32At};
+ghost use Rattle.syntax.specs.Tokens.{skip};
+ghost use Rattle.syntax.specs.Instructions.{formIs, instrAt, foldAt};
+ghost use Rattle.instr.specs.Bodies.{deepInstr, headAt, foldHere};
+ghost use Rattle.instr.specs.Readers.{lowForm, middleForm, highForm, headIs, countOf, partsAt};
 
 // Opcodes below 20: control, and drop and select.
 fn low_form(b: u8) -> Form
@@ -230,29 +237,166 @@ fn formed(s: &[u8], at: usize, opcode: u8, k: u32) -> InstrAt
     }
 }
 
-// A record of a body where k blocks are open.
+// A record of a body where k blocks are open. Of a folded one only that it is there.
 pub fn read_body(s: &[u8], at: usize, k: u32) -> BodyAt
-    ensures { λ r. ⌜ Instructions.bodyRec (deep k) (now (s .entry)) at ≡ bodyAt (now (s .entry)) r ⌝ }
+    ensures { λ r. ⌜ headIs (now (s .entry)) r ≡ headAt k (now (s .entry)) at ⌝ }
 {
     match token::read_byte(s, at) {
         ByteAt::Got(b, a) => {
+            if b == 0xF0 {
+                return BodyAt::Folded;
+            }
             if b == 0xFF {
                 if k == 0 {
                     return BodyAt::End(a);
                 }
-                return BodyAt::Fault(8);
+                return BodyAt::Unread;
             }
             match formed(s, a, b, k) {
                 InstrAt::Got(i, next) => {
                     return BodyAt::Got(i, next);
                 }
-                InstrAt::Fault(e) => {
-                    return BodyAt::Fault(e);
+                InstrAt::Fault(_) => {
+                    return BodyAt::Unread;
                 }
             }
         }
+        ByteAt::Fault(_) => {
+            return BodyAt::Unread;
+        }
+    }
+}
+
+// An instruction that may be folded.
+fn read_operator(s: &[u8], at: usize) -> InstrAt
+    ensures { λ r. ⌜ Instructions.operator (now (s .entry)) at ≡ instrAt (now (s .entry)) r ⌝ }
+{
+    match token::read_byte(s, at) {
+        ByteAt::Got(b, a) => match opcode_form(b) {
+            Form::Calling => {
+                return indirect(s, a, b);
+            }
+            Form::Operands(what) => match expr::read_plain(s, a, b, what) {
+                PlainAt::Got(p, next) => {
+                    return InstrAt::Got(Instr::Plain(p), next);
+                }
+                PlainAt::Fault(e) => {
+                    return InstrAt::Fault(e);
+                }
+            },
+            Form::NoOpcode => {
+                return InstrAt::Fault(4);
+            }
+            Form::Opening => {
+                return InstrAt::Fault(4);
+            }
+            Form::Elsing => {
+                return InstrAt::Fault(4);
+            }
+            Form::Ending => {
+                return InstrAt::Fault(4);
+            }
+        },
         ByteAt::Fault(e) => {
-            return BodyAt::Fault(e);
+            return InstrAt::Fault(e);
+        }
+    }
+}
+
+// A folded record: the byte F0, which was looked at before, its operator, and the count of its operands.
+pub fn read_folded(s: &[u8], at: usize) -> FoldAt
+    ensures { λ r. ⌜ foldHere (now (s .entry)) at ≡ foldAt (now (s .entry)) r ⌝ }
+{
+    match token::read_byte(s, at) {
+        ByteAt::Got(_, a) => match read_operator(s, a) {
+            InstrAt::Got(i, c) => match token::up_to(s, c, 7, 16) {
+                U32::Got(n, next) => {
+                    return FoldAt::Got(i, n, next);
+                }
+                U32::Fault(e) => {
+                    return FoldAt::Fault(e);
+                }
+            },
+            InstrAt::Fault(e) => {
+                return FoldAt::Fault(e);
+            }
+        },
+        ByteAt::Fault(e) => {
+            return FoldAt::Fault(e);
+        }
+    }
+}
+
+// The operator passed over.
+fn pass_operator(s: &[u8], at: usize) -> Skip
+    ensures { λ r. ⌜ stops (Instructions.operator (now (s .entry)) at) ≡ skip r ⌝ }
+{
+    match token::read_byte(s, at) {
+        ByteAt::Got(b, a) => match opcode_form(b) {
+            Form::Calling => match token::pass_optional(s, a) {
+                Skip::Past(c) => match typeuse::read_type_use(s, c) {
+                    UseAt::Got(_, next) => {
+                        return Skip::Past(next);
+                    }
+                    UseAt::Fault(e) => {
+                        return Skip::Fault(e);
+                    }
+                },
+                Skip::Fault(e) => {
+                    return Skip::Fault(e);
+                }
+            },
+            Form::Operands(what) => {
+                return expr::pass_plain(s, a, what);
+            }
+            Form::NoOpcode => {
+                return Skip::Fault(4);
+            }
+            Form::Opening => {
+                return Skip::Fault(4);
+            }
+            Form::Elsing => {
+                return Skip::Fault(4);
+            }
+            Form::Ending => {
+                return Skip::Fault(4);
+            }
+        },
+        ByteAt::Fault(e) => {
+            return Skip::Fault(e);
+        }
+    }
+}
+
+// What stands after F0, passed over: the count of operands, and where they begin.
+fn pass_fold(s: &[u8], at: usize) -> U32
+    ensures { λ r. ⌜ countOf (Instructions.fold (now (s .entry)) at) ≡ u32At r ⌝ }
+{
+    match pass_operator(s, at) {
+        Skip::Past(a) => {
+            return token::up_to(s, a, 7, 16);
+        }
+        Skip::Fault(e) => {
+            return U32::Fault(e);
+        }
+    }
+}
+
+// A folded record passed over: the byte F0, which was looked at before, and what stands after it.
+pub fn pass_folded(s: &[u8], at: usize) -> Folding
+    ensures { λ r. ⌜ r ≡ partsAt (now (s .entry)) at ⌝ }
+{
+    match token::read_byte(s, at) {
+        ByteAt::Got(_, a) => match pass_fold(s, a) {
+            U32::Got(n, next) => {
+                return Folding::Parts(a, n, next);
+            }
+            U32::Fault(_) => {
+                return Folding::Unread;
+            }
+        },
+        ByteAt::Fault(_) => {
+            return Folding::Unread;
         }
     }
 }

@@ -7,7 +7,7 @@ use lib.Seq.{getD-set-same, getD-set-other}
 use borrow.Author.Tests.{ltb-true, lt-ltb}
 use native.Mathlib.Omega.{arith}
 use Rattle.definition.specs.Syntax as Syntax
-use Rattle.definition.specs.Syntax.{Bytes, Identifier, Space, tables, mems, types, elems, datas, code, FuncType, ExternType, Instr, Own, Source}
+use Rattle.definition.specs.Syntax.{Bytes, Identifier, Space, tables, mems, types, elems, datas, code, FuncType, ExternType, Body, Own, Source}
 use Rattle.definition.specs.Reader.{got}
 use Rattle.definition.specs.Token.{valType, string}
 use Rattle.definition.specs.Records.{fieldRec}
@@ -73,7 +73,7 @@ pub ruleset declares = (declare-type, declare-import, declare-item, declare-expo
 
 -- ## The fields of a record
 
-field-declares : (s : Bytes) (r : ℕ) (next : Space → ℕ) (f : Field) (b : List (Instr Identifier)) → declared (map (λ z. (r, z)) (fieldsOf next (fieldOf s f) b)) ≡ declaredIn s f
+field-declares : (s : Bytes) (r : ℕ) (next : Space → ℕ) (f : Field) (b : Body Identifier) → declared (map (λ z. (r, z)) (fieldsOf next (fieldOf s f) b)) ≡ declaredIn s f
 unfolding declared declaredBy fieldsOf signatureOf typesOf
 field-declares s r next (F.Type i ps rs) b = refl
 field-declares s r next (F.Import n i x) b = refl

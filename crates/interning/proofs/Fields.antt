@@ -1,5 +1,5 @@
 -- Laws of the uses of a field.
-use Prim.Native.Nat.{ℕ, _+_, _-_, _≤_}
+use Prim.Native.Nat.{ℕ, _+_}
 use mathlib.Core.Path.{_≡_, refl}
 use mathlib.Core.List.{List, [], _∷_, _++_, map, append-nil}
 use mathlib.Core.Option.{Option}
@@ -22,7 +22,7 @@ use Rattle.syntax.specs.declared.Source.the-variants as S
 use Rattle.syntax.specs.Fields.{fieldOf}
 use Rattle.syntax.specs.declared.Field.{Field}
 use Rattle.syntax.specs.declared.Field.the-variants as F
-use Rattle.walk.specs.Walk.{bodyIn, afterBody}
+use Rattle.walk.specs.Walk.{bodyIn}
 use Rattle.instr.specs.Bodies.{bodyFrom}
 use Rattle.type_table.specs.Table.{Indexed}
 use Rattle.interning.specs.Uses.{Skips, usesOwn, usesSource, usesField, endAfter, Handles}
@@ -56,7 +56,7 @@ module _ (rec : ℕ) (s : Bytes) (w : List ℕ) (k : ℕ) where
 
   module _ (at : ℕ) (o : Own) where
     pub own-func : (t : TypeUse) (ls : _) (r : Used) (w′ : List ℕ) → o ≡ O.Func t ls
-        → Handles rec (afterBody (4096 - (rec + 1)) 0 (rec + 1) s at .rec) s (usedAt rec (Types.useOf (useOf s t)) ++ bodyUses (rec + 1) (bodyFrom (4096 - (rec + 1)) 0 s at)) w k r w′
+        → Handles rec (bodyFrom 0 (rec + 1) s at .rec) s (usedAt rec (Types.useOf (useOf s t)) ++ bodyUses (bodyFrom 0 (rec + 1) s at .body)) w k r w′
         → Handles rec (endAfter (ownBody (ownOf s o)) rec s at) s (usesOwn rec (ownOf s o) s at) w k r w′
     unfolding usesOwn ownBody ownUses
     own-func t ls r w′ d h = rw d h
@@ -135,18 +135,18 @@ module _ (rec : ℕ) (s : Bytes) (w : List ℕ) (k : ℕ) where
 -- ## Whether there is a body to look at
 
 module _ (w : List ℕ) (own : ℕ) (s : Bytes) (at rec : ℕ) where
-  pub skips-own : (o : Own) (t : TypeUse) (ls : _) → o ≡ O.Func t ls → Skips w own (bodyUses (rec + 1) (bodyIn (ownBody (ownOf s o)) (rec + 1) s at))
-      → Skips w own (bodyUses (rec + 1) (bodyFrom (4096 - (rec + 1)) 0 s at))
+  pub skips-own : (o : Own) (t : TypeUse) (ls : _) → o ≡ O.Func t ls → Skips w own (bodyUses (bodyIn (ownBody (ownOf s o)) (rec + 1) s at))
+      → Skips w own (bodyUses (bodyFrom 0 (rec + 1) s at .body))
   unfolding ownBody
   skips-own o t ls d h = rw d at h
 
-  pub skips-source : (x : Source) (o : Own) → x ≡ S.Own o → Skips w own (bodyUses (rec + 1) (bodyIn (sourceBody (sourceOf s x)) (rec + 1) s at))
-      → Skips w own (bodyUses (rec + 1) (bodyIn (ownBody (ownOf s o)) (rec + 1) s at))
+  pub skips-source : (x : Source) (o : Own) → x ≡ S.Own o → Skips w own (bodyUses (bodyIn (sourceBody (sourceOf s x)) (rec + 1) s at))
+      → Skips w own (bodyUses (bodyIn (ownBody (ownOf s o)) (rec + 1) s at))
   unfolding sourceBody
   skips-source x o d h = rw d at h
 
-  pub skips-field : (f : Field) (i : _) (es : _) (x : Source) → f ≡ F.Item i es x → Skips w own (bodyUses (rec + 1) (bodyIn (fieldBody (fieldOf s f)) (rec + 1) s at))
-      → Skips w own (bodyUses (rec + 1) (bodyIn (sourceBody (sourceOf s x)) (rec + 1) s at))
+  pub skips-field : (f : Field) (i : _) (es : _) (x : Source) → f ≡ F.Item i es x → Skips w own (bodyUses (bodyIn (fieldBody (fieldOf s f)) (rec + 1) s at))
+      → Skips w own (bodyUses (bodyIn (sourceBody (sourceOf s x)) (rec + 1) s at))
   unfolding fieldBody
   skips-field f i es x d h = rw d at h
 
@@ -163,7 +163,7 @@ pub ruleset records = (field-import, field-item, field-type, field-export, field
 module _ (r : ℕ) (i : Option Identifier) (s : Bytes) (here : ℕ) where
   source-uses : (n : ℕ) (x : Syntax.Source Identifier) → uses (map (λ z. (r, z)) (sourceFields i n x (bodyIn (sourceBody x) (r + 1) s here))) ≡ usesSource r x s here
   unfolding uses fieldUses sourceFields usesSource usesOwn sourceBody ownUses bodyUses
-  source-uses n (Syntax.own o) = append-nil (usedAt r (ownUses o) ++ bodyUses (r + 1) (bodyIn (ownBody o) (r + 1) s here))
+  source-uses n (Syntax.own o) = append-nil (usedAt r (ownUses o) ++ bodyUses (bodyIn (ownBody o) (r + 1) s here))
   source-uses n (Syntax.imported m d) = append-nil (usedAt r (externUses d))
   source-uses n (Syntax.tableOf w xs) = refl
   source-uses n (Syntax.memOf w d) = refl

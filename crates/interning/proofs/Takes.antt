@@ -26,7 +26,7 @@ use Rattle.type_table.specs.declared.table.Interned.the-variants as I
 use Rattle.type_table.proofs.Chains.{index-kept}
 use Rattle.type_table.proofs.Entries.{inside-above}
 use Rattle.type_table.proofs.Types.{table-kept}
-use Rattle.interning.specs.Uses.{Known, Handles}
+use Rattle.interning.specs.Uses.{Known, From, Handles}
 use Rattle.type_table.specs.Uses.{blockUses}
 use Rattle.interning.specs.declared.uses.Used.{Used}
 use Rattle.interning.specs.declared.uses.Used.the-variants as U
@@ -41,7 +41,7 @@ module _ (s w : List ℕ) (count : ℕ) (t : TypeUse) (rec : ℕ) (q : Interned)
 
   pub take-number : (n k : ℕ) (w′ : List ℕ) → q ≡ I.Number n k → w′ ≡ set w₁ (USES + rec) n → WORDS ≤ length w → rec < 4096
       → Handles rec (rec + 1) s (usedAt rec (signature (useOf s t) ∷ [])) w count (U.Types k) w′
-  unfolding Handles intern _>>=_ Known
+  unfolding Handles intern _>>=_ Known From
   take-number n k w′ d e l h =
       let a = took n k d in
       let long : length w₁ ≡ length w = a .inside .kept .long in
@@ -52,8 +52,10 @@ module _ (s w : List ℕ) (count : ℕ) (t : TypeUse) (rec : ℕ) (q : Interned)
         types = rw (e, same) (ap (λ (z : Answer (List FuncType)). z >>= λ all. ok all) (a .types));
         indexed = rw e (index-kept USES s k (omega arith) below (a .indexed));
         known = (omega arith, rw (e, same, word) (a .number), tt);
+        from = (omega arith, tt);
         kept = rw e (kept-then (kept-less TYPES (TYPES + 5 * count) (omega arith) (a .inside .kept)) (kept-less TYPES USES (omega arith) below));
         before = λ i g. rw e (getD-set-other w₁ (USES + rec) (USES + i) n 0 (λ z. omega arith) ∙ inside-above (a .inside) (USES + i) (omega arith));
+        beyond = λ i g f. rw e (getD-set-other w₁ (USES + rec) (USES + i) n 0 (λ z. omega arith) ∙ inside-above (a .inside) (USES + i) (omega arith));
         above = λ i g. rw e (getD-set-other w₁ (USES + rec) i n 0 (λ z. omega arith) ∙ inside-above (a .inside) i (omega arith));
       }
 

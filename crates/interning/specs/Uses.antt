@@ -18,7 +18,11 @@ use Rattle.syntax.specs.declared.Instr.{Instr}
 use Rattle.syntax.specs.declared.Instr.the-variants as I
 use Rattle.area.specs.Kept.{Kept}
 use Rattle.type_table.specs.Table.{typeTable, Indexed}
+use Rattle.instr.specs.Bodies.{Stretch}
 use Rattle.walk.specs.Walk.{bodyIn, afterField, usesIn}
+use Rattle.walk.specs.declared.Stop.{Stop}
+use Rattle.interning.specs.declared.body.UsedTo.{UsedTo}
+use Rattle.interning.specs.declared.body.UsedTo.the-variants as T
 use Rattle.interning.specs.declared.uses.Used.{Used}
 use Rattle.interning.specs.declared.uses.Used.the-variants as U
 
@@ -26,7 +30,7 @@ use Rattle.interning.specs.declared.uses.Used.the-variants as U
 
 -- an own item, whose body begins at `here`
 unfoldable pub usesOwn : ℕ → Syntax.Own Identifier → Bytes → ℕ → Uses
-usesOwn r o s here = usedAt r (ownUses o) ++ bodyUses (r + 1) (bodyIn (ownBody o) (r + 1) s here)
+usesOwn r o s here = usedAt r (ownUses o) ++ bodyUses (bodyIn (ownBody o) (r + 1) s here)
 
 unfoldable pub usesSource : ℕ → Syntax.Source Identifier → Bytes → ℕ → Uses
 usesSource r (Syntax.own o) s here = usesOwn r o s here
@@ -75,13 +79,21 @@ unfoldable pub Known : ℕ → List ℕ → List FuncType → Uses → Type 0
 Known high w ts [] = Unit {0}
 Known high w ts ((r, t) ∷ us) = (r < high) × (typeAt t ts ≡ some (getD w (USES + r) 0)) × Known high w ts us
 
--- `us` were taken or added: `k` types became `k′`. The words of records before `low` are as they were, and so are those of the names
+-- each use is of a record from `low` on
+unfoldable pub From : ℕ → Uses → Type 0
+From low [] = Unit {0}
+From low ((r, t) ∷ us) = (low ≤ r) × From low us
+
+-- `us` were taken or added: `k` types became `k′`. The words of records before `low` and from `high` on are as they were, and so are those of the
+-- names
 pub record Handled (low high : ℕ) (s : Bytes) (us : Uses) (w : List ℕ) (k : ℕ) (w′ : List ℕ) (k′ : ℕ) : Type 0 where
   pub types : intern (typeTable k s w TYPES) us ≡ ok (typeTable k′ s w′ TYPES)
   pub indexed : Indexed s w′ k′
   pub known : Known high w′ (typeTable k′ s w′ TYPES) us
+  pub from : From low us
   pub kept : Kept TYPES w w′
   pub before : (i : ℕ) → i < low → getD w′ (USES + i) 0 ≡ getD w (USES + i) 0
+  pub beyond : (i : ℕ) → high ≤ i → i < 4096 → getD w′ (USES + i) 0 ≡ getD w (USES + i) 0
   pub above : (i : ℕ) → NAMED ≤ i → getD w′ i 0 ≡ getD w i 0
 
 -- one of them was refused
@@ -92,3 +104,13 @@ pub record Stopped (s : Bytes) (us : Uses) (w : List ℕ) (k : ℕ) (q : Refusal
 unfoldable pub Handles : ℕ → ℕ → Bytes → Uses → List ℕ → ℕ → Used → List ℕ → Type 0
 Handles low high s us w k (U.Types k′) w′ = Handled low high s us w k w′ k′
 Handles low high s us w k (U.Refused q) w′ = Stopped s us w k q w′
+
+-- the uses of a stretch of a body, whose first record is `low`, were handled, and it was passed
+pub record HandledTo (low : ℕ) (s : Bytes) (t : Stretch) (w : List ℕ) (k : ℕ) (w′ : List ℕ) (k′ : ℕ) (stop : Stop) : Type 0 where
+  pub handled : Handled low (t .rec) s (bodyUses (t .body)) w k w′ k′
+  pub at : stop .at ≡ t .at
+  pub rec : stop .rec ≡ t .rec
+
+unfoldable pub HandlesTo : ℕ → Bytes → Stretch → List ℕ → ℕ → UsedTo → List ℕ → Type 0
+HandlesTo low s t w k (T.Types k′ stop) w′ = HandledTo low s t w k w′ k′ stop
+HandlesTo low s t w k (T.Refused q) w′ = Stopped s (bodyUses (t .body)) w k q w′

@@ -31,7 +31,7 @@ fn use_extern(s: &[u8], work: &mut [u32], count: u32, x: Extern, rec: u32) -> Us
 
 // The module's own item; the body of a function begins at `at`, and `own` functions came before it.
 fn use_own(s: &[u8], work: &mut [u32], count: u32, o: Own, own: u32, at: usize, rec: u32) -> Used
-    requires { ⌜ Lent (now s) (now work) × Indexed (now s) (now work) count × (rec < 4096) × Skips (now work) own (Types.bodyUses (rec + 1) (bodyIn (Read.ownBody (ownOf (now s) o)) (rec + 1) (now s) at)) ⌝ }
+    requires { ⌜ Lent (now s) (now work) × Indexed (now s) (now work) count × (rec < 4096) × Skips (now work) own (Types.bodyUses (bodyIn (Read.ownBody (ownOf (now s) o)) (rec + 1) (now s) at)) ⌝ }
     ensures { λ r. ⌜ Handles rec (endAfter (Read.ownBody (ownOf (now (s .entry)) o)) rec (now (s .entry)) at) (now (s .entry)) (usesOwn rec (ownOf (now (s .entry)) o) (now (s .entry)) at) (now (work .entry)) count r (now (work .exit)) ⌝ }
 {
     match o {
@@ -52,7 +52,7 @@ fn use_source(
     at: usize,
     rec: u32,
 ) -> Used
-    requires { ⌜ Lent (now s) (now work) × Indexed (now s) (now work) count × (rec < 4096) × Skips (now work) own (Types.bodyUses (rec + 1) (bodyIn (Read.sourceBody (sourceOf (now s) x)) (rec + 1) (now s) at)) ⌝ }
+    requires { ⌜ Lent (now s) (now work) × Indexed (now s) (now work) count × (rec < 4096) × Skips (now work) own (Types.bodyUses (bodyIn (Read.sourceBody (sourceOf (now s) x)) (rec + 1) (now s) at)) ⌝ }
     ensures { λ r. ⌜ Handles rec (endAfter (Read.sourceBody (sourceOf (now (s .entry)) x)) rec (now (s .entry)) at) (now (s .entry)) (usesSource rec (sourceOf (now (s .entry)) x) (now (s .entry)) at) (now (work .entry)) count r (now (work .exit)) ⌝ }
 {
     match x {
@@ -73,7 +73,7 @@ pub fn use_field(
     at: usize,
     rec: u32,
 ) -> Used
-    requires { ⌜ Lent (now s) (now work) × Indexed (now s) (now work) count × (rec < 4096) × Skips (now work) own (Types.bodyUses (rec + 1) (bodyIn (Read.fieldBody (fieldOf (now s) f)) (rec + 1) (now s) at)) ⌝ }
+    requires { ⌜ Lent (now s) (now work) × Indexed (now s) (now work) count × (rec < 4096) × Skips (now work) own (Types.bodyUses (bodyIn (Read.fieldBody (fieldOf (now s) f)) (rec + 1) (now s) at)) ⌝ }
     ensures { λ r. ⌜ Handles rec (endAfter (Read.fieldBody (fieldOf (now (s .entry)) f)) rec (now (s .entry)) at) (now (s .entry)) (usesField rec (fieldOf (now (s .entry)) f) (now (s .entry)) at) (now (work .entry)) count r (now (work .exit)) ⌝ }
 {
     match f {

@@ -45,14 +45,14 @@ use Rattle.kept.proofs.Keeping.{start-up, start-within, lent-here, lent
 -- ## What a function's code needs
 
 module _ (s w : List ℕ) (r : ℕ) (e : Entry) (h : Ready s w r e) (t : TypeUse) (ls : Code.List) (here : ℕ) (code : e ≡ E.Code t ls here) where
-  uses : Recalled w (typesIn s w) (Types.usedAt r (Types.useOf (useOf s t)) ++ Types.bodyUses (r + 1) (bodyFrom (4096 - (r + 1)) 0 s here))
+  uses : Recalled w (typesIn s w) (Types.usedAt r (Types.useOf (useOf s t)) ++ Types.bodyUses (bodyFrom 0 (r + 1) s here .body))
   unfolding usesOf
   uses = (let u = h .recalled in rw code at u)
 
   pub code-use : Recalled w (typesIn s w) (Types.usedAt r (Types.useOf (useOf s t)))
   code-use = recalled-left w (typesIn s w) (Types.usedAt r (Types.useOf (useOf s t))) _ uses
 
-  pub code-body : Resolvable s w (r + 1) 0 here
+  pub code-body : Resolvable s w (bodyFrom 0 (r + 1) s here)
   code-body = record { recalled = recalled-right w (typesIn s w) (Types.usedAt r (Types.useOf (useOf s t))) _ uses; whole = (let u = h .whole in rw code at u) }
 
   pub code-head : Head s t ls

@@ -4,7 +4,7 @@ use Prim.Native.Nat.{ℕ, _+_, _-_}
 use mathlib.Core.List.{List, [], _∷_, _++_, map, append-assoc}
 use mathlib.Core.Option.{Option}
 use Rattle.definition.specs.Syntax as Syntax
-use Rattle.definition.specs.Syntax.{Bytes, Identifier, Space, Instr, Source, FuncType}
+use Rattle.definition.specs.Syntax.{Bytes, Identifier, Space, Body, Source, FuncType}
 use Rattle.definition.specs.Deinline.{Numbered, sourceFields}
 use Rattle.definition.specs.Types.{declaredBy, declared}
 
@@ -13,7 +13,7 @@ unfolding declared
 declared-append [] gs = refl
 declared-append ((r, f) ∷ fs) gs = ap (λ (l : List FuncType). declaredBy f ++ l) (declared-append fs gs) ∙ sym (append-assoc (declaredBy f) (declared fs) (declared gs))
 
-module _ (r : ℕ) (i : Option Identifier) (b : List (Instr Identifier)) where
+module _ (r : ℕ) (i : Option Identifier) (b : Body Identifier) where
   source-declares : (n : ℕ) (x : Source Identifier) → declared (map (λ z. (r, z)) (sourceFields i n x b)) ≡ []
   unfolding declared declaredBy sourceFields
   source-declares n (Syntax.own o) = refl

@@ -4,6 +4,7 @@ pub mod Bodies
 pub mod Declared
 pub mod Equal
 pub mod Exits
+pub mod Folded
 pub mod GroupCount
 pub mod Groups
 pub mod Interning

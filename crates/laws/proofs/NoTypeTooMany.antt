@@ -33,7 +33,7 @@ module _ (s : Bytes) (rs : List (Rec Identifier)) (e : read s ≡ ok rs) (ts : L
       record {
         more = k .added;
         begins = rw (← declared-records rs) (k .is);
-        holds = λ t m. enough (declared (deinline rs)) (uses (deinline rs)) ts a .has t (rw (uses-records s rs e) m);
+        holds = λ t m. enough (declared (deinline rs)) (uses (deinline rs)) ts a .has t (uses-records s rs e .from t m);
       }
 
   pub no-type-too-many : (l : List FuncType) → Serves rs l → length ts ≤ length l
@@ -41,7 +41,7 @@ module _ (s : Bytes) (rs : List (Rec Identifier)) (e : read s ≡ ok rs) (ts : L
   no-type-too-many l h =
       rw (h .begins, ← declared-records rs)
       (least (uses (deinline rs)) (declared (deinline rs)) (h .more) ts a
-      (record { has = λ t m. rw (h .begins, ← declared-records rs) at (h .holds t (rw (uses-records s rs e) at m)) }))
+      (record { has = λ t m. rw (h .begins, ← declared-records rs) at (h .holds t (uses-records s rs e .to t m)) }))
 
   smallest : Smallest rs ts
   smallest = record { serves = types-serve; least = no-type-too-many }

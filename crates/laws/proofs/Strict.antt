@@ -11,7 +11,7 @@ use Rattle.definition.specs.Basic.{if_then_else_, refusal, Answer, ok, fails, r
 use Rattle.definition.specs.Syntax.{Bytes, Identifier, Space, funcs, tables, mems, types, FuncType, ExternType, func, table, mem, global, Mode, passive, active}
 use Rattle.definition.specs.Syntax.{Index, absent, number, named, ownIndex, TypeUse, Own, ownFunc, ownTable, ownMem, ownGlobal}
 use Rattle.definition.specs.Syntax.{Operand, nothing, label, labels, local, item, items, access, int32, int64, raw, Plain, Instr, opens, elses, ends, indirect, plain}
-use Rattle.definition.specs.Syntax.{Rec, Item, Field, typeF, importF, ownF, exportF, startF, elemF, dataF}
+use Rattle.definition.specs.Syntax.{Rec, Item, Body, Field, typeF, importF, ownF, exportF, startF, elemF, dataF}
 use Rattle.definition.specs.Deinline.{Numbered, deinline}
 use Rattle.definition.specs.Types.{signature, isInline, isShort}
 use Rattle.definition.specs.Names.{Namespace, Scope, space, definers, below, numberIn, isAbsent, localsOf, blocksAfter, countIn, itemNo, checked, typeNoOf, typeNo, blockType}
@@ -145,12 +145,12 @@ module _ {I : Type 0} (eq : I → I → Bool) (names : Space → Namespace I) (r
         next (typeNo-or r t) (λ y. itself)
     instrOp-or blocks r (plain p) = plainOp-or blocks r p
 
-    body-or : (blocks : Namespace I) (r : ℕ) (xs : List (Instr I)) → Or20 (body (In true) locals blocks r xs) (body (In false) locals blocks r xs)
+    body-or : (blocks : Namespace I) (xs : Body I) → Or20 (body (In true) locals blocks xs) (body (In false) locals blocks xs)
     unfolding body
-    body-or blocks r [] = itself
-    body-or blocks r (x ∷ xs) =
+    body-or blocks [] = itself
+    body-or blocks ((r, x) ∷ xs) =
         next (instrOp-or blocks r x) λ o.
-        next (body-or (blocksAfter blocks x) (r + 1) xs) (λ os. itself)
+        next (body-or (blocksAfter blocks x) xs) (λ os. itself)
 
   constOp-or : (r : ℕ) (c : Plain I) → Or20 (constOp (In true) r c) (constOp (In false) r c)
   unfolding constOp
@@ -160,12 +160,12 @@ module _ {I : Type 0} (eq : I → I → Bool) (names : Space → Namespace I) (r
   unfolding distinctLocals
   distinct-or r ns = itself
 
-  own-or : (r : ℕ) (o : Own I) (b : List (Instr I)) → Or20 (ownItem (In true) r o b) (ownItem (In false) r o b)
+  own-or : (r : ℕ) (o : Own I) (b : Body I) → Or20 (ownItem (In true) r o b) (ownItem (In false) r o b)
   unfolding ownItem
   own-or r (ownFunc t ls) b =
       next (typeNo-or r t) λ n.
       next (distinct-or r (localsOf ts n t ls)) λ _.
-      next (body-or (localsOf ts n t ls) [] (r + 1) b) (λ os. itself)
+      next (body-or (localsOf ts n t ls) [] b) (λ os. itself)
   own-or r (ownTable t) b = itself
   own-or r (ownMem l) b = itself
   own-or r (ownGlobal t c) b = next (constOp-or r c) (λ o. itself)
@@ -213,7 +213,7 @@ module _ (names : Space → Namespace Identifier) (records : Space → List ℕ)
   accepted : {A : Type 0} {a b : Answer A} → Or20 a b → (x : A) → a ≡ ok x → a ≡ b
   accepted h x e = h .same (ap isTwenty e)
 
-  own-functions : (r : ℕ) (o : Own Identifier) (b : List (Instr Identifier)) (i : Item) → ownItem (At true) r o b ≡ ok i
+  own-functions : (r : ℕ) (o : Own Identifier) (b : Body Identifier) (i : Item) → ownItem (At true) r o b ≡ ok i
       → ownFunction (At true) r o ≡ ownFunction (At false) r o
   unfolding ownItem ownFunction
   own-functions r (ownFunc t ls) b i e =

@@ -9,7 +9,7 @@ use lib.ListN.{length, drop}
 use lib.Seq.{drop-append-seam}
 use borrow.Author.Tests.{eqb-false}
 use Rattle.definition.specs.Basic.{if_then_else_, Answer, ok, _>>=_, each, concatMap, any, at}
-use Rattle.definition.specs.Syntax.{Bytes, Instr, FuncType, Own, ownFunc, ownTable, ownMem, ownGlobal, Field, typeF, importF, ownF, exportF, startF, elemF, dataF}
+use Rattle.definition.specs.Syntax.{Bytes, Body, FuncType, Own, ownFunc, ownTable, ownMem, ownGlobal, Field, typeF, importF, ownF, exportF, startF, elemF, dataF}
 use Rattle.definition.specs.Syntax.{Item, typeI}
 use Rattle.definition.specs.Deinline.{Numbered}
 use Rattle.definition.specs.Types.{declaredBy, declared, uses, allTypes}
@@ -34,7 +34,7 @@ module _ {I : Type 0} (Γ : Scope I) (r : ℕ) where
   given : (j i : Item) → None j → _≡_ {A = Answer Item} (ok j) (ok i) → None i
   given j i n e = let z : j ≡ i = cc in rw z at n
 
-  own-none : (o : Own I) (b : List (Instr I)) (i : Item) → ownItem Γ r o b ≡ ok i → None i
+  own-none : (o : Own I) (b : Body I) (i : Item) → ownItem Γ r o b ≡ ok i → None i
   unfolding ownItem entries inSection
   own-none (ownFunc t ls) b i e = after None _ _ i (λ n d. after None _ _ i (λ _ f. after None _ _ i (λ os g. given _ i refl g) f) d) e
   own-none (ownTable t) b i e = given _ i refl e

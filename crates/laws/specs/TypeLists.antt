@@ -10,7 +10,7 @@ use lib.ListN.{length}
 use Rattle.definition.specs.Basic.{if_then_else_, ok, concatMap, at}
 use Rattle.definition.specs.Syntax.{Bytes, Identifier, FuncType, ExternType, func, table, mem, global, Index, absent, number, named, ownIndex, TypeUse}
 use Rattle.definition.specs.Syntax.{Instr, opens, elses, ends, indirect, plain, Own, ownFunc, ownTable, ownMem, ownGlobal}
-use Rattle.definition.specs.Syntax.{Source, own, imported, tableOf, memOf, FieldRec, typeR, importR, itemR, exportR, startR, elemR, dataR, Rec, field, instr, bodyEnd}
+use Rattle.definition.specs.Syntax.{Source, own, imported, tableOf, memOf, FieldRec, typeR, importR, itemR, exportR, startR, elemR, dataR, Rec, field, instr, folded, bodyEnd}
 use Rattle.definition.specs.Read.{read}
 use Rattle.definition.specs.Binary as Binary
 use Rattle.definition.specs.Assemble.{Maker}
@@ -69,6 +69,7 @@ fieldAsks (dataR i m d) = []
 abbrev pub asks : {I : Type 0} → Rec I → List FuncType
 asks (field f) = fieldAsks f
 asks (instr x) = instrAsks x
+asks (folded x n) = instrAsks x
 asks bodyEnd = []
 
 -- one for each use that takes or adds a type, in the order of the records
@@ -89,6 +90,7 @@ fieldDeclares (dataR i m d) = []
 abbrev pub declares : {I : Type 0} → Rec I → List FuncType
 declares (field f) = fieldDeclares f
 declares (instr x) = []
+declares (folded x n) = []
 declares bodyEnd = []
 
 -- in their order, each as often as it is declared

@@ -1,12 +1,12 @@
 -- Resolving keeps which instructions name a data segment, so what reading left of it is what the module's items say.
-use Prim.Native.Nat.{ℕ, _+_}
+use Prim.Native.Nat.{ℕ}
 use mathlib.Core.Path.{_≡_, refl, sym, _∙_}
 use mathlib.Core.Bool.{Bool, false}
 use mathlib.Core.List.{List, [], _∷_, _++_, map}
 use lib.ListN.{length, drop}
 use native.Mathlib.Omega.{arith}
 use Rattle.definition.specs.Basic.{Answer, ok, fails, _>>=_, each, concatMap, any}
-use Rattle.definition.specs.Syntax.{Identifier, FuncType, Operand, nothing, label, labels, local, item, items, access, int32, int64, raw, Instr, opens, elses, ends, indirect, plain}
+use Rattle.definition.specs.Syntax.{Identifier, FuncType, Operand, nothing, label, labels, local, item, items, access, int32, int64, raw, Body, Instr, opens, elses, ends, indirect, plain}
 use Rattle.definition.specs.Syntax.{Own, ownFunc, ownTable, ownMem, ownGlobal, Field, typeF, importF, ownF, exportF, startF, elemF, dataF}
 use Rattle.definition.specs.Syntax.{Imm, Op, Item, typeI}
 use Rattle.definition.specs.Deinline.{Numbered}
@@ -66,28 +66,28 @@ module _ (Γ : Scope Identifier) where
   abbrev BodySays : Bool → List Op → Type 0
   BodySays t os = any (λ o. immNamesData (o .imm)) os ≡ t
 
-  body-names : (locals blocks : Namespace Identifier) (r : ℕ) (xs : List (Instr Identifier)) (os : List Op) → body Γ locals blocks r xs ≡ ok os
-      → any (λ o. immNamesData (o .imm)) os ≡ any Uses.namesData xs
+  body-names : (locals blocks : Namespace Identifier) (xs : Body Identifier) (os : List Op) → body Γ locals blocks xs ≡ ok os
+      → any (λ o. immNamesData (o .imm)) os ≡ any (λ x. Uses.namesData (x .1)) xs
   unfolding body any
-  body-names locals blocks r [] os e = given (BodySays false) _ os refl e
-  body-names locals blocks r (x ∷ xs) os e =
+  body-names locals blocks [] os e = given (BodySays false) _ os refl e
+  body-names locals blocks ((r, x) ∷ xs) os e =
       let c = came (instrOp Γ locals blocks r x) _ os e in
-      let d = came (body Γ locals (blocksAfter blocks x) (r + 1) xs) _ os (c .2) in
+      let d = came (body Γ locals (blocksAfter blocks x) xs) _ os (c .2) in
       let a = instr-names locals blocks r x (c .0) (c .1) in
-      let b = body-names locals (blocksAfter blocks x) (r + 1) xs (d .0) (d .1) in
-      given (BodySays (any Uses.namesData (x ∷ xs))) _ os (rw (a, b) refl) (d .2)
+      let b = body-names locals (blocksAfter blocks x) xs (d .0) (d .1) in
+      given (BodySays (any (λ y. Uses.namesData (y .1)) ((r, x) ∷ xs))) _ os (rw (a, b) refl) (d .2)
 
   abbrev ItemSays : Bool → Item → Type 0
   ItemSays t i = namesData i ≡ t
 
-  own-names : (r : ℕ) (o : Own Identifier) (b : List (Instr Identifier)) (i : Item) → ownItem Γ r o b ≡ ok i → namesData i ≡ ownNames o b
+  own-names : (r : ℕ) (o : Own Identifier) (b : Body Identifier) (i : Item) → ownItem Γ r o b ≡ ok i → namesData i ≡ ownNames o b
   unfolding ownItem namesData
   own-names r (ownFunc t ls) b i e =
-      let P = ItemSays (any Uses.namesData b) in
+      let P = ItemSays (any (λ x. Uses.namesData (x .1)) b) in
       after P _ _ i (λ n f.
       after P _ _ i (λ _ g.
-      let c = came (body Γ _ [] (r + 1) b) _ i g in
-      given P _ i (body-names _ [] (r + 1) b (c .0) (c .1)) (c .2)) f) e
+      let c = came (body Γ _ [] b) _ i g in
+      given P _ i (body-names _ [] b (c .0) (c .1)) (c .2)) f) e
   own-names r (ownTable t) b i e = given (ItemSays false) _ i refl e
   own-names r (ownMem l) b i e = given (ItemSays false) _ i refl e
   own-names r (ownGlobal t c) b i e = after (ItemSays false) _ _ i (λ o f. given (ItemSays false) _ i refl f) e

@@ -1,3 +1,4 @@
+pub mod Folding
 pub mod Bits
 pub mod Naming
 pub mod Records

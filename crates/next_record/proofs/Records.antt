@@ -12,7 +12,7 @@ use native.Mathlib.Omega.{arith}
 use Rattle.definition.specs.Basic.{ok, refused, between, isSome}
 use Rattle.definition.specs.Syntax.{Bytes, field}
 use Rattle.definition.specs.Reader.{chooses}
-use Rattle.definition.specs.Instructions.{formOf, bodyBegins}
+use Rattle.definition.specs.Instructions.{formOf, isDue, bodyBegins}
 use Rattle.definition.specs.Records.{Room, fieldRecs, fieldRec, fieldBegins}
 use Rattle.definition.specs.Read.{fieldBody, sourceBody, ownBody, beginsIn}
 use Rattle.laws.proofs.Exits.{between-low}
@@ -86,17 +86,21 @@ begins-field b d f h l = rw (outside d noMarks h) (go (field-bytes b f))
     go : between 0x01 0x0A b ≡ fieldBegins b → leb b 10 ≡ fieldBegins b
     go e = unfold between in rw (le-leb 1 b l) at e
 
-pub begins-end : (b d : ℕ) → 1 ≤ d → b ≡ 0xFF → true ≡ beginsIn b (bodyOf d noMarks)
+pub begins-folded : (b d : ℕ) → 1 ≤ d → b ≡ 0xF0 → true ≡ beginsIn b (bodyOf d noMarks)
 unfolding bodyBegins
+begins-folded b d h e = rw (inside d noMarks h, e)
+
+pub begins-end : (b d : ℕ) → 1 ≤ d → b ≡ 0xFF → true ≡ beginsIn b (bodyOf d noMarks)
+unfolding bodyBegins insideOf isDue
 begins-end b d h e = rw (inside d noMarks h, e)
 
-some-form : (b d : ℕ) (r : Form) → 1 ≤ d → (b ≡ 0xFF → ⊥) → formOf b ≡ formIs r → isSome (formIs r) ≡ beginsIn b (bodyOf d noMarks)
-unfolding bodyBegins
-some-form b d r h n e = rw (inside d noMarks h, ne-eqb b 0xFF n, e)
+some-form : (b d : ℕ) (r : Form) → 1 ≤ d → (b ≡ 0xF0 → ⊥) → (b ≡ 0xFF → ⊥) → formOf b ≡ formIs r → isSome (formIs r) ≡ beginsIn b (bodyOf d noMarks)
+unfolding bodyBegins insideOf isDue
+some-form b d r h m n e = rw (inside d noMarks h, ne-eqb b 0xF0 m, ne-eqb b 0xFF n, e)
 
-pub begins-not : (b d : ℕ) (r : Form) → 1 ≤ d → (b ≡ 0xFF → ⊥) → formOf b ≡ formIs r → r ≡ FM.NoOpcode → false ≡ beginsIn b (bodyOf d noMarks)
+pub begins-not : (b d : ℕ) (r : Form) → 1 ≤ d → (b ≡ 0xF0 → ⊥) → (b ≡ 0xFF → ⊥) → formOf b ≡ formIs r → r ≡ FM.NoOpcode → false ≡ beginsIn b (bodyOf d noMarks)
 unfolding isSome
-begins-not b d r h n e g = ap (λ x. isSome (formIs x)) (sym g) ∙ some-form b d r h n e
+begins-not b d r h m n e g = ap (λ x. isSome (formIs x)) (sym g) ∙ some-form b d r h m n e
 
 -- every other form is one
 is-form : (r : Form) → OneOf (1 ∷ 2 ∷ 3 ∷ 4 ∷ 5 ∷ []) (tagOf FormOf.the-type r) → true ≡ isSome (formIs r)
@@ -108,9 +112,9 @@ is-form FM.Ending h = refl
 is-form FM.Calling h = refl
 is-form (FM.Operands w) h = refl
 
-pub begins-form : (b d : ℕ) (r : Form) → 1 ≤ d → (b ≡ 0xFF → ⊥) → formOf b ≡ formIs r → OneOf (1 ∷ 2 ∷ 3 ∷ 4 ∷ 5 ∷ []) (tagOf FormOf.the-type r)
+pub begins-form : (b d : ℕ) (r : Form) → 1 ≤ d → (b ≡ 0xF0 → ⊥) → (b ≡ 0xFF → ⊥) → formOf b ≡ formIs r → OneOf (1 ∷ 2 ∷ 3 ∷ 4 ∷ 5 ∷ []) (tagOf FormOf.the-type r)
     → true ≡ beginsIn b (bodyOf d noMarks)
-begins-form b d r h n e t = is-form r t ∙ some-form b d r h n e
+begins-form b d r h m n e t = is-form r t ∙ some-form b d r h m n e
 
 -- ## The ways out
 

@@ -2,19 +2,20 @@
 use mathlib.Core.Path.{_≡_, refl, ap, sym, _∙_}
 use Prim.Native.Nat.{ℕ, zero, suc, _+_, _-_, _≤_, _<_}
 use mathlib.Core.Bool.{Bool, true, false, not}
-use mathlib.Core.Option.{Option, none, some}
+use mathlib.Core.Option.{Option, none, some, Option·none-ne-some}
 use lib.Dec.{eqb, ltb}
-use lib.ListN.{getD}
-use borrow.Author.Tests.{lt-ltb, le-ltb, ne-eqb}
+use lib.ListN.{length, getD}
+use borrow.Author.Tests.{lt-ltb, le-ltb, ltb-false, eq-eqb, ne-eqb}
 use native.Mathlib.Omega.{arith}
-use Rattle.definition.specs.Basic.{if_then_else_, Answer, ok}
+use Rattle.definition.specs.Basic.{if_then_else_, Answer, ok, between}
 use Rattle.definition.specs.Syntax as Syntax
 use Rattle.definition.specs.Syntax.{Bytes, Identifier, instr}
 use Rattle.definition.specs.Reader.{Step, got, fault, onward, byte}
 use Rattle.definition.specs.Token.{identifier, optional, typeUse}
-use Rattle.definition.specs.Instructions.{Form, opening, elsing, ending, calling, operands, plainOf, instruction, isOpen, mayElse, admits, formed, formOf, bodyRec}
+use Rattle.definition.specs.Instructions.{Form, opening, elsing, ending, calling, operands, plainOf, instruction, opcodes, formIn, isOpen, mayElse, admits, formed, formOf, unfoldedRec, foldedRec, isDue, bodyRec}
 use Rattle.definition.specs.Types.{isShort}
 use Rattle.laws.specs.Steps.{stops}
+use Rattle.laws.proofs.Readers.{getD-out}
 use Rattle.laws.specs.Depths.{depthAfter}
 use Rattle.syntax.specs.Tokens.{byteAt, skip}
 use Rattle.syntax.specs.declared.ByteAt.{ByteAt}
@@ -34,7 +35,11 @@ use Rattle.syntax.specs.declared.Form as Code
 use Rattle.syntax.specs.declared.Form.the-variants as FM
 use Rattle.next_record.specs.Uses.{mayUse, sortNames}
 use Rattle.next_record.specs.Places.{recordPast, placeAfter, movedBy, bodyRecordAt}
-use Rattle.next_record.specs.Answers.{Kept, an-instr, an-end, keptOf, keptAt, keptInstr, shiftOf, stay, name-data, open-one, opensIn, elsesIn, endsIn, plainInside, insideAnswer, onPast, refusedHere}
+use Rattle.next_record.specs.Answers.{Kept, an-instr, some-folded, an-end, keptOf, keptAt, keptInstr, shiftOf, stay, name-data, open-one, opensIn, elsesIn, endsIn, plainInside, insideAnswer, onPast, refusedHere}
+use Rattle.next_record.specs.Folds.{noneDo, foldedAt, keptFold, foldedTurn, instrTurn, turnAt}
+use Rattle.next_record.specs.declared.record.Does.{Does}
+use Rattle.next_record.specs.declared.fold.Fold.{Fold}
+use Rattle.next_record.specs.declared.fold.Fold.the-variants as L
 use Rattle.next_record.specs.declared.record.Inside.{Inside}
 use Rattle.next_record.specs.declared.record.Inside.the-variants as N
 use Rattle.next_record.specs.declared.record.InsideAt.{InsideAt}
@@ -146,63 +151,126 @@ named-kept : (t : Bool) (q : Place) → _≡_ {A = Answer Kept × Place} (ok (an
 named-kept true q = refl
 named-kept false q = refl
 
+-- F0 is no opcode
+no-form : formOf 0xF0 ≡ none
+unfolding formOf formIn opcodes between
+no-form = refl
+
+not-folding : (b : ℕ) (f : Form) → formOf b ≡ some f → eqb b 0xF0 ≡ false
+not-folding b f e = ne-eqb b 0xF0 (λ d. Option·none-ne-some f (sym no-form ∙ sym (ap formOf d) ∙ e))
+
 module _ (p : Place) (m : Marks) (s : Bytes) (at op : ℕ) (o : 1 ≤ p .depth) (x : InsideAt) (r : Code.Form) (told : formOf op ≡ formIs r) where
-  pub form-none : r ≡ FM.NoOpcode → x ≡ refusedHere p 4 → keptInstr p (formed (insideOf (p .depth - 1) m) op (formOf op) s at) ≡ insideAnswer (x .what) (x .place)
-  form-none d a = rw (told, d) (kept-not p s at o x 4 a)
+  -- F0 is no opcode
+  is-opcode : (f : Form) → formIs r ≡ some f → (y : Answer Kept × Place) → keptInstr p (formed (insideOf (p .depth - 1) m) op (formOf op) s at) ≡ y → instrTurn p m op s at ≡ y
+  unfolding instrTurn
+  is-opcode f d y a = rw (not-folding op f (told ∙ d)) a
 
-  pub form-opening : r ≡ FM.Opening → keptInstr p (opensIn (p .depth - 1) op s at) ≡ insideAnswer (x .what) (x .place) → keptInstr p (formed (insideOf (p .depth - 1) m) op (formOf op) s at) ≡ insideAnswer (x .what) (x .place)
+  pub form-folded : (y : Answer Kept × Place) → r ≡ FM.NoOpcode → foldedTurn p op s ≡ y → instrTurn p m op s at ≡ y
+  unfolding instrTurn foldedTurn
+  form-folded y d a = rw (told, d) a
+
+  pub form-opening : r ≡ FM.Opening → keptInstr p (opensIn (p .depth - 1) op s at) ≡ insideAnswer (x .what) (x .place) → instrTurn p m op s at ≡ insideAnswer (x .what) (x .place)
   unfolding opensIn admits
-  form-opening d a = rw (told, d, inside-length (p .depth - 1) m) a
+  form-opening d a = is-opcode opening (ap formIs d) _ (rw (told, d, inside-length (p .depth - 1) m) a)
 
-  pub form-elsing : r ≡ FM.Elsing → keptInstr p (elsesIn (p .depth - 1) m s at) ≡ insideAnswer (x .what) (x .place) → keptInstr p (formed (insideOf (p .depth - 1) m) op (formOf op) s at) ≡ insideAnswer (x .what) (x .place)
+  pub form-elsing : r ≡ FM.Elsing → keptInstr p (elsesIn (p .depth - 1) m s at) ≡ insideAnswer (x .what) (x .place) → instrTurn p m op s at ≡ insideAnswer (x .what) (x .place)
   unfolding elsesIn admits instruction
-  form-elsing d a = rw (told, d) a
+  form-elsing d a = is-opcode elsing (ap formIs d) _ (rw (told, d) a)
 
-  pub form-ending : r ≡ FM.Ending → keptInstr p (endsIn (p .depth - 1) s at) ≡ insideAnswer (x .what) (x .place) → keptInstr p (formed (insideOf (p .depth - 1) m) op (formOf op) s at) ≡ insideAnswer (x .what) (x .place)
+  pub form-ending : r ≡ FM.Ending → keptInstr p (endsIn (p .depth - 1) s at) ≡ insideAnswer (x .what) (x .place) → instrTurn p m op s at ≡ insideAnswer (x .what) (x .place)
   unfolding endsIn admits instruction
-  form-ending d a = rw (told, d, inside-open (p .depth - 1) m) a
+  form-ending d a = is-opcode ending (ap formIs d) _ (rw (told, d, inside-open (p .depth - 1) m) a)
 
-  pub form-calling : r ≡ FM.Calling → keptInstr p (instruction 0x11 calling s at) ≡ insideAnswer (x .what) (x .place) → keptInstr p (formed (insideOf (p .depth - 1) m) op (formOf op) s at) ≡ insideAnswer (x .what) (x .place)
+  pub form-calling : r ≡ FM.Calling → keptInstr p (instruction 0x11 calling s at) ≡ insideAnswer (x .what) (x .place) → instrTurn p m op s at ≡ insideAnswer (x .what) (x .place)
   unfolding admits instruction
-  form-calling d a = rw (told, d) a
+  form-calling d a = is-opcode calling (ap formIs d) _ (rw (told, d) a)
 
   module _ (w : Operands) (d : r ≡ FM.Operands w) (k : Skip) (e : stops (plainOf 0 (operandsIs w) s at) ≡ skip k) where
-    pub form-plain : (next : ℕ) (v : Inside) → k ≡ S.Past next → v ≡ plainInside (operandsIs w) (getD s at 0) → x ≡ onPast p next (p .depth) v → keptInstr p (formed (insideOf (p .depth - 1) m) op (formOf op) s at) ≡ insideAnswer (x .what) (x .place)
+    pub form-plain : (next : ℕ) (v : Inside) → k ≡ S.Past next → v ≡ plainInside (operandsIs w) (getD s at 0) → x ≡ onPast p next (p .depth) v → instrTurn p m op s at ≡ insideAnswer (x .what) (x .place)
     unfolding admits instruction depthAfter mayUse
     form-plain next v g i a =
         let y = gave (plainOf op (operandsIs w) s at) k next (any-opcode op (operandsIs w) s at ∙ e) g in
         let n = read-names op (operandsIs w) s at (y .value) next (y .is) in
-        rw (told, d, y .is) (kept-on p s at o x (Syntax.plain (y .value)) next (p .depth) v (omega arith) (λ q. rw (i, n) (named-kept (sortNames (operandsIs w) (getD s at 0)) q)) a)
+        is-opcode (operands (operandsIs w)) (ap formIs d) _
+        (rw (told, d, y .is) (kept-on p s at o x (Syntax.plain (y .value)) next (p .depth) v (omega arith) (λ q. rw (i, n) (named-kept (sortNames (operandsIs w) (getD s at 0)) q)) a))
 
-    pub form-no-plain : (n : ℕ) → k ≡ S.Fault n → x ≡ refusedHere p n → keptInstr p (formed (insideOf (p .depth - 1) m) op (formOf op) s at) ≡ insideAnswer (x .what) (x .place)
+    pub form-no-plain : (n : ℕ) → k ≡ S.Fault n → x ≡ refusedHere p n → instrTurn p m op s at ≡ insideAnswer (x .what) (x .place)
     unfolding admits instruction
-    form-no-plain n g a = rw (told, d, gave-not (plainOf op (operandsIs w) s at) k n (any-opcode op (operandsIs w) s at ∙ e) g) (kept-not p s at o x n a)
+    form-no-plain n g a =
+        is-opcode (operands (operandsIs w)) (ap formIs d) _ (rw (told, d, gave-not (plainOf op (operandsIs w) s at) k n (any-opcode op (operandsIs w) s at ∙ e) g) (kept-not p s at o x n a))
 
-pub ruleset forms-passed = (form-none, form-opening, form-elsing, form-ending, form-calling, form-plain, form-no-plain)
+pub ruleset forms-passed = (form-folded, form-opening, form-elsing, form-ending, form-calling, form-plain, form-no-plain)
+
+-- ## A folded record
+
+module _ (p : Place) (s : Bytes) (b : ℕ) where
+  pub folded-not : (x : InsideAt) → (b ≡ 0xF0 → ⊥) → x ≡ refusedHere p 4 → foldedTurn p b s ≡ insideAnswer (x .what) (x .place)
+  unfolding foldedTurn refusedHere
+  folded-not x n a = rw (ne-eqb b 0xF0 n, a)
+
+  module _ (e : b ≡ 0xF0) (f : Fold) (told : f ≡ foldedAt 32 s noneDo p) where
+    pub folded-past : (d : Does) (q : Place) → f ≡ L.Past d q → foldedTurn p b s ≡ (ok (some-folded d), q)
+    unfolding foldedTurn
+    folded-past d q g = rw (eq-eqb b 0xF0 e, ← told, g)
+
+    pub folded-refused : (x : InsideAt) (n : ℕ) (q : Place) → f ≡ L.Refused n q → x ≡ refusedHere q n → foldedTurn p b s ≡ insideAnswer (x .what) (x .place)
+    unfolding foldedTurn refusedHere
+    folded-refused x n q g a = rw (eq-eqb b 0xF0 e, ← told, g, a)
+
+pub ruleset folded-ways = (folded-not, folded-past, folded-refused, refl)
 
 -- ## A record of a body
 
+-- the byte that is looked at
+byte-here : (s : Bytes) (at b next : ℕ) → byte s at ≡ got b next → getD s at 0 ≡ b
+unfolding byte
+byte-here s at b next e = go (ltb at (length s)) e
+  where
+    go : (t : Bool) → (if t then got (getD s at 0) (at + 1) else fault 2) ≡ got b next → getD s at 0 ≡ b
+    go true e = cc
+    go false e = let z : _≡_ {A = ℕ} 0 1 = cc in absurd (omega arith)
+
+byte-missing : (s : Bytes) (at n : ℕ) → byte s at ≡ fault n → getD s at 0 ≡ 0
+unfolding byte
+byte-missing s at n e = go (ltb at (length s)) refl e
+  where
+    go : (t : Bool) → ltb at (length s) ≡ t → (if t then got (getD s at 0) (at + 1) else fault 2) ≡ fault n → getD s at 0 ≡ 0
+    go true d e = let z : _≡_ {A = ℕ} 0 1 = cc in absurd (omega arith)
+    go false d e = getD-out s at (ltb-false at (length s) d)
+
 module _ (p : Place) (m : Marks) (s : Bytes) (r : ByteAt) (told : byte s (p .at) ≡ byteAt r) where
-  pub body-none : (n : ℕ) (x : InsideAt) → r ≡ B.Fault n → x ≡ refusedHere p n → keptAt (bodyRecordAt p m s) ≡ insideAnswer (x .what) (x .place)
-  unfolding bodyRecordAt bodyRec refusedHere
-  body-none n x d a = rw (told, d, a)
+  pub body-none : (n : ℕ) (x : InsideAt) → r ≡ B.Fault n → x ≡ refusedHere p n → turnAt p m s ≡ insideAnswer (x .what) (x .place)
+  unfolding turnAt bodyRecordAt bodyRec refusedHere
+  body-none n x d a = rw (byte-missing s (p .at) n (told ∙ ap byteAt d), told, d, a)
 
   module _ (b at : ℕ) (d : r ≡ B.Got b at) where
-    pub body-instr : (y : Answer Kept × Place) → (b ≡ 0xFF → ⊥) → keptInstr p (formed (insideOf (p .depth - 1) m) b (formOf b) s at) ≡ y → keptAt (bodyRecordAt p m s) ≡ y
-    unfolding bodyRecordAt bodyRec
-    body-instr y n a = rw (told, d, ne-eqb b 0xFF n) (as-instr (formed (insideOf (p .depth - 1) m) b (formOf b) s at) ∙ a)
+    here : getD s (p .at) 0 ≡ b
+    here = byte-here s (p .at) b at (told ∙ ap byteAt d)
+
+    other : eqb b 0xF0 ≡ false → (b ≡ 0xFF → ⊥) → keptAt (bodyRecordAt p m s) ≡ keptInstr p (formed (insideOf (p .depth - 1) m) b (formOf b) s at)
+    unfolding bodyRecordAt bodyRec unfoldedRec insideOf isDue
+    other f n = rw (told, d, f, ne-eqb b 0xFF n) (as-instr (formed (insideOf (p .depth - 1) m) b (formOf b) s at))
       where
         as-instr : (e : Step (Syntax.Instr Identifier)) → keptAt (movedBy p (onward (λ z next. got (instr z) next) e)) ≡ keptInstr p e
         as-instr (got z next) = refl
         as-instr (fault n) = refl
 
-    pub body-open : (x : InsideAt) → b ≡ 0xFF → 1 < p .depth → x ≡ refusedHere p 8 → keptAt (bodyRecordAt p m s) ≡ insideAnswer (x .what) (x .place)
-    unfolding bodyRecordAt bodyRec refusedHere
-    body-open x g h a = rw (told, d, g, inside-open (p .depth - 1) m, lt-ltb 0 (p .depth - 1) (omega arith), a)
+    pub body-instr : (y : Answer Kept × Place) → (b ≡ 0xFF → ⊥) → instrTurn p m b s at ≡ y → turnAt p m s ≡ y
+    unfolding turnAt instrTurn
+    body-instr y n a = rw here (go (eqb b 0xF0) refl a)
+      where
+        go : (t : Bool) → eqb b 0xF0 ≡ t → (if t then keptFold (foldedAt 32 s noneDo p) else keptInstr p (formed (insideOf (p .depth - 1) m) b (formOf b) s at)) ≡ y
+            → (if t then keptFold (foldedAt 32 s noneDo p) else keptAt (bodyRecordAt p m s)) ≡ y
+        go true f a = a
+        go false f a = other f n ∙ a
 
-    pub body-end : (q : Place) → b ≡ 0xFF → 1 ≤ p .depth → p .depth ≤ 1 → q ≡ recordPast p at 0 → keptAt (bodyRecordAt p m s) ≡ (ok an-end, q)
-    unfolding bodyRecordAt bodyRec placeAfter
-    body-end q g l h a = rw (told, d, g, inside-open (p .depth - 1) m, le-ltb 0 (p .depth - 1) (omega arith), a)
+    pub body-open : (x : InsideAt) → b ≡ 0xFF → 1 < p .depth → x ≡ refusedHere p 8 → turnAt p m s ≡ insideAnswer (x .what) (x .place)
+    unfolding turnAt bodyRecordAt bodyRec unfoldedRec insideOf isDue refusedHere
+    body-open x g h a = rw (here, told, d, g, inside-open (p .depth - 1) m, lt-ltb 0 (p .depth - 1) (omega arith), a)
+
+    pub body-end : (q : Place) → b ≡ 0xFF → 1 ≤ p .depth → p .depth ≤ 1 → q ≡ recordPast p at 0 → turnAt p m s ≡ (ok an-end, q)
+    unfolding turnAt bodyRecordAt bodyRec unfoldedRec insideOf isDue placeAfter
+    body-end q g l h a = rw (here, told, d, g, inside-open (p .depth - 1) m, le-ltb 0 (p .depth - 1) (omega arith), a)
 
 pub ruleset body-ways = (body-none, body-instr, body-open, body-end)
 
@@ -222,13 +290,13 @@ module _ (k : ℕ) (m n : Marks) (same : mayElse (insideOf k m .blocks) ≡ mayE
   formed-same op (some f) = rw (admits-same f)
 
   body-same : (s : Bytes) (at : ℕ) → bodyRec (insideOf k m) s at ≡ bodyRec (insideOf k n) s at
-  unfolding bodyRec
+  unfolding bodyRec unfoldedRec foldedRec isDue insideOf
   body-same s at = go (byte s at) refl
     where
       go : (e : Step ℕ) → byte s at ≡ e → bodyRec (insideOf k m) s at ≡ bodyRec (insideOf k n) s at
       go (got b next) e = rw (e, inside-open k m, inside-open k n, formed-same b (formOf b))
       go (fault x) e = rw e
 
-pub by-innermost : (p : Place) (m : Marks) (s : Bytes) (i : Innermost) (y : Answer Kept × Place) → i ≡ innermostOf m → keptAt (bodyRecordAt p (markOf i) s) ≡ y → keptAt (bodyRecordAt p m s) ≡ y
-unfolding bodyRecordAt
+pub by-innermost : (p : Place) (m : Marks) (s : Bytes) (i : Innermost) (y : Answer Kept × Place) → i ≡ innermostOf m → turnAt p (markOf i) s ≡ y → turnAt p m s ≡ y
+unfolding turnAt bodyRecordAt
 by-innermost p m s i y e a = rw (body-same (p .depth - 1) m (markOf i) (rw e (innermost-same (p .depth - 1) m)) s (p .at)) a

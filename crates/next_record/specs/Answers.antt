@@ -3,7 +3,7 @@ use Prim.Native.Nat.{ℕ}
 use mathlib.Core.Bool.{Bool, false}
 use lib.Dec.{eqb, ltb}
 use Rattle.definition.specs.Basic.{if_then_else_, Answer, ok, fails, refused}
-use Rattle.definition.specs.Syntax.{Bytes, Identifier, Instr, opens, elses, ends, indirect, plain, Rec, field, instr, bodyEnd}
+use Rattle.definition.specs.Syntax.{Bytes, Identifier, Instr, opens, elses, ends, indirect, plain, Rec, field, instr, folded, bodyEnd}
 use mathlib.Core.Option.{Option}
 use Rattle.definition.specs.Reader.{Step, got, fault, Reader, _>>_, require}
 use Rattle.definition.specs.Instructions.{Operands, opening, elsing, ending, instruction, mayElse}
@@ -22,7 +22,8 @@ use Rattle.next_record.specs.declared.record.Outside.the-variants as U
 use Rattle.next_record.specs.declared.record.Inside.{Inside}
 use Rattle.next_record.specs.declared.record.Inside.the-variants as N
 use Rattle.next_record.specs.declared.record.InsideAt.{InsideAt}
-use Rattle.next_record.specs.Uses.{mayUse, operandNames, sortNames}
+use Rattle.next_record.specs.declared.record.Does.{Does}
+use Rattle.next_record.specs.Uses.{mayUse, operandNames, namesData, sortNames}
 use Rattle.next_record.specs.Places.{recordPast, placeAfter}
 
 -- outside a body
@@ -45,15 +46,18 @@ shiftOf (ends l) = end-one
 shiftOf (indirect x t) = stay
 shiftOf (plain p) = if operandNames (p .operand) then name-data else stay
 
--- what the pass keeps of a record in a body: of an instruction, whether it may use a type and what it does
+-- what the pass keeps of a record in a body: of an instruction, whether it may use a type and what it does; of a folded one with its operands, what
+-- they do
 pub data Kept : Type 0 where
   a-field : Kept
   an-instr : Bool → Shift → Kept
+  some-folded : Does → Kept
   an-end : Kept
 
 abbrev pub keptOf : Rec Identifier → Kept
 keptOf (field f) = a-field
 keptOf (instr x) = an-instr (mayUse x) (shiftOf x)
+keptOf (folded x n) = some-folded (record { uses = mayUse x; names = namesData x })
 keptOf bodyEnd = an-end
 
 abbrev pub keptAnswer : Answer (Rec Identifier) → Answer Kept
@@ -69,6 +73,7 @@ insideAnswer N.Data q = (ok (an-instr false name-data), q)
 insideAnswer (N.Opens u e) q = (ok (an-instr u (open-one e)), q)
 insideAnswer N.Elses q = (ok (an-instr false else-one), q)
 insideAnswer N.Ends q = (ok (an-instr false end-one), q)
+insideAnswer (N.Folded d) q = (ok (some-folded d), q)
 insideAnswer N.End q = (ok an-end, q)
 insideAnswer (N.Refused n) q = (refused n (q .rec), q)
 

@@ -2,3 +2,4 @@ pub mod Uses
 pub mod Marks
 pub mod Places
 pub mod Answers
+pub mod Folds

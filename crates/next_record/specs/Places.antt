@@ -3,7 +3,7 @@ use Prim.Native.Nat.{ℕ, zero, suc, _+_, _-_}
 use mathlib.Core.Option.{Option, none, some}
 use lib.ListN.{length}
 use Rattle.definition.specs.Basic.{Answer, ok, refused}
-use Rattle.definition.specs.Syntax.{Bytes, Identifier, Rec, field, instr, bodyEnd}
+use Rattle.definition.specs.Syntax.{Bytes, Identifier, Rec, field, instr, folded, bodyEnd}
 use Rattle.definition.specs.Reader.{Step, got, fault}
 use Rattle.definition.specs.Instructions.{Inside, bodyRec}
 use Rattle.definition.specs.Records.{Room}
@@ -26,6 +26,7 @@ depthOf (some i) = length (i .blocks) + 1
 abbrev pub depthPast : ℕ → Rec Identifier → ℕ
 depthPast d (field f) = depthOf (fieldBody f)
 depthPast d (instr x) = depthAfter x (d - 1) + 1
+depthPast d (folded x n) = d
 depthPast d bodyEnd = 0
 
 -- the place that a record has moved on

@@ -5,7 +5,7 @@ use mathlib.Core.List.{List, [], _∷_}
 use lib.Dec.{eqb}
 use Rattle.area.specs.Layout.{MARK}
 use Rattle.definition.specs.Basic.{if_then_else_}
-use Rattle.definition.specs.Syntax.{Identifier, Operand, nothing, label, labels, local, item, items, access, int32, int64, raw, Instr, opens, elses, ends, indirect, plain}
+use Rattle.definition.specs.Syntax.{Identifier, Operand, nothing, label, labels, local, item, items, access, int32, int64, raw, Instr, opens, elses, ends, indirect, plain, Body}
 use Rattle.definition.specs.Instructions.{Operands, bare, labelidx, labelidxs, localidx, funcidx, globalidx, memidx, memarg, i32, i64, f32, f64, heaptype, bulk}
 use Rattle.definition.specs.Types.{isShort}
 
@@ -17,9 +17,9 @@ mayUse (ends l) = false
 mayUse (indirect x t) = true
 mayUse (plain p) = false
 
-unfoldable pub anyUse : List (Instr Identifier) → Bool
+unfoldable pub anyUse : Body Identifier → Bool
 anyUse [] = false
-anyUse (x ∷ xs) = mayUse x || anyUse xs
+anyUse ((r, x) ∷ xs) = mayUse x || anyUse xs
 
 -- a record's number and whether a body may use a type, in one word: the number is at most 4,096
 unfoldable pub endWord : ℕ → Bool → ℕ

@@ -1,4 +1,5 @@
 // One record at the running place: outside a body a field, inside one an instruction or the body's end.
+mod fold;
 pub mod marks;
 pub mod record;
 mod skim;

@@ -16,8 +16,9 @@ ghost use Rattle.definition.specs.Read as Read;
 ghost use Rattle.syntax.specs.Items.{roomOf};
 ghost use Rattle.syntax.specs.Marks.{noMarks};
 ghost use Rattle.next_record.specs.Marks.{markOf};
-ghost use Rattle.next_record.specs.Places.{bodyOf, recordPast, fieldRecordAt, bodyRecordAt};
-ghost use Rattle.next_record.specs.Answers.{outsideAnswer, keptAt, insideAnswer, onPast, refusedHere, fieldDepth};
+ghost use Rattle.next_record.specs.Places.{bodyOf, recordPast, fieldRecordAt};
+ghost use Rattle.next_record.specs.Answers.{outsideAnswer, insideAnswer, onPast, refusedHere, fieldDepth};
+ghost use Rattle.next_record.specs.Folds.{turnAt};
 
 // What stands outside a body: a field.
 pub enum Outside {
@@ -31,6 +32,12 @@ pub struct OutsideAt {
     pub place: Place,
 }
 
+// What the instructions of a folded record do, its own and those of its operands: may one use a type, and does one name a data segment?
+pub struct Does {
+    pub uses: bool,
+    pub names: bool,
+}
+
 // What stands in a body. Of an instruction the pass keeps whether it may use a type, what it does to the open blocks, and whether it names a data
 // segment, so nothing larger is handed on.
 pub enum Inside {
@@ -42,12 +49,14 @@ pub enum Inside {
     Opens(bool, bool),
     Elses,
     Ends,
+    // a folded record, with all its operands
+    Folded(Does),
     // the body's end
     End,
     Refused(u8),
 }
 
-// What was read in a body, and the place after it. A refusal leaves the place where it was.
+// What was read in a body, and the place after it. A refusal leaves the place at the record at fault.
 pub struct InsideAt {
     pub what: Inside,
     pub place: Place,
@@ -87,6 +96,9 @@ fn begins(b: u8, depth: u32) -> bool
         }
         return b <= 0x0A;
     }
+    if b == 0xF0 {
+        return true;
+    }
     if b == 0xFF {
         return true;
     }
@@ -121,7 +133,7 @@ pub fn too_many(s: &[u8], p: Place) -> u8
 }
 
 // The place after a record.
-fn after_record(p: Place, at: usize, depth: u32) -> Place
+pub fn after_record(p: Place, at: usize, depth: u32) -> Place
     requires { ⌜ p .rec < 4096 ⌝ }
     ensures { λ r. ⌜ r ≡ recordPast p at depth ⌝ }
 {
@@ -167,10 +179,10 @@ pub fn refused(p: Place, n: u8) -> InsideAt
     InsideAt { what, place: p }
 }
 
-// A record of a body: the byte FF where no block is open, or an instruction.
+// A record of a body: the byte FF where no block is open, an instruction, or a folded record with all its operands.
 pub fn body_record(s: &[u8], p: Place, last: Innermost) -> InsideAt
     requires { ⌜ (p .rec < 4096) × (1 ≤ p .depth) ⌝ }
-    ensures { λ r. ⌜ keptAt (bodyRecordAt p (markOf last) (now (s .entry))) ≡ insideAnswer (r .what) (r .place) ⌝ }
+    ensures { λ r. ⌜ turnAt p (markOf last) (now (s .entry)) ≡ insideAnswer (r .what) (r .place) ⌝ }
 {
     match token::read_byte(s, p.at) {
         ByteAt::Got(b, at) => {

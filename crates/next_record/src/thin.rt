@@ -15,8 +15,9 @@ ghost use mathlib.Core.Path.{_≡_};
 ghost use Prim.Native.Nat.{_≤_, _<_};
 ghost use Rattle.syntax.specs.Items.{roomOf};
 ghost use Rattle.next_record.specs.Marks.{markOf};
-ghost use Rattle.next_record.specs.Places.{fieldRecordAt, bodyRecordAt};
-ghost use Rattle.next_record.specs.Answers.{outsideAnswer, keptAt, insideAnswer};
+ghost use Rattle.next_record.specs.Places.{fieldRecordAt};
+ghost use Rattle.next_record.specs.Answers.{outsideAnswer, insideAnswer};
+ghost use Rattle.next_record.specs.Folds.{turnAt};
 
 // A field's record.
 fn read_field(s: &[u8], place: &mut Place, seen: Seen) -> Outside
@@ -31,7 +32,7 @@ fn read_field(s: &[u8], place: &mut Place, seen: Seen) -> Outside
 // A record of a body.
 fn read_instr(s: &[u8], place: &mut Place, last: Innermost) -> Inside
     requires { ⌜ (now place .rec < 4096) × (1 ≤ now place .depth) ⌝ }
-    ensures { λ r. ⌜ keptAt (bodyRecordAt (now (place .entry)) (markOf last) (now (s .entry))) ≡ insideAnswer r (now (place .exit)) ⌝ }
+    ensures { λ r. ⌜ turnAt (now (place .entry)) (markOf last) (now (s .entry)) ≡ insideAnswer r (now (place .exit)) ⌝ }
 {
     let r = body_record(s, *place, last);
     *place = r.place;
@@ -51,7 +52,7 @@ pub fn next_field(s: &[u8], p: Place, seen: Seen) -> OutsideAt
 // The record of a body at a place.
 fn next_inside(s: &[u8], p: Place, last: Innermost) -> InsideAt
     requires { ⌜ (p .rec < 4096) × (1 ≤ p .depth) ⌝ }
-    ensures { λ r. ⌜ keptAt (bodyRecordAt p (markOf last) (now (s .entry))) ≡ insideAnswer (r .what) (r .place) ⌝ }
+    ensures { λ r. ⌜ turnAt p (markOf last) (now (s .entry)) ≡ insideAnswer (r .what) (r .place) ⌝ }
 {
     let mut place = p;
     let what = read_instr(s, &mut place, last);
@@ -61,7 +62,7 @@ fn next_inside(s: &[u8], p: Place, last: Innermost) -> InsideAt
 // The same where the open blocks have these marks: the innermost's alone matters.
 pub fn next_instr(s: &[u8], p: Place, marks: Marks) -> InsideAt
     requires { ⌜ (p .rec < 4096) × (1 ≤ p .depth) ⌝ }
-    ensures { λ r. ⌜ keptAt (bodyRecordAt p marks (now (s .entry))) ≡ insideAnswer (r .what) (r .place) ⌝ }
+    ensures { λ r. ⌜ turnAt p marks (now (s .entry)) ≡ insideAnswer (r .what) (r .place) ⌝ }
 {
     next_inside(s, p, lowest(marks))
 }

@@ -1,6 +1,6 @@
 -- What reading leaves is what a walk begins with.
 use mathlib.Core.Path.{_≡_, refl, ap, _∙_}
-use Prim.Native.Nat.{ℕ, suc, _+_, _-_, _≤_}
+use Prim.Native.Nat.{ℕ, suc, _+_, _-_, _≤_, _<_}
 use mathlib.Core.Bool.{Bool, true, false}
 use mathlib.Core.List.{List, [], _∷_, _++_, append-assoc}
 use lib.Dec.{ltb}
@@ -132,6 +132,10 @@ module _ (s : Bytes) (w w′ : List ℕ) (r : Count) (v : Reads s w r w′) (n :
   unfolding areaAfter
   reads-long = let a = left .leaves in let b = area-is s w (left .recs) (left .is) in
       rw (a, b, put-kept (sets (sets w ENDS (endsFrom 4096 begin s)) COUNTS (countWords (passed s .seen))) DATA_NAMED (passed s .named) .long, length-sets (sets w ENDS (endsFrom 4096 begin s)) COUNTS (countWords (passed s .seen)), length-sets w ENDS (endsFrom 4096 begin s)) (left .long)
+
+  -- so there is a word for whether the call is strict
+  pub reads-flag : STRICT < length w′
+  reads-flag = omega (arith, reads-long)
 
   -- the stream is short enough
   pub reads-short : length s ≤ BYTES

@@ -16,15 +16,16 @@ use Rattle.area.specs.Layout.{COUNTS, DATA_NAMED, DECLARED, ENDS}
 use Rattle.area.specs.Flags.{flagPut}
 use Rattle.area.proofs.Kept.{kept-word}
 use Rattle.area.proofs.Flags.{put-kept}
-use Rattle.definition.specs.Syntax.{Bytes, Identifier, Space, types, ExternType, Instr, Own, Source}
-use Rattle.definition.specs.Syntax.{FieldRec, typeR, importR, itemR, exportR, startR, elemR, dataR, Rec, field, instr, bodyEnd}
+use Rattle.definition.specs.Syntax.{Bytes, Identifier, Space, types, ExternType, Own, Source}
+use Rattle.definition.specs.Syntax.{FieldRec, typeR, importR, itemR, exportR, startR, elemR, dataR, Rec, field, instr, folded, bodyEnd, Body}
 use Rattle.definition.specs.Reader.{got}
 use Rattle.definition.specs.Instructions.{Inside}
 use Rattle.definition.specs.Records.{fieldRec}
 use Rattle.definition.specs.Spaces.{sourceSpace, externSpace, ownSpace, segments, brings, count}
 use Rattle.definition.specs.Read as Read
 use Rattle.definition.specs.Read.{room, seenAfter, itemsAfter, recordIn, oneRecord, atEnd, nothingSeen, records, read}
-use Rattle.definition.specs.Deinline.{Numbered, sourceFields, fieldsOf, bodyOf, deinlineFrom, deinline}
+use Rattle.definition.specs.Folded.{bodyOf}
+use Rattle.definition.specs.Deinline.{Numbered, sourceFields, fieldsOf, deinlineFrom, deinline}
 use Rattle.definition.specs.Types.{declaredBy, declared}
 use Rattle.laws.proofs.Backwards.{came}
 use Rattle.laws.proofs.Bodies.{no-field}
@@ -63,7 +64,7 @@ module _ (items : List Space) where
   source-types (Syntax.tableOf w xs) = omega arith
   source-types (Syntax.memOf w d) = omega arith
 
-  module _ (r : ℕ) (next : Space → ℕ) (b : List (Instr Identifier)) where
+  module _ (r : ℕ) (next : Space → ℕ) (b : Body Identifier) where
     -- as many as its fields declare
     field-types : (f : FieldRec Identifier) → count types (brings f ++ items) ≡ count types items + length (declared (map (λ x. (r, x)) (fieldsOf next f b)))
     unfolding count brings fieldsOf declared declaredBy
@@ -122,12 +123,13 @@ counted-more : (r : ℕ) (seen : Read.Seen) (x : Rec Identifier) (s : Bytes) (he
     → Counted (r + 1) (seenAfter seen x) seen′ rest → Counted r seen seen′ (x ∷ rest)
 unfolding deinlineFrom seenAfter itemsAfter
 counted-more r seen (field f) s here next seen′ rest e h =
-    let a = field-types (seen .items) r (λ k. count k (seen .items)) (bodyOf rest) f in
-    let fs : Numbered Identifier = map (λ x. (r, x)) (fieldsOf (λ k. count k (seen .items)) f (bodyOf rest)) in
+    let a = field-types (seen .items) r (λ k. count k (seen .items)) (bodyOf (r + 1) rest) f in
+    let fs : Numbered Identifier = map (λ x. (r, x)) (fieldsOf (λ k. count k (seen .items)) f (bodyOf (r + 1) rest)) in
     let gs : Numbered Identifier = deinlineFrom (r + 1) (brings f ++ seen .items) rest in
     let b : length (declared (fs ++ gs)) ≡ length (declared fs) + length (declared gs) = ap length (declared-append fs gs) ∙ length-append (declared fs) (declared gs) in
     record { sum = omega (arith, h .sum, a, b); few = h .few }
 counted-more r seen (instr y) s here next seen′ rest e h = record { sum = h .sum; few = h .few }
+counted-more r seen (folded y m) s here next seen′ rest e h = record { sum = h .sum; few = h .few }
 counted-more r seen bodyEnd s here next seen′ rest e h = record { sum = h .sum; few = h .few }
 
 few-after : (seen : Read.Seen) (x : Rec Identifier) (s : Bytes) (here next : ℕ) → count types (seen .items) ≤ 256 → oneRecord seen s here ≡ got x next
@@ -135,6 +137,7 @@ few-after : (seen : Read.Seen) (x : Rec Identifier) (s : Bytes) (here next : ℕ
 unfolding seenAfter itemsAfter
 few-after seen (field f) s here next few e = few-types seen s here next few f e
 few-after seen (instr y) s here next few e = few
+few-after seen (folded y m) s here next few e = few
 few-after seen bodyEnd s here next few e = few
 
 counted-all : (left r : ℕ) (seen : Read.Seen) (used named : Bool) (ends : List ℕ) (s : Bytes) (here : ℕ) (rs : List (Rec Identifier)) → count types (seen .items) ≤ 256

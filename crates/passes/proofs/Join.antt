@@ -12,164 +12,32 @@ use native.Mathlib.Decide.{decLe}
 use Rattle.definition.specs.Basic.{if_then_else_, Answer, ok, refused, any}
 use Rattle.definition.specs.Syntax as Syntax
 use Rattle.definition.specs.Syntax.{Bytes, Identifier, Space, funcs, Source, own, imported, tableOf, memOf, ownFunc, ownTable, ownMem, ownGlobal}
-use Rattle.definition.specs.Syntax.{FieldRec, typeR, importR, itemR, exportR, startR, elemR, dataR, Rec, field, instr, bodyEnd}
+use Rattle.definition.specs.Syntax.{FieldRec, typeR, importR, itemR, exportR, startR, elemR, dataR, Rec, field, Body}
 use Rattle.definition.specs.Reader.{got}
-use Rattle.definition.specs.Instructions.{Inside, insideAfter, bodyRec}
+use Rattle.definition.specs.Instructions.{Inside, begun}
 use Rattle.definition.specs.Records.{fieldRec}
 use Rattle.definition.specs.Spaces.{sourceSpace, externSpace, ownSpace, segments, brings, count}
 use Rattle.definition.specs.Read as Read
-use Rattle.definition.specs.Read.{room, seenAfter, bodyAfter, itemsAfter, startedAfter, fieldBody, sourceBody, ownBody, instrBody, recordIn, oneRecord, atEnd, nothingSeen, records, read}
-use Rattle.definition.specs.Deinline.{Numbered, sourceFields, fieldsOf, bodyOf, deinlineFrom, deinline}
-use Rattle.laws.specs.Depths.{depthAfter}
+use Rattle.definition.specs.Read.{room, seenAfter, bodyAfter, itemsAfter, startedAfter, fieldBody, sourceBody, ownBody, isStart, recordIn, oneRecord, nothingSeen, records, read}
+use Rattle.definition.specs.Folded.{flatten, bodyOf}
+use Rattle.definition.specs.Deinline.{Numbered, sourceFields, fieldsOf, deinlineFrom, deinline}
 use Rattle.laws.proofs.Backwards.{came}
-use Rattle.laws.proofs.Bodies.{no-field, after-length, reads-deep}
-use Rattle.laws.proofs.Reading.{records-end, records-full, accepted-next, Next}
+use Rattle.laws.proofs.Reading.{accepted-next, Next}
 use Rattle.syntax.specs.Items.{countOf, roomOf}
 use Rattle.syntax.specs.declared.Seen.{Seen}
 use Rattle.reread.proofs.Gives.{Roomy, RoomyField, roomy}
-use Rattle.next_record.specs.Uses.{mayUse, anyUse, namesData, endWord}
+use Rattle.next_record.specs.Uses.{anyUse, namesData, endWord}
 use Rattle.stream.specs.Pass as Pass
 use Rattle.stream.specs.Pass.{Passed, pass}
 use Rattle.counting.specs.Counting.{oneMore}
 use Rattle.stream.proofs.Model.{pass-end, pass-got}
 use Rattle.counting.proofs.Counts.{Holds, Counts, holds-more, counts-none, room-same}
-use Rattle.walk.specs.Walk.{afterBody, bodyIn, afterField, bodies, counting, seenWith, begin, cursorAfter, wholeField, sound, Visited, visitAt, fieldsHere, fieldsFrom, fieldsAhead, fieldsIn, fieldNames, dataNamed, endOf, endHere, endsFrom}
-use Rattle.instr.specs.Bodies.{bodyFrom, wholeBody}
+use Rattle.walk.specs.Walk.{bodyIn, afterField, bodies, counting, seenWith, begin, cursorAfter, wholeField, sound, Visited, visitAt, fieldsHere, fieldsFrom, fieldsAhead, fieldsIn, fieldNames, dataNamed, endOf, endHere, endsFrom}
+use Rattle.instr.specs.Bodies.{Stretch, bodyFrom}
 use Rattle.walk.specs.declared.Cursor.{Cursor}
 use Rattle.walk.specs.declared.Stop.{Stop}
 use Rattle.walk.proofs.Steps.{sound-met}
-
--- ## Records of a stream that is accepted
-
-module _ (r : ℕ) (seen : Read.Seen) (s : Bytes) (here : ℕ) (rs : List (Rec Identifier)) where
-  -- outside a body the stream may end, and then there are no more records
-  at-end : (left : ℕ) → length s ≤ here → records left r seen s here ≡ ok rs → seen .body ≡ none → rs ≡ []
-  at-end left h e b =
-      let d : _≡_ {A = Answer (List (Rec Identifier))} (ok []) (ok rs) = ap (atEnd r) (sym b) ∙ sym (records-end r seen s here left h) ∙ e in
-      cc
-
-  -- in a body it may not
-  not-in-body : (left : ℕ) (j : Inside) → length s ≤ here → records left r seen s here ≡ ok rs → seen .body ≡ some j → ⊥
-  not-in-body left k h e b =
-      let d : _≡_ {A = Answer (List (Rec Identifier))} (refused 2 r) (ok rs) = ap (atEnd r) (sym b) ∙ sym (records-end r seen s here left h) ∙ e in
-      let z : _≡_ {A = ℕ} 0 1 = cc in omega arith
-
-  -- one record more is one of those that are left
-  some-left : (left : ℕ) → here < length s → records left r seen s here ≡ ok rs → 0 < left
-  some-left zero h e =
-      let d = sym (records-full r seen s here zero h refl) ∙ e in
-      let z : _≡_ {A = ℕ} 0 1 = cc in absurd (omega arith)
-  some-left (suc n) h e = omega arith
-
--- ## Bodies
-
--- what follows a body: the records outside it
-record After (left k r : ℕ) (seen : Read.Seen) (s : Bytes) (here : ℕ) (rs : List (Rec Identifier)) : Type 0 where
-  stop : Stop
-  stops : afterBody left k r s here ≡ stop
-  later : ℕ
-  seen′ : Read.Seen
-  rest : List (Rec Identifier)
-  goes-on : records later (stop .rec) seen′ s (stop .at) ≡ ok rest
-  outside : seen′ .body ≡ none
-  items : seen′ .items ≡ seen .items
-  started : seen′ .started ≡ seen .started
-  sum : later + stop .rec ≡ left + r
-  fewer : later < left
-  whole : wholeBody left k s here ≡ true
-  body : bodyFrom left k s here ≡ bodyOf rs
-  fields : (seen : List Space) → deinlineFrom r seen rs ≡ deinlineFrom (stop .rec) seen rest
-  passes : (used named : Bool) (ends : List ℕ)
-      → pass left r seen used named ends s here
-      ≡ pass later (stop .rec) seen′ false (named || any namesData (bodyFrom left k s here)) (ends ++ (stop .at ∷ endWord (stop .rec) (used || anyUse (bodyFrom left k s here)) ∷ [])) s (stop .at)
-
-or-none : (u : Bool) → u ≡ u || false
-or-none true = refl
-or-none false = refl
-
-or-more : (t u v : Bool) → (t || u) || v ≡ t || (u || v)
-or-more true u v = refl
-or-more false u v = refl
-
-body-record : (j : Inside) (seen : Read.Seen) (s : Bytes) (here : ℕ) (x : Rec Identifier) (next : ℕ) → seen .body ≡ some j → oneRecord seen s here ≡ got x next
-    → bodyRec j s here ≡ got x next
-unfolding oneRecord
-body-record j seen s here x next b e = ap (λ z. recordIn (room seen) z s here) (sym b) ∙ e
-
-body-after : (left : ℕ) (j : Inside) (r : ℕ) (seen : Read.Seen) (s : Bytes) (here : ℕ) (rs : List (Rec Identifier)) → seen .body ≡ some j
-    → records left r seen s here ≡ ok rs → After left (length (j .blocks)) r seen s here rs
-unfolding insideAfter bodyFrom afterBody wholeBody bodyOf deinlineFrom seenAfter bodyAfter itemsAfter startedAfter anyUse any
-body-after zero j r seen s here rs b e = go (decLe (length s) here)
-  where
-    go : Dec (length s ≤ here) → After zero (length (j .blocks)) r seen s here rs
-    go (yes h) = absurd (not-in-body r seen s here rs zero j h e b)
-    go (no h) = let z = some-left r seen s here rs zero (omega arith) e in absurd (omega arith)
-body-after (suc n) j r seen s here rs b e = go (decLe (length s) here) (λ j′ seen′ next rest. body-after n j′ (r + 1) seen′ s next rest)
-  where
-    Again : Type 0
-    Again = (j′ : Inside) (seen′ : Read.Seen) (next : ℕ) (rest : List (Rec Identifier)) → seen′ .body ≡ some j′ → records n (r + 1) seen′ s next ≡ ok rest
-        → After n (length (j′ .blocks)) (r + 1) seen′ s next rest
-
-    on : here < length s → Again → (x : Rec Identifier) (next : ℕ) (rest : List (Rec Identifier)) → oneRecord seen s here ≡ got x next → rs ≡ x ∷ rest
-        → records n (r + 1) (seenAfter seen x) s next ≡ ok rest → After (suc n) (length (j .blocks)) r seen s here rs
-    on h ih (field f) next rest e i g = absurd (no-field j s here f next (body-record j seen s here (field f) next b e))
-    on h ih (instr x) next rest e i g =
-        let d = reads-deep j s next here (instr x) (body-record j seen s here (instr x) next b e) in
-        let v : After n (depthAfter x (length (j .blocks))) (r + 1) (seenAfter seen (instr x)) s next rest =
-        subst (λ k. After n k (r + 1) (seenAfter seen (instr x)) s next rest) (after-length x (j .blocks)) (ih (insideAfter x j) (seenAfter seen (instr x)) next rest (ap (instrBody x) b) g) in
-        let m : suc n - 1 ≡ n = omega arith in
-        record {
-          stop = v .stop;
-          stops = rw d (v .stops);
-          later = v .later;
-          seen′ = v .seen′;
-          rest = v .rest;
-          goes-on = v .goes-on;
-          outside = v .outside;
-          items = v .items;
-          started = v .started;
-          sum = omega (arith, v .sum);
-          fewer = omega (arith, v .fewer);
-          whole = rw d (v .whole);
-          body = rw (d, i) (ap (λ z. x ∷ z) (v .body));
-          fields = λ seen. rw i (v .fields seen);
-          passes = λ used named ends.
-              pass-got r seen used named ends s here (suc n) (instr x) next h (omega arith) e
-              ∙ rw (
-                m,
-                append-nil,
-                d,
-                ← or-more used (mayUse x) (anyUse (bodyFrom n (depthAfter x (length (j .blocks))) s next)),
-                ← or-more named (namesData x) (any namesData (bodyFrom n (depthAfter x (length (j .blocks))) s next)),
-              ) (v .passes (used || mayUse x) (named || namesData x) ends);
-        }
-    on h ih bodyEnd next rest e i g =
-        let d = reads-deep j s next here bodyEnd (body-record j seen s here bodyEnd next b e) in
-        let m : suc n - 1 ≡ n = omega arith in
-        record {
-          stop = record { at = next; rec = r + 1 };
-          stops = rw d;
-          later = n;
-          seen′ = seenAfter {I = Identifier} seen bodyEnd;
-          rest = rest;
-          goes-on = g;
-          outside = refl;
-          items = refl;
-          started = refl;
-          sum = omega arith;
-          fewer = omega arith;
-          whole = rw d;
-          body = rw (d, i);
-          fields = λ seen. rw i;
-          passes = λ used named ends. pass-got r seen used named ends s here (suc n) bodyEnd next h (omega arith) e ∙ rw (m, d, ← or-none used, ← or-none named);
-        }
-
-    go : Dec (length s ≤ here) → Again → After (suc n) (length (j .blocks)) r seen s here rs
-    go (yes h) ih = absurd (not-in-body r seen s here rs (suc n) j h e b)
-    go (no h) ih =
-        let l : here < length s = omega arith in
-        let v = accepted-next n r seen s here rs l e in
-        on l ih (v .rec) (v .next) (v .rest) (v .reads) (v .is) (v .goes-on)
+use Rattle.passes.proofs.Bodies.{at-end, some-left, or-none, or-more, anyNames, seenIn, outside, After, body-after}
 
 -- ## Fields
 
@@ -190,11 +58,11 @@ field-read seen s here x next b e =
     record { rec = c .value; is = sym i; reads = c .first ∙ rw n }
 
 -- so no body follows
-no-body : (left r : ℕ) (seen : Read.Seen) (s : Bytes) (here : ℕ) (rs : List (Rec Identifier)) → seen .body ≡ none → records left r seen s here ≡ ok rs → bodyOf rs ≡ []
-unfolding bodyOf
+no-body : (left r : ℕ) (seen : Read.Seen) (s : Bytes) (here : ℕ) (rs : List (Rec Identifier)) → seen .body ≡ none → records left r seen s here ≡ ok rs → bodyOf r rs ≡ []
+unfolding bodyOf flatten
 no-body left r seen s here rs b e = go left (decLe (length s) here) e
   where
-    go : (left : ℕ) → Dec (length s ≤ here) → records left r seen s here ≡ ok rs → bodyOf rs ≡ []
+    go : (left : ℕ) → Dec (length s ≤ here) → records left r seen s here ≡ ok rs → bodyOf r rs ≡ []
     go left (yes h) e = rw (at-end r seen s here rs left h e b)
     go zero (no h) e = let z = some-left r seen s here rs zero (omega arith) e in absurd (omega arith)
     go (suc n) (no h) e =
@@ -217,7 +85,7 @@ counts-with d c f h =
     record { items = brings-more (d .items) c (brings f) (h .items); started = rw e }
 
 -- the number of an item that had room is not capped
-number-is : (d : Read.Seen) (c : Seen) (f : FieldRec Identifier) (b : List (Syntax.Instr Identifier)) → Counts d c → RoomyField (room d) f
+number-is : (d : Read.Seen) (c : Seen) (f : FieldRec Identifier) (b : Body Identifier) → Counts d c → RoomyField (room d) f
     → fieldsOf (countOf c) f b ≡ fieldsOf (λ k. count k (d .items)) f b
 unfolding fieldsOf room
 number-is d c (typeR i t) b h v = refl
@@ -267,6 +135,23 @@ module _ (d : Read.Seen) (l : count funcs (d .items) ≤ 256) where
   field-funcs (elemR i m xs) v = record { few = omega arith; more = omega arith }
   field-funcs (dataR i m x) v = record { few = omega arith; more = omega arith }
 
+-- a body that a field begins has no block open, and no operand is due
+begins : (f : FieldRec Identifier) (j : Inside) → fieldBody f ≡ some j → j ≡ begun
+unfolding fieldBody sourceBody ownBody
+begins (itemR i es (own (ownFunc t ls))) j e = cc
+begins (itemR i es (own (ownTable t))) j e = let z : _≡_ {A = ℕ} 0 1 = cc in absurd (omega arith)
+begins (itemR i es (own (ownMem m))) j e = let z : _≡_ {A = ℕ} 0 1 = cc in absurd (omega arith)
+begins (itemR i es (own (ownGlobal t c))) j e = let z : _≡_ {A = ℕ} 0 1 = cc in absurd (omega arith)
+begins (itemR i es (imported n x)) j e = let z : _≡_ {A = ℕ} 0 1 = cc in absurd (omega arith)
+begins (itemR i es (tableOf w xs)) j e = let z : _≡_ {A = ℕ} 0 1 = cc in absurd (omega arith)
+begins (itemR i es (memOf w x)) j e = let z : _≡_ {A = ℕ} 0 1 = cc in absurd (omega arith)
+begins (typeR i t) j e = let z : _≡_ {A = ℕ} 0 1 = cc in absurd (omega arith)
+begins (importR n i x) j e = let z : _≡_ {A = ℕ} 0 1 = cc in absurd (omega arith)
+begins (exportR n k x) j e = let z : _≡_ {A = ℕ} 0 1 = cc in absurd (omega arith)
+begins (startR x) j e = let z : _≡_ {A = ℕ} 0 1 = cc in absurd (omega arith)
+begins (elemR i m xs) j e = let z : _≡_ {A = ℕ} 0 1 = cc in absurd (omega arith)
+begins (dataR i m x) j e = let z : _≡_ {A = ℕ} 0 1 = cc in absurd (omega arith)
+
 -- ## The join
 
 -- a cursor stands where the definition reads on, outside a body
@@ -285,10 +170,10 @@ record Onward (c : Cursor) (f : FieldRec Identifier) (s : Bytes) (next n : ℕ) 
   stands : Stands (cursorAfter c f s next) s later seen′ rest′
   fewer : later ≤ n
   whole : wholeField (fieldBody f) (c .rec + 1) s next ≡ true
-  body : bodyIn (fieldBody f) (c .rec + 1) s next ≡ bodyOf rest
+  body : bodyIn (fieldBody f) (c .rec + 1) s next ≡ bodyOf (c .rec + 1) rest
   fields : deinlineFrom (c .rec + 1) (brings f ++ seen .items) rest ≡ deinlineFrom (cursorAfter c f s next .rec) (seen′ .items) rest′
   passes : (named : Bool) (es : List ℕ) → pass n (c .rec + 1) (seenAfter seen (field f)) false named es s next
-      ≡ pass later (cursorAfter c f s next .rec) seen′ false (named || any namesData (bodyIn (fieldBody f) (c .rec + 1) s next)) (es ++ endOf (fieldBody f) (cursorAfter c f s next) (bodyIn (fieldBody f) (c .rec + 1) s next)) s (cursorAfter c f s next .at)
+      ≡ pass later (cursorAfter c f s next .rec) seen′ false (named || anyNames (bodyIn (fieldBody f) (c .rec + 1) s next)) (es ++ endOf (fieldBody f) (cursorAfter c f s next) (bodyIn (fieldBody f) (c .rec + 1) s next)) s (cursorAfter c f s next .at)
   more : count funcs (seen .items) + bodies (fieldBody f) ≤ count funcs (seen′ .items)
 
 module _ (c : Cursor) (f : FieldRec Identifier) (s : Bytes) (next n : ℕ) (seen : Read.Seen) (rest : List (Rec Identifier))
@@ -316,54 +201,57 @@ module _ (c : Cursor) (f : FieldRec Identifier) (s : Bytes) (next n : ℕ) (seen
             ap (λ z. pass n (c .rec + 1) (seenAfter seen (field f)) false named z s next) (sym (append-nil es))
             ∙ ap (λ z. pass n (c .rec + 1) (seenAfter seen (field f)) false z (es ++ []) s next) (or-none named)
             ∙ sym (ap (λ (z : Stop). pass n (z .rec) (seenAfter seen (field f)) false (named || false) (es ++ []) s (z .at)) q)
-            ∙ ap (λ z. pass n (cursorAfter c f s next .rec) (seenAfter seen (field f)) false (named || any namesData (bodyIn z (c .rec + 1) s next)) (es ++ endOf z (cursorAfter c f s next) (bodyIn z (c .rec + 1) s next)) s (cursorAfter c f s next .at)) (sym b);
+            ∙ ap (λ z. pass n (cursorAfter c f s next .rec) (seenAfter seen (field f)) false (named || anyNames (bodyIn z (c .rec + 1) s next)) (es ++ endOf z (cursorAfter c f s next) (bodyIn z (c .rec + 1) s next)) s (cursorAfter c f s next .at)) (sym b);
         more = k .more;
       }
 
-  onward-some : (j : Inside) → fieldBody f ≡ some j → After n (length (j .blocks)) (c .rec + 1) (seenAfter seen (field f)) s next rest → Onward c f s next n seen rest
+  -- the body of a field that has one
+  abbrev body : Stretch
+  body = bodyFrom 0 (c .rec + 1) s next
+
+  onward-some : fieldBody f ≡ some begun → After s (brings f ++ seen .items) (isStart f || seen .started) body n (c .rec + 1) (seenAfter seen (field f)) next rest → Onward c f s next n seen rest
   unfolding cursorAfter seenAfter bodyAfter itemsAfter startedAfter
-  onward-some j b a =
-      let m : 4096 - (c .rec + 1) ≡ n = omega arith in
-      let q : afterField (fieldBody f) (c .rec + 1) s next ≡ a .stop =
-      ap (λ z. afterField z (c .rec + 1) s next) b ∙ ap (λ z. afterBody z (length (j .blocks)) (c .rec + 1) s next) m ∙ a .stops in
+  onward-some b a =
+      let q : afterField (fieldBody f) (c .rec + 1) s next ≡ record { at = body .at; rec = body .rec } = ap (λ z. afterField z (c .rec + 1) s next) b in
       let w = counts-with seen (c .seen) f v in
-      let i = a .items in
+      let seen′ = outside s (brings f ++ seen .items) (isStart f || seen .started) in
       record {
         later = a .later;
-        seen′ = a .seen′;
+        seen′ = seen′;
         rest′ = a .rest;
         stands = record {
-          goes-on = ap (λ (z : Stop). records (a .later) (z .rec) (a .seen′) s (z .at)) q ∙ a .goes-on;
-          outside = a .outside;
-          counts = record { items = rw i (w .items); started = a .started ∙ w .started };
+          goes-on = ap (λ (z : Stop). records (a .later) (z .rec) seen′ s (z .at)) q ∙ a .goes-on;
+          outside = refl;
+          counts = record { items = w .items; started = w .started };
           sum = ap (λ (z : Stop). a .later + z .rec) q ∙ a .sum ∙ l;
-          funcs = rw i (k .few);
+          funcs = k .few;
         };
         fewer = omega (arith, a .fewer);
-        whole = ap (λ z. wholeField z (c .rec + 1) s next) b ∙ ap (λ z. wholeBody z (length (j .blocks)) s next) m ∙ a .whole;
-        body = ap (λ z. bodyIn z (c .rec + 1) s next) b ∙ ap (λ z. bodyFrom z (length (j .blocks)) s next) m ∙ a .body;
-        fields =
-            a .fields (brings f ++ seen .items)
-            ∙ sym (ap (λ (z : Stop). deinlineFrom (z .rec) (brings f ++ seen .items) (a .rest)) q)
-            ∙ ap (λ z. deinlineFrom (cursorAfter c f s next .rec) z (a .rest)) (sym i);
+        whole = ap (λ z. wholeField z (c .rec + 1) s next) b ∙ a .whole;
+        body = ap (λ z. bodyIn z (c .rec + 1) s next) b ∙ a .body;
+        fields = a .fields (brings f ++ seen .items) ∙ sym (ap (λ (z : Stop). deinlineFrom (z .rec) (brings f ++ seen .items) (a .rest)) q);
         passes = λ named es.
             a .passes false named es
-            ∙ sym (ap (λ (z : Stop). pass (a .later) (z .rec) (a .seen′) false (named || any namesData (bodyFrom n (length (j .blocks)) s next)) (es ++ (z .at ∷ endWord (z .rec) (anyUse (bodyFrom n (length (j .blocks)) s next)) ∷ [])) s (z .at)) q)
-            ∙ ap (λ i. pass (a .later) (cursorAfter c f s next .rec) (a .seen′) false (named || any namesData (bodyFrom i (length (j .blocks)) s next)) (es ++ endOf (some j) (cursorAfter c f s next) (bodyFrom i (length (j .blocks)) s next)) s (cursorAfter c f s next .at)) (sym m)
-            ∙ ap (λ z. pass (a .later) (cursorAfter c f s next .rec) (a .seen′) false (named || any namesData (bodyIn z (c .rec + 1) s next)) (es ++ endOf z (cursorAfter c f s next) (bodyIn z (c .rec + 1) s next)) s (cursorAfter c f s next .at)) (sym b);
-        more = rw i (k .more);
+            ∙ sym (ap (λ (z : Stop). pass (a .later) (z .rec) seen′ false (named || anyNames (body .body)) (es ++ (z .at ∷ endWord (z .rec) (anyUse (body .body)) ∷ [])) s (z .at)) q)
+            ∙ ap (λ z. pass (a .later) (cursorAfter c f s next .rec) seen′ false (named || anyNames (bodyIn z (c .rec + 1) s next)) (es ++ endOf z (cursorAfter c f s next) (bodyIn z (c .rec + 1) s next)) s (cursorAfter c f s next .at)) (sym b);
+        more = k .more;
       }
 
-  in-body : (j : Inside) → fieldBody f ≡ some j → After n (length (j .blocks)) (c .rec + 1) (seenAfter seen (field f)) s next rest
-  unfolding seenAfter bodyAfter
-  in-body j b = body-after n j (c .rec + 1) (seenAfter seen (field f)) s next rest b g
+  in-body : fieldBody f ≡ some begun → After s (brings f ++ seen .items) (isStart f || seen .started) body n (c .rec + 1) (seenAfter seen (field f)) next rest
+  unfolding seenAfter bodyAfter itemsAfter startedAfter
+  in-body b =
+      let i : seenAfter seen (field f) ≡ seenIn s (brings f ++ seen .items) (isStart f || seen .started) [] [] =
+      ap (λ z. record { items = brings f ++ seen .items; body = z; started = isStart f || seen .started }) b in
+      subst (λ z. After s (brings f ++ seen .items) (isStart f || seen .started) body n (c .rec + 1) z next rest) (sym i)
+      (body-after s (brings f ++ seen .items) (isStart f || seen .started) n [] n (c .rec + 1) next rest (omega arith) l
+      (ap (λ z. records n (c .rec + 1) z s next) (sym i) ∙ g))
 
   onward-is : Onward c f s next n seen rest
   onward-is = go (fieldBody f) refl
     where
       go : (b : Option Inside) → fieldBody f ≡ b → Onward c f s next n seen rest
       go none b = onward-none b
-      go (some j) b = onward-some j b (in-body j b)
+      go (some j) b = let e = b ∙ ap some (begins f j b) in onward-some e (in-body e)
 
 -- ## Data segments that are named
 
@@ -380,7 +268,7 @@ exports-name r k n (e ∷ es) fs = exports-name r k n es fs
 
 -- by the fields of one record, if by its body
 fields-name : (r : ℕ) (next : Space → ℕ) (f : FieldRec Identifier) (s : Bytes) (here : ℕ)
-    → dataNamed (map (λ x. (r, x)) (fieldsOf next f (bodyIn (fieldBody f) (r + 1) s here))) ≡ any namesData (bodyIn (fieldBody f) (r + 1) s here)
+    → dataNamed (map (λ x. (r, x)) (fieldsOf next f (bodyIn (fieldBody f) (r + 1) s here))) ≡ anyNames (bodyIn (fieldBody f) (r + 1) s here)
 unfolding fieldsOf sourceFields fieldBody sourceBody ownBody dataNamed any
 fields-name r next (typeR i t) s here = refl
 fields-name r next (importR n i d) s here = refl
@@ -433,7 +321,7 @@ visit-read c s seen f next v l h e =
     let d : fieldRec (roomOf (c .seen)) s (c .at) ≡ got f next = rw (← room-same v) e in
     rw (lt-leb _ _ l, lt-leb _ _ h, d)
 
-ends-long : (b : Option Inside) (c : Cursor) (xs : List (Syntax.Instr Identifier)) → length (endOf b c xs) ≡ 2 * bodies b
+ends-long : (b : Option Inside) (c : Cursor) (xs : Body Identifier) → length (endOf b c xs) ≡ 2 * bodies b
 ends-long none c xs = refl
 ends-long (some i) c xs = refl
 
@@ -469,8 +357,8 @@ joined-field : (m : ℕ) (c : Cursor) (s : Bytes) (n : ℕ) (seen : Read.Seen) (
     → Joined (suc m) c s (suc n) seen rs
 unfolding fieldsFrom endsFrom deinlineFrom fieldsHere endHere
 joined-field m c s n seen rs rest f next v k d p i o j =
-    let a : bodyIn (fieldBody f) (c .rec + 1) s next ≡ bodyOf rest = o .body in
-    let b : fieldsOf (countOf (c .seen)) f (bodyOf rest) ≡ fieldsOf (λ k. count k (seen .items)) f (bodyOf rest) = number-is seen (c .seen) f (bodyOf rest) v k in
+    let a : bodyIn (fieldBody f) (c .rec + 1) s next ≡ bodyOf (c .rec + 1) rest = o .body in
+    let b : fieldsOf (countOf (c .seen)) f (bodyOf (c .rec + 1) rest) ≡ fieldsOf (λ k. count k (seen .items)) f (bodyOf (c .rec + 1) rest) = number-is seen (c .seen) f (bodyOf (c .rec + 1) rest) v k in
     let g : fieldsFrom m (cursorAfter c f s next) s ≡ deinlineFrom (c .rec + 1) (brings f ++ seen .items) rest = j .fields ∙ sym (o .fields) in
     let x = endOf (fieldBody f) (cursorAfter c f s next) (bodyIn (fieldBody f) (c .rec + 1) s next) in
     let l = length-append x (endsFrom m (cursorAfter c f s next) s) in
@@ -485,7 +373,7 @@ joined-field m c s n seen rs rest f next v k d p i o j =
       names = λ named es.
           ap (λ (z : Passed). z .named) (p named es ∙ o .passes named es)
           ∙ j .names _ (es ++ x)
-          ∙ or-more named (any namesData (bodyIn (fieldBody f) (c .rec + 1) s next)) (dataNamed (fieldsFrom m (cursorAfter c f s next) s))
+          ∙ or-more named (anyNames (bodyIn (fieldBody f) (c .rec + 1) s next)) (dataNamed (fieldsFrom m (cursorAfter c f s next) s))
           ∙ ap (λ t. named || t) (ap (λ t. t || dataNamed (fieldsFrom m (cursorAfter c f s next) s)) (sym (fields-name (c .rec) (countOf (c .seen)) f s next)) ∙ sym (named-append _ (fieldsFrom m (cursorAfter c f s next) s)))
           ∙ rw d;
       few = rw d (omega (arith, l, e, j .few, o .more));

@@ -1,4 +1,4 @@
--- The stages of the passes, and the last of them: the fields, resolved.
+-- The last stage: the fields, resolved.
 use Prim.Native.Nat.{ℕ, _+_, _≤_}
 use mathlib.Core.Path.{_≡_, refl, sym, _∙_, ap}
 use mathlib.Core.List.{List}
@@ -27,18 +27,14 @@ use Rattle.kept.specs.declared.tally.Verdict.{Verdict}
 use Rattle.kept.specs.declared.tally.Verdict.the-variants as V′
 use Rattle.kept.specs.declared.tally.Checked.{Checked}
 use Rattle.resolve.proofs.Checking.{was-fine, fine-kept, was-not, not-long}
-use Rattle.sections.specs.Write.{Typed, Writable, allEntries, moduleItems}
+use Rattle.sections.specs.Write.{Writable, allEntries, moduleItems}
 use Rattle.sections.proofs.Items.{items-are}
-use Rattle.passes.specs.Passes.{Found, fromNames, Passes}
+use Rattle.passes.specs.Passes.{Found, Resolvable, fromNames, Passes}
 use Rattle.passes.specs.declared.Passed.{Passed}
 
 -- a stage that refuses
 pub refuses : (a : Answer Found) (count : ℕ) (s w : List ℕ) (p : Passed) (w′ b : List ℕ) (q : Refusal) → a ≡ refusedBy q → p .verdict ≡ V′.Refused q → length w′ ≡ length w → Passes a count s w p w′ b
 refuses a count s w p w′ b q e v l = record { says = rw v e; long = l }
-
--- a stage that leaves the rest to the next
-pub passes-on : (a b : Answer Found) (count : ℕ) (s w w₁ : List ℕ) (p : Passed) (w′ k : List ℕ) → a ≡ b → length w₁ ≡ length w → Passes b count s w₁ p w′ k → Passes a count s w p w′ k
-passes-on a b count s w w₁ p w′ k e l h = record { says = rw e (h .says); long = h .long ∙ l }
 
 -- ## The fields, resolved
 
@@ -59,17 +55,17 @@ module _ (s w : List ℕ) (count : ℕ) (r : Checked) (w₁ b₀ b₁ : List ℕ
     types = types-kept s w w₁ LOCALS k (omega arith)
 
     -- what the writer asks for
-    writable : length s ≤ BYTES → WORDS ≤ length w → Ahead s w begin → Recalled w (typesIn s w) (uses (fieldsIn s)) → Typed s w → Writable s w₁
-    writable a b c u y =
+    writable : Resolvable s w → Writable s w₁
+    writable a =
         let x = was-fine h (sym g ∙ e) in
         record {
           left = record {
-            stream = a;
-            room = rw (k .long) b;
-            ahead = ahead-kept s w w₁ begin (kept-less TYPES LOCALS (omega arith) k) c;
-            recalled = recalled-scope s w w₁ (uses (fieldsIn s)) k u;
+            stream = a .lent .stream;
+            room = rw (k .long) (a .lent .area);
+            ahead = ahead-kept s w w₁ begin (kept-less TYPES LOCALS (omega arith) k) (a .ahead);
+            recalled = recalled-scope s w w₁ (uses (fieldsIn s)) k (a .recalled);
           };
-          typed = record { all = rw types (y .all); size = rw (types, kept-word k SIZE (omega arith)) (y .size) };
+          typed = record { all = rw types (a .typed .all); size = rw (types, kept-word k SIZE (omega arith)) (a .typed .size) };
           fine = record { entries = x .entries; is = rw scope (x .is) };
         }
 
@@ -82,11 +78,11 @@ module _ (s w : List ℕ) (count : ℕ) (r : Checked) (w₁ b₀ b₁ : List ℕ
     unfolding fromNames _>>=_
     found y = rw (← scope, items-are s w₁ (y .fine)) refl
 
-    pub resolve-done : (t : Tally) → t ≡ r .tally → length s ≤ BYTES → WORDS ≤ length w → Ahead s w begin → Recalled w (typesIn s w) (uses (fieldsIn s)) → Typed s w
+    pub resolve-done : (t : Tally) → t ≡ r .tally → Resolvable s w
         → Passes (fromNames (fieldsIn s) (scopeIn s w)) count s w (record { count = count; tally = t; verdict = V′.Fine }) w₁ b₁
-    resolve-done t i a b c u y =
+    resolve-done t i a =
         let x = was-fine h (sym g ∙ e) in
-        let z = writable a b c u y in
+        let z = writable a in
         record {
           says = record {
             found = found z;

@@ -5,17 +5,10 @@ use stream::Count;
 use survey::Surveyed;
 use syntax::Refusal;
 ghost use mathlib.Core.Path.{_≡_};
-ghost use Prim.Native.Nat.{_≤_};
-ghost use lib.ListN.{length, getD};
-ghost use Rattle.area.specs.Layout.{DECLARED, TYPES};
-ghost use Rattle.area.specs.Lent.{Lent};
 ghost use Rattle.area.specs.Flags.{strictIn};
-ghost use Rattle.definition.specs.Types as Types;
-ghost use Rattle.type_table.specs.Table.{typeTable, typesIn, Indexed, Recalled};
-ghost use Rattle.walk.specs.Walk.{Ahead, begin, fieldsIn};
+ghost use Rattle.walk.specs.Walk.{fieldsIn};
 ghost use Rattle.scope.specs.Scope.{scopeIn};
-ghost use Rattle.sections.specs.Write.{Typed};
-ghost use Rattle.passes.specs.Passes.{Passes, Prepares, fromNames, fromFields};
+ghost use Rattle.passes.specs.Passes.{Begins, Walkable, Interns, Resolvable, Passes, Prepares, fromNames, fromFields};
 
 // What the passes leave for a writer, beside the kept bytes: how many records there are and how large the sections are; or their refusal.
 pub struct Passed {
@@ -38,9 +31,31 @@ fn refuse(q: Refusal) -> Passed
     }
 }
 
+// The records; and whether the call is strict.
+fn read(s: &[u8], work: &mut [u32], strict: bool) -> Count
+    ensures { λ r. ⌜ Begins strict (now (s .entry)) (now (work .entry)) r (now (work .exit)) ⌝ }
+{
+    match stream::read_all(s, work) {
+        Count::Records(count) => {
+            area::put_flag(work, area::STRICT, strict);
+            Count::Records(count)
+        }
+        Count::Refused(q) => Count::Refused(q),
+    }
+}
+
+// The declared types; then the order of imports, the types of uses and the names, in one walk.
+fn intern(s: &[u8], work: &mut [u32]) -> Surveyed
+    requires { ⌜ Walkable (now s) (now work) ⌝ }
+    ensures { λ r. ⌜ Interns (now (s .entry)) (now (work .entry)) r (now (work .exit)) ⌝ }
+{
+    let declared = interning::declare_all(s, work);
+    survey::survey_all(s, work, declared)
+}
+
 // The fields, resolved in order.
 fn resolve(s: &[u8], work: &mut [u32], kept: &mut [u8], count: u32) -> Passed
-    requires { ⌜ Lent (now s) (now work) × Ahead (now s) (now work) begin × Recalled (now work) (typesIn (now s) (now work)) (Types.uses (fieldsIn (now s))) × Typed (now s) (now work) ⌝ }
+    requires { ⌜ Resolvable (now s) (now work) ⌝ }
     ensures { λ r. ⌜ Passes (fromNames (fieldsIn (now (s .entry))) (scopeIn (now (s .entry)) (now (work .entry)))) count (now (s .entry)) (now (work .entry)) r (now (work .exit)) (now (kept .exit)) ⌝ }
 {
     let r = resolve::check_fields(s, work, kept);
@@ -56,41 +71,23 @@ fn resolve(s: &[u8], work: &mut [u32], kept: &mut [u8], count: u32) -> Passed
     }
 }
 
-// The order of imports, the types of uses and the names, in one walk; then the fields.
-fn intern(s: &[u8], work: &mut [u32], kept: &mut [u8], count: u32, declared: u32) -> Passed
-    requires { ⌜ Lent (now s) (now work) × Indexed (now s) (now work) declared × Ahead (now s) (now work) begin × (typeTable declared (now s) (now work) TYPES ≡ Types.declared (fieldsIn (now s))) ⌝ }
+// The passes over fields, one after the other.
+fn find(s: &[u8], work: &mut [u32], kept: &mut [u8], count: u32) -> Passed
+    requires { ⌜ Walkable (now s) (now work) ⌝ }
     ensures { λ r. ⌜ Passes (fromFields (strictIn (now (work .entry))) (fieldsIn (now (s .entry)))) count (now (s .entry)) (now (work .entry)) r (now (work .exit)) (now (kept .exit)) ⌝ }
 {
-    match survey::survey_all(s, work, declared) {
+    match intern(s, work) {
         Surveyed::Done => resolve(s, work, kept, count),
         Surveyed::Refused(q) => refuse(q),
     }
 }
 
-// The declared types; then what uses and names there are.
-fn declare(s: &[u8], work: &mut [u32], kept: &mut [u8], count: u32) -> Passed
-    requires { ⌜ Lent (now s) (now work) × Ahead (now s) (now work) begin × (getD (now work) DECLARED 0 ≡ length (Types.declared (fieldsIn (now s)))) ⌝ }
-    ensures { λ r. ⌜ Passes (fromFields (strictIn (now (work .entry))) (fieldsIn (now (s .entry)))) count (now (s .entry)) (now (work .entry)) r (now (work .exit)) (now (kept .exit)) ⌝ }
-{
-    let declared = interning::declare_all(s, work);
-    intern(s, work, kept, count, declared)
-}
-
-// Whether the call is strict; then the declared types.
-fn with_strictness(s: &[u8], work: &mut [u32], kept: &mut [u8], count: u32, strict: bool) -> Passed
-    requires { ⌜ Lent (now s) (now work) × Ahead (now s) (now work) begin × (getD (now work) DECLARED 0 ≡ length (Types.declared (fieldsIn (now s)))) ⌝ }
-    ensures { λ r. ⌜ Passes (fromFields strict (fieldsIn (now (s .entry)))) count (now (s .entry)) (now (work .entry)) r (now (work .exit)) (now (kept .exit)) ⌝ }
-{
-    area::put_flag(work, area::STRICT, strict);
-    declare(s, work, kept, count)
-}
-
-// The records; then, in a strict call or a plain one, the passes over their fields.
+// All passes: the records, and then their fields.
 pub fn prepare(s: &[u8], work: &mut [u32], kept: &mut [u8], strict: bool) -> Passed
     ensures { λ r. ⌜ Prepares strict (now (s .entry)) (now (work .entry)) r (now (work .exit)) (now (kept .exit)) ⌝ }
 {
-    match stream::read_all(s, work) {
-        Count::Records(count) => with_strictness(s, work, kept, count, strict),
+    match read(s, work, strict) {
+        Count::Records(count) => find(s, work, kept, count),
         Count::Refused(q) => refuse(q),
     }
 }

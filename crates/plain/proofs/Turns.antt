@@ -38,7 +38,7 @@ module _ (e : Emitted) (p : Place) where
 module _ (s w : List ℕ) (ls : Namespace Identifier) (k rec : ℕ) (m : Step (Rec Identifier)) (old : List ℕ) (at : ℕ) where
   pub turned-fault : (n : ℕ) → m ≡ fault n → Turned s w ls k rec m old at T.Done w old
   unfolding Turned
-  turned-fault n d = record { none = λ more. rw d refl; area = refl; bytes = refl }
+  turned-fault n d = record { none = λ x next e. let z : _≡_ {A = ℕ} 0 1 = cc in omega arith; area = refl; bytes = refl }
 
   pub turned-refused : (x : Syntax.Instr Identifier) (next : ℕ) (q : Refusal) (new : List ℕ) → m ≡ got (instr x) next
       → instrOp (scopeIn s w) ls (labelsIn s w k) rec x ≡ refusedBy q → Turned s w ls k rec m old at (T.Refused q) w new

@@ -19,7 +19,6 @@ use Rattle.syntax.specs.declared.Refusal.{Refusal}
 use Rattle.emit.specs.Put.{Put}
 use Rattle.area.specs.Layout.{LABELS}
 use Rattle.area.specs.Kept.{Kept}
-use Rattle.instr.specs.Bodies.{onBody}
 use Rattle.scope.specs.Scope.{scopeIn, labelsIn}
 use Rattle.binary.specs.declared.Emitted.{Emitted}
 use Rattle.binary.specs.declared.Emitted.the-variants as E
@@ -86,7 +85,7 @@ pub record Stepped (s w : List ℕ) (locals : Namespace Identifier) (k rec : ℕ
 
 -- no instruction is here
 pub record Ended (m : Step (Rec Identifier)) (w old w′ new : List ℕ) : Type 0 where
-  pub none : (more : Syntax.Instr Identifier → ℕ → List (Syntax.Instr Identifier)) → onBody m more (λ next. []) [] ≡ []
+  pub none : (x : Syntax.Instr Identifier) (next : ℕ) → m ≡ got (instr x) next → ⊥
   pub area : w′ ≡ w
   pub bytes : new ≡ old
 

@@ -7,3 +7,4 @@ pub mod Types
 pub mod InRange
 pub mod Shutouts
 pub mod Strict
+pub mod Unfolding

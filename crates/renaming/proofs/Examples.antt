@@ -13,6 +13,7 @@ use Rattle.definition.specs.Instructions
 use Rattle.definition.specs.Records
 use Rattle.definition.specs.Read
 use Rattle.definition.specs.Spaces
+use Rattle.definition.specs.Folded
 use Rattle.definition.specs.Deinline
 use Rattle.definition.specs.Types
 use Rattle.definition.specs.Names
@@ -34,12 +35,14 @@ unfolding
     Token.needed Token.groups Token.u32 Token.upTo Token.counted Token.idchar Token.idByte Token.identifier Token.identifier₁ Token.stringByte Token.string
     Token.isVal Token.valType Token.namedIndex Token.present Token.optional Token.param Token.typeUse
     Instructions.opcodes Instructions.formIn Instructions.formOf Instructions.plainOf Instructions.instruction
-    Instructions.isOpen Instructions.mayElse Instructions.admits Instructions.opened Instructions.elsed Instructions.openAfter Instructions.insideAfter Instructions.bodyRec
+    Instructions.isOpen Instructions.mayElse Instructions.admits Instructions.opened Instructions.elsed Instructions.openAfter Instructions.insideAfter
+    Instructions.unfoldedRec Instructions.isDue Instructions.bodyRec
     Records.importName Records.funcExtern Records.importOf Records.importRec Records.itemRec Records.ownFuncForm Records.funcRec Records.typeRec
     Records.fieldRecs Records.fieldRec
     Read.nothingSeen Read.room Read.ownBody Read.sourceBody Read.fieldBody Read.bodyAfter Read.itemsAfter Read.startedAfter Read.seenAfter Read.oneRecord Read.records Read.read
     Spaces.externSpace Spaces.ownSpace Spaces.sourceSpace Spaces.segments Spaces.brings Spaces.count
-    Deinline.sourceFields Deinline.fieldsOf Deinline.bodyOf Deinline.deinlineFrom Deinline.deinline Deinline.importsFrom Deinline.importOrder
+    Folded.flatten Folded.bodyOf
+    Deinline.sourceFields Deinline.fieldsOf Deinline.deinlineFrom Deinline.deinline Deinline.importsFrom Deinline.importOrder
     Types.signature Types.sameType Types.typeAt Types.typeNumber Types.isInline Types.isShort Types.useOf Types.instrUses Types.bodyUses
     Types.externUses Types.ownUses Types.fieldUses Types.uses Types.declaredBy Types.declared Types.intern Types.allTypes
     Names.find Names.taken Names.distinct Names.space Names.definers Names.holder Names.itemOf Names.register Names.below Names.numberIn Names.isAbsent Names.paramNames Names.localsOf

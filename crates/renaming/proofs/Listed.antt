@@ -7,7 +7,7 @@ use Rattle.definition.specs.Basic.{concatMap}
 use Rattle.definition.specs.Syntax.{Space, funcs, tables, mems, types, ExternType, func, table, mem, global, Mode, passive, active}
 use Rattle.definition.specs.Syntax.{Index, absent, number, named, ownIndex, Local, TypeUse, Own, ownFunc, ownTable, ownMem, ownGlobal}
 use Rattle.definition.specs.Syntax.{Operand, nothing, label, labels, local, item, items, access, int32, int64, raw, Plain, Instr, opens, elses, ends, indirect, plain}
-use Rattle.definition.specs.Syntax.{Source, own, imported, tableOf, memOf, FieldRec, typeR, importR, itemR, exportR, startR, elemR, dataR, Rec, field, instr, bodyEnd}
+use Rattle.definition.specs.Syntax.{Source, own, imported, tableOf, memOf, FieldRec, typeR, importR, itemR, exportR, startR, elemR, dataR, Rec, field, instr, folded, bodyEnd}
 use Rattle.renaming.specs.Shape.{mapId, mapIndex, mapPair, mapLocal, mapTypeUse, mapOperand, mapInstr, mapExtern, mapOwn, mapSource, mapMode, mapFieldRec, mapRec}
 use Rattle.renaming.specs.Kinds.{Kind, inSpace, localOf, labelOf, Names, idNames, indexNames, indicesNames, itemsNames, localNames, typeNames, operandNames, instrNames, externNames, ownNames, sourceNames, modeNames, fieldNames, namesFrom, names}
 use Rattle.renaming.proofs.Maps.{externSpace-map, sourceSpace-map}
@@ -109,6 +109,7 @@ module _ {I J : Type 0} (f : I → J) where
   namesFrom-map q r [] = refl
   namesFrom-map q r (field x ∷ rs) = rw (fieldNames-map r x, namesFrom-map r (r + 1) rs, map-append)
   namesFrom-map q r (instr x ∷ rs) = rw (instrNames-map q x, namesFrom-map q (r + 1) rs, map-append)
+  namesFrom-map q r (folded x n ∷ rs) = rw (instrNames-map q x, namesFrom-map q (r + 1) rs, map-append)
   namesFrom-map q r (bodyEnd ∷ rs) = namesFrom-map q (r + 1) rs
 
   pub names-map : (rs : List (Rec I)) → names (map (mapRec f) rs) ≡ mapNames (names rs)

@@ -1,17 +1,19 @@
 -- What no identifier can change: de-inlining, import order and types commute with `mapRec f`, or do not see it at all.
 use mathlib.Core.Path.{_≡_, refl, ap}
-use Prim.Native.Nat.{ℕ, zero, suc, _+_}
+use Prim.Native.Nat.{ℕ, zero, suc, _+_, _-_}
 use mathlib.Core.Bool.{Bool, true, false}
 use mathlib.Core.List.{List, [], _∷_, _++_, map, map-append, map-map, tail}
 use mathlib.Core.Option.{Option, none, some}
+use lib.Dec.{leb}
 use lib.ListN.{length-map, replicate}
 use Rattle.definition.specs.Basic.{if_then_else_, at}
 use Rattle.definition.specs.Syntax.{Bytes, Space, sameSpace, FuncType, ExternType, func, table, mem, global, TypeNo, Index, absent, number, ownIndex, named, Local, TypeUse}
 use Rattle.definition.specs.Syntax.{Instr, opens, elses, ends, indirect, plain, Own, ownFunc, ownTable, ownMem, ownGlobal, Source, own, imported, tableOf, memOf}
-use Rattle.definition.specs.Syntax.{FieldRec, typeR, importR, itemR, exportR, startR, elemR, dataR, Rec, field, instr, bodyEnd}
-use Rattle.definition.specs.Syntax.{Field, typeF, importF, ownF, exportF, startF, elemF, dataF}
+use Rattle.definition.specs.Syntax.{FieldRec, typeR, importR, itemR, exportR, startR, elemR, dataR, Rec, field, instr, folded, bodyEnd}
+use Rattle.definition.specs.Syntax.{Body, Field, typeF, importF, ownF, exportF, startF, elemF, dataF}
 use Rattle.definition.specs.Spaces.{externSpace, ownSpace, sourceSpace, segments, brings, count}
-use Rattle.definition.specs.Deinline.{zeroOffset, sourceFields, fieldsOf, bodyOf, Numbered, deinlineFrom, importsFrom}
+use Rattle.definition.specs.Folded.{Waiting, follow, still, flatten, bodyOf}
+use Rattle.definition.specs.Deinline.{zeroOffset, sourceFields, fieldsOf, Numbered, deinlineFrom, importsFrom}
 use Rattle.definition.specs.Types.{signature, isInline, isShort, unlessIndexed, useOf, instrUses, bodyUses, externUses, ownUses, fieldUses, uses, declaredBy, declared, allTypes}
 use Rattle.definition.specs.Names.{Namespace, Items, space, definers, itemOf, isAbsent, paramCount, paramNames, localsOf, blocksAfter}
 use Rattle.renaming.specs.Shape.{mapId, mapIndex, mapLocal, mapTypeUse, mapPlain, mapInstr, mapExtern, mapOwn, mapSource, mapMode, mapFieldRec, mapRec}
@@ -19,10 +21,13 @@ use Rattle.renaming.specs.Shape.{mapId, mapIndex, mapLocal, mapTypeUse, 
 -- ## The map on fields, namespaces and items
 
 module _ {I J : Type 0} (f : I → J) where
+  abbrev pub mapBody : Body I → Body J
+  mapBody = map (λ x. (x .0, mapInstr f (x .1)))
+
   abbrev pub mapField : Field I → Field J
   mapField (typeF i t) = typeF (mapId f i) t
   mapField (importF n i d) = importF n (mapId f i) (mapExtern f d)
-  mapField (ownF i o b) = ownF (mapId f i) (mapOwn f o) (map (mapInstr f) b)
+  mapField (ownF i o b) = ownF (mapId f i) (mapOwn f o) (mapBody b)
   mapField (exportF n k x) = exportF n k (mapIndex f x)
   mapField (startF x) = startF (mapIndex f x)
   mapField (elemF i m xs) = elemF (mapId f i) (mapMode f m) (map (mapIndex f) xs)
@@ -90,10 +95,10 @@ module _ {I J : Type 0} (f : I → J) where
   instrUses-map (indirect x t) = useOf-map t
   instrUses-map (plain p) = refl
 
-  bodyUses-map : (r : ℕ) (xs : List (Instr I)) → bodyUses r (map (mapInstr f) xs) ≡ bodyUses r xs
+  bodyUses-map : (xs : Body I) → bodyUses (mapBody xs) ≡ bodyUses xs
   unfolding bodyUses
-  bodyUses-map r [] = refl
-  bodyUses-map r (x ∷ xs) = rw (instrUses-map x, bodyUses-map (r + 1) xs)
+  bodyUses-map [] = refl
+  bodyUses-map ((r, x) ∷ xs) = rw (instrUses-map x, bodyUses-map xs)
 
   externUses-map : (d : ExternType (TypeUse I)) → externUses (mapExtern f d) ≡ externUses d
   unfolding externUses
@@ -113,7 +118,7 @@ module _ {I J : Type 0} (f : I → J) where
   unfolding fieldUses
   fieldUses-map r (typeF i t) = refl
   fieldUses-map r (importF n i d) = rw (externUses-map d)
-  fieldUses-map r (ownF i o b) = rw (ownUses-map o, bodyUses-map (r + 1) b)
+  fieldUses-map r (ownF i o b) = rw (ownUses-map o, bodyUses-map b)
   fieldUses-map r (exportF n k x) = refl
   fieldUses-map r (startF x) = refl
   fieldUses-map r (elemF i m xs) = refl
@@ -262,8 +267,8 @@ module _ {I J : Type 0} (f : I → J) where
   zeroOffset-map true = refl
   zeroOffset-map false = refl
 
-  sourceFields-map : (i : Option I) (n : ℕ) (x : Source I) (b : List (Instr I))
-      → sourceFields (mapId f i) n (mapSource f x) (map (mapInstr f) b) ≡ map mapField (sourceFields i n x b)
+  sourceFields-map : (i : Option I) (n : ℕ) (x : Source I) (b : Body I)
+      → sourceFields (mapId f i) n (mapSource f x) (mapBody b) ≡ map mapField (sourceFields i n x b)
   unfolding sourceFields
   sourceFields-map i n (own o) b = refl
   sourceFields-map i n (imported m d) b = refl
@@ -273,8 +278,8 @@ module _ {I J : Type 0} (f : I → J) where
   exports-map : (k : Space) (n : ℕ) (es : List Bytes) → map (λ e. exportF e k (ownIndex n)) es ≡ map mapField (map (λ e. exportF e k (ownIndex n)) es)
   exports-map k n es = simp map-map
 
-  fieldsOf-map : (next : Space → ℕ) (x : FieldRec I) (b : List (Instr I))
-      → fieldsOf next (mapFieldRec f x) (map (mapInstr f) b) ≡ map mapField (fieldsOf next x b)
+  fieldsOf-map : (next : Space → ℕ) (x : FieldRec I) (b : Body I)
+      → fieldsOf next (mapFieldRec f x) (mapBody b) ≡ map mapField (fieldsOf next x b)
   unfolding fieldsOf
   fieldsOf-map next (typeR i t) b = refl
   fieldsOf-map next (importR n i d) b = refl
@@ -287,12 +292,41 @@ module _ {I J : Type 0} (f : I → J) where
   fieldsOf-map next (elemR i m xs) b = refl
   fieldsOf-map next (dataR i m d) b = refl
 
-  bodyOf-map : (rs : List (Rec I)) → bodyOf (map (mapRec f) rs) ≡ map (mapInstr f) (bodyOf rs)
+  abbrev mapWaiting : Waiting I → Waiting J
+  mapWaiting = map (λ x. (x .0, x .1, mapInstr f (x .2)))
+
+  follow-map : (ws : Waiting I) → follow (mapWaiting ws) ≡ mapBody (follow ws)
+  unfolding follow
+  follow-map [] = refl
+  follow-map ((n, r, x) ∷ ws) = go (leb n 1) (follow-map ws)
+    where
+      go : (t : Bool) → follow (mapWaiting ws) ≡ mapBody (follow ws)
+          → (if t then (r, mapInstr f x) ∷ follow (mapWaiting ws) else []) ≡ mapBody (if t then (r, x) ∷ follow ws else [])
+      go true e = rw e
+      go false e = refl
+
+  still-map : (ws : Waiting I) → still (mapWaiting ws) ≡ mapWaiting (still ws)
+  unfolding still
+  still-map [] = refl
+  still-map ((n, r, x) ∷ ws) = go (leb n 1) (still-map ws)
+    where
+      go : (t : Bool) → still (mapWaiting ws) ≡ mapWaiting (still ws)
+          → (if t then still (mapWaiting ws) else (n - 1, r, mapInstr f x) ∷ mapWaiting ws) ≡ mapWaiting (if t then still ws else (n - 1, r, x) ∷ ws)
+      go true e = e
+      go false e = refl
+
+  flatten-map : (r : ℕ) (ws : Waiting I) (rs : List (Rec I)) → flatten r (mapWaiting ws) (map (mapRec f) rs) ≡ mapBody (flatten r ws rs)
+  unfolding flatten
+  flatten-map r ws [] = refl
+  flatten-map r ws (field x ∷ rs) = refl
+  flatten-map r ws (instr x ∷ rs) = ap (λ xs. (r, mapInstr f x) ∷ xs) (flatten-map (r + 1) ws rs)
+  flatten-map r ws (folded x zero ∷ rs) = rw (follow-map ws, still-map ws, flatten-map (r + 1) (still ws) rs, map-append)
+  flatten-map r ws (folded x (suc n) ∷ rs) = flatten-map (r + 1) ((suc n, r, x) ∷ ws) rs
+  flatten-map r ws (bodyEnd ∷ rs) = refl
+
+  bodyOf-map : (r : ℕ) (rs : List (Rec I)) → bodyOf r (map (mapRec f) rs) ≡ mapBody (bodyOf r rs)
   unfolding bodyOf
-  bodyOf-map [] = refl
-  bodyOf-map (field x ∷ rs) = refl
-  bodyOf-map (instr x ∷ rs) = ap (λ xs. mapInstr f x ∷ xs) (bodyOf-map rs)
-  bodyOf-map (bodyEnd ∷ rs) = refl
+  bodyOf-map r rs = flatten-map r [] rs
 
   at-record-map : (r : ℕ) (fs : List (Field I)) → map (λ x. (r, x)) (map mapField fs) ≡ mapNumbered (map (λ x. (r, x)) fs)
   at-record-map r fs = simp map-map
@@ -302,7 +336,8 @@ module _ {I J : Type 0} (f : I → J) where
   unfolding deinlineFrom
   deinlineFrom-map r seen [] = refl
   deinlineFrom-map r seen (field x ∷ rs) =
-      let fs = fieldsOf (λ k. count k seen) x (bodyOf rs) in
-      rw (bodyOf-map rs, fieldsOf-map (λ k. count k seen) x (bodyOf rs), brings-map x, at-record-map r fs, deinlineFrom-map (r + 1) (brings x ++ seen) rs, map-append)
+      let fs = fieldsOf (λ k. count k seen) x (bodyOf (r + 1) rs) in
+      rw (bodyOf-map (r + 1) rs, fieldsOf-map (λ k. count k seen) x (bodyOf (r + 1) rs), brings-map x, at-record-map r fs, deinlineFrom-map (r + 1) (brings x ++ seen) rs, map-append)
   deinlineFrom-map r seen (instr x ∷ rs) = deinlineFrom-map (r + 1) seen rs
+  deinlineFrom-map r seen (folded x n ∷ rs) = deinlineFrom-map (r + 1) seen rs
   deinlineFrom-map r seen (bodyEnd ∷ rs) = deinlineFrom-map (r + 1) seen rs

@@ -9,7 +9,7 @@ use native.Mathlib.Nat.{add-zero, zero-add, add-suc, suc-add}
 use Rattle.definition.specs.Syntax.{Space, ExternType, func, table, mem, global, Mode, passive, active, Index, absent, number, named, ownIndex, Local, TypeUse}
 use Rattle.definition.specs.Syntax.{Operand, nothing, label, labels, local, item, items, access, int32, int64, raw, Plain, Instr, opens, elses, ends, indirect, plain}
 use Rattle.definition.specs.Syntax.{Own, ownFunc, ownTable, ownMem, ownGlobal, Source, own, imported, tableOf, memOf}
-use Rattle.definition.specs.Syntax.{FieldRec, typeR, importR, itemR, exportR, startR, elemR, dataR, Rec, field, instr, bodyEnd}
+use Rattle.definition.specs.Syntax.{FieldRec, typeR, importR, itemR, exportR, startR, elemR, dataR, Rec, field, instr, folded, bodyEnd}
 use Rattle.renaming.specs.Shape.{mapId, mapIndex, mapPair, mapLocal, mapTypeUse, mapOperand, mapPlain, mapInstr, mapExtern, mapOwn, mapSource, mapMode, mapFieldRec, mapRec, shape}
 
 -- ## Numbering
@@ -116,6 +116,7 @@ numberField (dataR i m d) = two-of (λ i m. dataR i m d) (numberId i) (numberMod
 abbrev numberRec : Rec U → Count (Rec ℕ)
 numberRec (field x) = one-of field (numberField x)
 numberRec (instr x) = one-of instr (numberInstr x)
+numberRec (folded x n) = one-of (λ y. folded y n) (numberInstr x)
 numberRec bodyEnd = zero-of bodyEnd
 
 -- the places of some records, numbered from 0
@@ -244,6 +245,7 @@ module _ {I : Type 0} where
   back-rec : (x : Rec I) → Back (numberRec (mapRec (λ _. tt) x)) mapRec x
   back-rec (field x) = back-one field field (λ f a. refl) (back-field x)
   back-rec (instr x) = back-one instr instr (λ f a. refl) (back-instr x)
+  back-rec (folded x n) = back-one (λ y. folded y n) (λ y. folded y n) (λ f a. refl) (back-instr x)
   back-rec bodyEnd = back-zero (λ f. refl)
 
   back-recs : (rs : List (Rec I)) → Back (list-of numberRec (map (mapRec (λ _. tt)) rs)) (λ f. map (mapRec f)) rs

@@ -10,7 +10,7 @@ use Rattle.definition.specs.Basic.{if_then_else_, Answer, _>>=_, each, firstAt,
 use Rattle.definition.specs.Syntax.{Space, funcs, tables, mems, types, FuncType, ExternType, func, table, mem, global, Mode, passive, active}
 use Rattle.definition.specs.Syntax.{Index, absent, number, named, ownIndex, Local, TypeUse, TypeNo, Own, ownFunc, ownTable, ownMem, ownGlobal}
 use Rattle.definition.specs.Syntax.{Operand, nothing, label, labels, local, item, items, access, int32, int64, raw, Plain, Instr, opens, elses, ends, indirect, plain}
-use Rattle.definition.specs.Syntax.{Field, typeF, importF, ownF, exportF, startF, elemF, dataF}
+use Rattle.definition.specs.Syntax.{Body, Field, typeF, importF, ownF, exportF, startF, elemF, dataF}
 use Rattle.definition.specs.Types.{isInline, signature}
 use Rattle.definition.specs.Names.{Namespace, Items, Scope, carries, find, taken, distinct, space, definers, definedAt, holder, foundAt, numberIn, countIn, paramCount, paramNames, localsOf, blocksAfter}
 use Rattle.definition.specs.Names.{itemNo, checked, typeNoOf, typeNo, blockType, localNo, depthOf, immediate, plainOp, constOp, closes, instrOp, body}
@@ -18,7 +18,7 @@ use Rattle.definition.specs.Names.{distinctLocals, ownItem, externNo, tableNo, 
 use Rattle.renaming.specs.Shape.{mapId, mapIndex, mapPair, mapTypeUse, mapOperand, mapPlain, mapInstr, mapExtern, mapOwn, mapMode}
 use Rattle.renaming.specs.Kinds.{Kind, inSpace, localOf, labelOf, Names, idNames, indexNames, indicesNames, itemsNames, localNames, typeNames, operandNames, instrNames, externNames, ownNames, modeNames}
 use Rattle.renaming.proofs.Every.{Every, parts, only, nothing-said, All, all-append}
-use Rattle.renaming.proofs.Maps.{mapField, mapAll, mapItems, types-map, signature-map, isInline-map, isShort-map, isAbsent-map, space-map, localsOf-map, blocksAfter-map}
+use Rattle.renaming.proofs.Maps.{mapBody, mapField, mapAll, mapItems, types-map, signature-map, isInline-map, isShort-map, isAbsent-map, space-map, localsOf-map, blocksAfter-map}
 
 -- two sequences are equal if both their halves are
 pub bind-same : {A B : Type 0} {m n : Answer A} {k l : A → Answer B} → m ≡ n → ((a : A) → k a ≡ l a) → (m >>= k) ≡ (n >>= l)
@@ -26,8 +26,8 @@ bind-same e h = λ i. e i >>= λ a. h a i
 
 -- the names of a function's body, and those that a field at record r uses
 module _ {P : Type 0} where
-  unfoldable pub bodyNames : ℕ → List (Instr P) → Names P
-  bodyNames r xs = concatMap (instrNames r) xs
+  unfoldable pub bodyNames : ℕ → Body P → Names P
+  bodyNames r xs = concatMap (λ x. instrNames r (x .1)) xs
 
   unfoldable pub usedNames : ℕ → Field P → Names P
   usedNames r (typeF i t) = []
@@ -216,14 +216,14 @@ module _ {P I : Type 0} (eq : I → I → Bool) (f g : P → I) (M : Kind → P 
           bind-same (itemNo-same tables r x (search parts)) λ n. bind-same (typeNo-same r t (search parts)) λ y. refl
       instrOp-same blocks w r (plain p) h = plainOp-same blocks w r p h
 
-      body-same : (blocks : Namespace P) → All M (labelOf q) blocks → (r : ℕ) (xs : List (Instr P)) → Every M (bodyNames q xs)
-          → body Γ₁ (mapAll f locals) (mapAll f blocks) r (map (mapInstr f) xs) ≡ body Γ₂ (mapAll g locals) (mapAll g blocks) r (map (mapInstr g) xs)
+      body-same : (blocks : Namespace P) → All M (labelOf q) blocks → (xs : Body P) → Every M (bodyNames q xs)
+          → body Γ₁ (mapAll f locals) (mapAll f blocks) (mapBody f xs) ≡ body Γ₂ (mapAll g locals) (mapAll g blocks) (mapBody g xs)
       unfolding body bodyNames concatMap
-      body-same blocks w r [] h = refl
-      body-same blocks w r (x ∷ xs) h =
+      body-same blocks w [] h = refl
+      body-same blocks w ((r, x) ∷ xs) h =
           rw (blocksAfter-map f blocks x, blocksAfter-map g blocks x)
           (bind-same (instrOp-same blocks w r x (search parts)) λ o.
-          bind-same (body-same (blocksAfter blocks x) (blocks-after M q blocks x w (search parts)) (r + 1) xs (search parts)) λ os. refl)
+          bind-same (body-same (blocksAfter blocks x) (blocks-after M q blocks x w (search parts)) xs (search parts)) λ os. refl)
 
     constOp-same : (q r : ℕ) (c : Plain P) → Every M (operandNames q (c .operand)) → constOp Γ₁ r (mapPlain f c) ≡ constOp Γ₂ r (mapPlain g c)
     unfolding constOp
@@ -235,8 +235,8 @@ module _ {P I : Type 0} (eq : I → I → Bool) (f g : P → I) (M : Kind → P 
     unfolding distinctLocals
     distinctLocals-same r k ns h = rw (distinct-same k [] ns tt h)
 
-    ownItem-same : (r : ℕ) (o : Own P) (b : List (Instr P)) → Every M (ownNames r o) → Every M (bodyNames r b)
-        → ownItem Γ₁ r (mapOwn f o) (map (mapInstr f) b) ≡ ownItem Γ₂ r (mapOwn g o) (map (mapInstr g) b)
+    ownItem-same : (r : ℕ) (o : Own P) (b : Body P) → Every M (ownNames r o) → Every M (bodyNames r b)
+        → ownItem Γ₁ r (mapOwn f o) (mapBody f b) ≡ ownItem Γ₂ r (mapOwn g o) (mapBody g b)
     unfolding ownItem
     ownItem-same r (ownFunc t ls) b h w =
         bind-same (typeNo-same r t (unfold ownNames in search parts)) λ n.
@@ -244,7 +244,7 @@ module _ {P I : Type 0} (eq : I → I → Bool) (f g : P → I) (M : Kind → P 
         let named-locals = locals-all M r ts n t ls h in
         rw (localsOf-map f ts n t ls, localsOf-map g ts n t ls, types-map f ls, types-map g ls)
         (bind-same (distinctLocals-same r (localOf r) locals named-locals) λ _.
-        bind-same (body-same r locals named-locals [] tt (r + 1) b w) λ os. refl)
+        bind-same (body-same r locals named-locals [] tt b w) λ os. refl)
     ownItem-same r (ownTable t) b h w = refl
     ownItem-same r (ownMem l) b h w = refl
     ownItem-same r (ownGlobal t c) b h w = bind-same (constOp-same r r c (unfold ownNames in h)) (λ o. refl)

@@ -7,7 +7,7 @@ use Rattle.definition.specs.Basic.{concatMap}
 use Rattle.definition.specs.Syntax.{Space, funcs, tables, mems, types, elems, datas, ExternType, func, table, mem, global, Mode, passive, active}
 use Rattle.definition.specs.Syntax.{Index, absent, number, named, ownIndex, Local, TypeUse, Own, ownFunc, ownTable, ownMem, ownGlobal}
 use Rattle.definition.specs.Syntax.{Operand, nothing, label, labels, local, item, items, access, int32, int64, raw, Plain, Instr, opens, elses, ends, indirect, plain}
-use Rattle.definition.specs.Syntax.{Source, own, imported, tableOf, memOf, FieldRec, typeR, importR, itemR, exportR, startR, elemR, dataR, Rec, field, instr, bodyEnd}
+use Rattle.definition.specs.Syntax.{Source, own, imported, tableOf, memOf, FieldRec, typeR, importR, itemR, exportR, startR, elemR, dataR, Rec, field, instr, folded, bodyEnd}
 use Rattle.definition.specs.Spaces.{externSpace, sourceSpace}
 
 -- an index space; the parameters and locals, or the labels, of the function at a record
@@ -98,6 +98,7 @@ module _ {I : Type 0} where
   namesFrom f r [] = []
   namesFrom f r (field x ∷ rs) = fieldNames r x ++ namesFrom r (r + 1) rs
   namesFrom f r (instr x ∷ rs) = instrNames f x ++ namesFrom f (r + 1) rs
+  namesFrom f r (folded x n ∷ rs) = instrNames f x ++ namesFrom f (r + 1) rs
   namesFrom f r (bodyEnd ∷ rs) = namesFrom f (r + 1) rs
 
   unfoldable pub names : List (Rec I) → Names I

@@ -4,7 +4,7 @@ use mathlib.Core.Option.{Option, none, some}
 use Rattle.definition.specs.Syntax.{Space, ExternType, func, table, mem, global, Mode, passive, active, Index, absent, number, named, ownIndex, Local, TypeUse}
 use Rattle.definition.specs.Syntax.{Operand, nothing, label, labels, local, item, items, access, int32, int64, raw, Plain, Instr, opens, elses, ends, indirect, plain}
 use Rattle.definition.specs.Syntax.{Own, ownFunc, ownTable, ownMem, ownGlobal, Source, own, imported, tableOf, memOf}
-use Rattle.definition.specs.Syntax.{FieldRec, typeR, importR, itemR, exportR, startR, elemR, dataR, Rec, field, instr, bodyEnd}
+use Rattle.definition.specs.Syntax.{FieldRec, typeR, importR, itemR, exportR, startR, elemR, dataR, Rec, field, instr, folded, bodyEnd}
 
 module _ {I J : Type 0} (f : I → J) where
   abbrev pub mapId : Option I → Option J
@@ -82,6 +82,7 @@ module _ {I J : Type 0} (f : I → J) where
   abbrev pub mapRec : Rec I → Rec J
   mapRec (field x) = field (mapFieldRec x)
   mapRec (instr x) = instr (mapInstr x)
+  mapRec (folded x n) = folded (mapInstr x) n
   mapRec bodyEnd = bodyEnd
 
 -- everything but which identifiers they are

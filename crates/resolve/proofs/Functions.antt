@@ -40,6 +40,7 @@ use Rattle.syntax.specs.declared.Source.{Source}
 use Rattle.syntax.specs.declared.Source.the-variants as S
 use Rattle.syntax.proofs.Source as SourceOf
 use Rattle.frames.specs.Locals.{Head}
+use Rattle.instr.specs.Bodies.{bodyFrom}
 use Rattle.code.specs.Body.{Resolvable}
 use Rattle.binary.specs.Code.{codeOf}
 use Rattle.instr.specs.Functions.{funcField}
@@ -87,7 +88,7 @@ number-kept n t t′ from a b to old new w f i d e p z = tallied-lent t t′ 3 a
 -- ## The code
 
 module _ (s w : List ℕ) (r : ℕ) (t : TypeUse) (ls : Code.List) (here : ℕ) (h : Ready s w r (E.Code t ls here)) where
-  pub own-body : Resolvable s w (r + 1) 0 here
+  pub own-body : Resolvable s w (bodyFrom 0 (r + 1) s here)
   own-body = code-body s w r (E.Code t ls here) h t ls here refl
 
   pub own-head : Head s t ls

@@ -1,3 +1,4 @@
 pub mod Model
+pub mod Folds
 pub mod Loop
 pub mod Exported

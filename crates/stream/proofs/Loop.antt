@@ -1,9 +1,10 @@
 -- The loop over all records: what it started from passes as what is left passes from here.
 use mathlib.Core.Path.{_≡_, refl, ap, sym, _∙_, subst}
 use Prim.Native.Nat.{ℕ, zero, suc, _+_, _-_, _*_, _≤_, _<_, _^_}
-use mathlib.Core.Bool.{Bool, true, false, _||_}
+use mathlib.Core.Bool.{Bool, true, false, _||_, not}
 use mathlib.Core.List.{List, [], _∷_, _++_, append-nil}
 use mathlib.Core.Option.{none, some}
+use lib.Dec.{eqb}
 use lib.ListN.{length, getD, set, take, length-set, length-append}
 use lib.Seq.{sets, take-all, take-append-le}
 use borrow.Author.Tests.{lt-ltb, le-ltb}
@@ -15,14 +16,16 @@ use mir.Val.{Fits}
 use Rattle.definition.specs.Basic as Basic
 use Rattle.definition.specs.Basic.{if_then_else_, Answer, ok, fails, refused}
 use Rattle.definition.specs.Syntax as Syntax
-use Rattle.definition.specs.Syntax.{Bytes, Identifier, Rec, field, instr, bodyEnd}
-use Rattle.definition.specs.Reader.{Step, got, fault}
-use Rattle.definition.specs.Instructions.{Blocks, opened, openAfter, insideAfter, bodyRec}
+use Rattle.definition.specs.Syntax.{Bytes, Identifier, Rec, field, instr, folded, bodyEnd}
+use Rattle.definition.specs.Reader.{Step, got, fault, onward, _>>=_, _>>_, give, require}
+use Rattle.definition.specs.Instructions as Instructions
+use Rattle.definition.specs.Instructions.{Blocks, opened, openAfter, insideAfter, isOpen, isDue, formOf, formed, unfoldedRec, bodyRec, bodyBegins}
 use Rattle.definition.specs.Records.{Room}
 use Rattle.definition.specs.Read as Read
 use Rattle.definition.specs.Read.{ownBody, sourceBody, fieldBody, instrBody, bodyAfter, seenAfter, nothingSeen, recordIn, oneRecord, beginsIn, atEnd}
 use Rattle.laws.specs.Steps.{total}
 use Rattle.laws.specs.Depths.{depthAfter}
+use Rattle.laws.proofs.Backwards as Backwards
 use Rattle.laws.proofs.Bodies as Bodies
 use Rattle.laws.proofs.Bodies.{end-inside, read-fits}
 use Rattle.laws.proofs.Sets.{sets-append}
@@ -44,18 +47,24 @@ use Rattle.stream.specs.Pass.{Passed, usedAfter, namedAfter, endOf, pass
 use Rattle.next_record.specs.Places.{bodyOf, depthOf, depthPast, recordPast, placeAfter, movedBy, fieldRecordAt, bodyRecordAt}
 use Rattle.next_record.specs.Marks.{Opened, Elsed, Ended}
 use Rattle.counting.specs.Counting.{fieldSeen}
-use Rattle.next_record.specs.Answers.{outsideAnswer, Shift, stay, name-data, open-one, else-one, end-one, shiftOf, Kept, an-instr, an-end, keptOf, keptAnswer, keptAt, insideAnswer}
+use Rattle.next_record.specs.Answers.{outsideAnswer, Shift, stay, name-data, open-one, else-one, end-one, shiftOf, Kept, a-field, an-instr, some-folded, an-end, keptOf, keptAnswer, keptAt, insideAnswer}
+use Rattle.next_record.specs.Folds.{noneDo, foldedAt, keptFold, turnAt}
 use Rattle.stream.specs.Pass.{endPut}
 use Rattle.syntax.specs.declared.Place.{Place}
 use Rattle.next_record.specs.declared.record.Outside.{Outside}
 use Rattle.next_record.specs.declared.record.Outside.the-variants as U
 use Rattle.next_record.specs.declared.record.Inside.{Inside}
 use Rattle.next_record.specs.declared.record.Inside.the-variants as N
+use Rattle.next_record.specs.declared.record.Does.{Does}
+use Rattle.next_record.specs.declared.fold.Fold.{Fold}
+use Rattle.next_record.specs.declared.fold.Fold.the-variants as L
 use Rattle.stream.specs.declared.pass.Count.{Count}
 use Rattle.stream.specs.declared.pass.Count.the-variants as C
 use Rattle.stream.proofs.Model.{passed-says, pass-end, pass-fault, pass-full, pass-got}
+use Rattle.stream.proofs.Folds.{or-none, byte-is, Turned, folded-turn}
 use Rattle.counting.proofs.Counts.{Counts, counts-none, counts-field, counts-instr, counts-end, room-same, counts-words}
 use Rattle.next_record.proofs.Records.{outside, inside}
+use Rattle.next_record.proofs.Folding.{Moved, PassedBy, folded-passes}
 use Rattle.next_record.proofs.Bits.{marks-length}
 
 -- ## Backwards through a record that was read
@@ -116,13 +125,108 @@ record On-instr (u : Bool) (h : Shift) (x : Rec Identifier) : Type 0 where
 on-instr : (u : Bool) (h : Shift) (x : Rec Identifier) → keptOf x ≡ an-instr u h → On-instr u h x
 on-instr u h (field f) e = let z : _≡_ {A = ℕ} 0 1 = cc in absurd (omega arith)
 on-instr u h (instr x) e = record { it = x; is = refl; uses = cc; shifts = cc }
+on-instr u h (folded x n) e = let z : _≡_ {A = ℕ} 0 1 = cc in absurd (omega arith)
 on-instr u h bodyEnd e = let z : _≡_ {A = ℕ} 0 1 = cc in absurd (omega arith)
 
 -- a body's end
 on-end : (x : Rec Identifier) → keptOf x ≡ an-end → x ≡ bodyEnd
 on-end (field f) e = let z : _≡_ {A = ℕ} 0 1 = cc in absurd (omega arith)
 on-end (instr x) e = let z : _≡_ {A = ℕ} 0 1 = cc in absurd (omega arith)
+on-end (folded x n) e = let z : _≡_ {A = ℕ} 0 1 = cc in absurd (omega arith)
 on-end bodyEnd e = refl
+
+-- ## What a turn was
+
+-- only after F0 a folded record is read
+not-folded : (i : Instructions.Inside) (s : Bytes) (at : ℕ) (x : Syntax.Instr Identifier) (n q : ℕ) → at < length s → eqb (getD s at 0) 0xF0 ≡ false
+    → bodyRec i s at ≡ got (folded x n) q → ⊥
+unfolding bodyRec unfoldedRec
+not-folded i s at x n q h z e =
+    go (eqb (getD s at 0) 0xFF) (Backwards.passed _ 4 (not (isDue (i .due))) s (at + 1) (rw (byte-is s at h, z) at e) .1)
+  where
+    not-instr : (m : Step (Syntax.Instr Identifier)) → onward (λ y n. got (instr y) n) m ≡ got (folded x n) q → ⊥
+    not-instr (got y k) e = let z : _≡_ {A = ℕ} 0 1 = cc in omega arith
+    not-instr (fault k) e = let z : _≡_ {A = ℕ} 0 1 = cc in omega arith
+
+    go : (t : Bool)
+        → (if t then (require 8 (not (isOpen (i .blocks))) >> give bodyEnd) else (formed i (getD s at 0) (formOf (getD s at 0)) >>= λ y. give (instr y))) s (at + 1) ≡ got (folded x n) q
+        → ⊥
+    go true e = let d = Backwards.passed _ 8 (not (isOpen (i .blocks))) s (at + 1) e .1 in let z : _≡_ {A = ℕ} 0 1 = cc in omega arith
+    go false e = not-instr (formed i (getD s at 0) (formOf (getD s at 0)) s (at + 1)) e
+
+-- kept of a record that is not folded
+abbrev Single : Kept → Type 0
+Single a-field = Unit {0}
+Single (an-instr u h) = Unit {0}
+Single (some-folded d) = ⊥
+Single an-end = Unit {0}
+
+module _ (p : Place) (m : Marks) (s : Bytes) (q : Place) where
+  single : (k : Kept) → Single k → turnAt p m s ≡ (ok k, q) → keptAt (bodyRecordAt p m s) ≡ (ok k, q)
+  unfolding turnAt
+  single k u e = go (eqb (getD s (p .at) 0) 0xF0) e
+    where
+      no-fold : (x : Fold) → keptFold x ≡ (ok k, q) → ⊥
+      no-fold (L.Past d r) e =
+          let a : ok (some-folded d) ≡ ok k = ap (λ (z : Answer Kept × Place). z .0) e in
+          let b : k ≡ some-folded d = cc in
+          subst Single b u
+      no-fold (L.Refused n r) e = let a : refused n (r .rec) ≡ ok k = ap (λ (z : Answer Kept × Place). z .0) e in let z : _≡_ {A = ℕ} 0 1 = cc in omega arith
+
+      go : (t : Bool) → (if t then keptFold (foldedAt 32 s noneDo p) else keptAt (bodyRecordAt p m s)) ≡ (ok k, q) → keptAt (bodyRecordAt p m s) ≡ (ok k, q)
+      go true e = absurd (no-fold (foldedAt 32 s noneDo p) e)
+      go false e = e
+
+  -- F0 stands there, and this is what came of it
+  record Folded-as (f : Fold) : Type 0 where
+    first : eqb (getD s (p .at) 0) 0xF0 ≡ true
+    is : foldedAt 32 s noneDo p ≡ f
+
+  folded-as : (d : Does) → p .at < length s → turnAt p m s ≡ (ok (some-folded d), q) → Folded-as (L.Past d q)
+  unfolding turnAt bodyRecordAt
+  folded-as d h e = go (eqb (getD s (p .at) 0) 0xF0) refl e
+    where
+      past : (x : Fold) → keptFold x ≡ (ok (some-folded d), q) → x ≡ L.Past d q
+      past (L.Past c r) e =
+          let a : ok (some-folded c) ≡ ok (some-folded d) = ap (λ (z : Answer Kept × Place). z .0) e in
+          let b : r ≡ q = ap (λ (z : Answer Kept × Place). z .1) e in
+          let i : c ≡ d = cc in
+          rw (i, b)
+      past (L.Refused n r) e =
+          let a : refused n (r .rec) ≡ ok (some-folded d) = ap (λ (z : Answer Kept × Place). z .0) e in let z : _≡_ {A = ℕ} 0 1 = cc in absurd (omega arith)
+
+      there : eqb (getD s (p .at) 0) 0xF0 ≡ false → (st : Step (Rec Identifier)) → bodyRec (insideOf (p .depth - 1) m) s (p .at) ≡ st
+          → keptAt (movedBy p st) ≡ (ok (some-folded d), q) → ⊥
+      there z (got (folded x n) k) f e = not-folded (insideOf (p .depth - 1) m) s (p .at) x n k h z f
+      there z (got (field x) k) f e = let a : ok a-field ≡ ok (some-folded d) = ap (λ (z : Answer Kept × Place). z .0) e in let z : _≡_ {A = ℕ} 0 1 = cc in omega arith
+      there z (got (instr x) k) f e =
+          let a : ok (an-instr (mayUse x) (shiftOf x)) ≡ ok (some-folded d) = ap (λ (z : Answer Kept × Place). z .0) e in let z : _≡_ {A = ℕ} 0 1 = cc in omega arith
+      there z (got bodyEnd k) f e = let a : ok an-end ≡ ok (some-folded d) = ap (λ (z : Answer Kept × Place). z .0) e in let z : _≡_ {A = ℕ} 0 1 = cc in omega arith
+      there z (fault n) f e =
+          let a : refused n (p .rec) ≡ ok (some-folded d) = ap (λ (z : Answer Kept × Place). z .0) e in let z : _≡_ {A = ℕ} 0 1 = cc in omega arith
+
+      go : (t : Bool) → eqb (getD s (p .at) 0) 0xF0 ≡ t → (if t then keptFold (foldedAt 32 s noneDo p) else keptAt (bodyRecordAt p m s)) ≡ (ok (some-folded d), q)
+          → Folded-as (L.Past d q)
+      go true z e = record { first = z; is = past (foldedAt 32 s noneDo p) e }
+      go false z e = absurd (there z (bodyRec (insideOf (p .depth - 1) m) s (p .at)) refl e)
+
+  -- a refusal of what came of it, or of another record
+  refused-as : {A : Type 0} (n : ℕ) → turnAt p m s ≡ (refused n (q .rec), q) → (Folded-as (L.Refused n q) → A) → (keptAt (bodyRecordAt p m s) ≡ (refused n (q .rec), q) → A) → A
+  unfolding turnAt
+  refused-as {A} n e f g = go (eqb (getD s (p .at) 0) 0xF0) refl e
+    where
+      not : (x : Fold) → keptFold x ≡ (refused n (q .rec), q) → x ≡ L.Refused n q
+      not (L.Past d r) e = let a : ok (some-folded d) ≡ refused n (q .rec) = ap (λ (z : Answer Kept × Place). z .0) e in let z : _≡_ {A = ℕ} 0 1 = cc in absurd (omega arith)
+      not (L.Refused k r) e =
+          let a : _≡_ {A = Answer Kept} (refused k (r .rec)) (refused n (q .rec)) = ap (λ (z : Answer Kept × Place). z .0) e in
+          let b : r ≡ q = ap (λ (z : Answer Kept × Place). z .1) e in
+          let j : Basic.refusal k (r .rec) ≡ Basic.refusal n (q .rec) = cc in
+          let i : k ≡ n = ap (λ (z : Basic.Refusal). z .number) j in
+          rw (i, b)
+
+      go : (t : Bool) → eqb (getD s (p .at) 0) 0xF0 ≡ t → (if t then keptFold (foldedAt 32 s noneDo p) else keptAt (bodyRecordAt p m s)) ≡ (refused n (q .rec), q) → A
+      go true z e = f (record { first = z; is = not (foldedAt 32 s noneDo p) e })
+      go false z e = g e
 
 -- ## Data segments that are named
 
@@ -169,7 +273,7 @@ blocks-shift k m r (Syntax.plain p) g f = rw (go (operandNames (p .operand)) g)
 
 body-shifts : (d : ℕ) (m r : Marks) (x : Syntax.Instr Identifier) → 1 ≤ d → Shifted (shiftOf x) m r → Bodies.Fits (insideOf (d - 1) m .blocks) x → bodyOf (depthAfter x (d - 1) + 1) r ≡ instrBody x (bodyOf d m)
 unfolding insideOf insideAfter
-body-shifts d m r x h g f = rw (inside d m h, add-one (depthAfter x (d - 1))) (ap (λ (bs : Blocks). some (record { blocks = bs })) (blocks-shift (d - 1) m r x g f))
+body-shifts d m r x h g f = rw (inside d m h, add-one (depthAfter x (d - 1))) (ap (λ (bs : Blocks). some (record { blocks = bs; due = [] })) (blocks-shift (d - 1) m r x g f))
 
 -- a field begins a body with no block open, and there no mark counts
 field-body : (s : Bytes) (f : Field) (m : Marks) → bodyOf (depthOf (fieldBody (fieldOf s f))) m ≡ fieldBody (fieldOf s f)
@@ -190,16 +294,13 @@ field-body s (F.Data i k d) m = refl
 
 -- whether a body is open does not hang on the marks
 begins-any : (b d : ℕ) (m r : Marks) → beginsIn b (bodyOf d m) ≡ beginsIn b (bodyOf d r)
+unfolding bodyBegins insideOf
 begins-any b zero m r = refl
 begins-any b (suc k) m r = refl
 
 end-any : (n d : ℕ) (m r : Marks) → atEnd n (bodyOf d m) ≡ atEnd n (bodyOf d r)
 end-any n zero m r = refl
 end-any n (suc k) m r = refl
-
-or-none : (u : Bool) → u ≡ u || false
-or-none true = refl
-or-none false = refl
 
 or-one : (u : Bool) → true ≡ u || true
 or-one true = refl
@@ -254,9 +355,12 @@ module _ (s : Bytes) (w₀ : List ℕ) (p : Place) (m : Marks) (c : Seen) (ended
   body-on x q m′ e = ap (λ b. bodyAfter b x) (v .body) ∙ sym e
 
   -- a refusal ends the pass
-  stopped : (r : Refusal) → passed s ≡ record { says = refusedBy r; seen = v .seen; ends = v .ends; named = named } → Walks s w₀ (C.Refused r) w
+  stopped-by : (r : Refusal) → passed s .says ≡ refusedBy r → passed s .ends ≡ v .ends → Walks s w₀ (C.Refused r) w
   unfolding areaAfter
-  stopped r g = record { says = sym (passed-says s) ∙ ap (λ (x : Passed). x .says) g; leaves = v .area ∙ rw g }
+  stopped-by r g f = record { says = sym (passed-says s) ∙ g; leaves = v .area ∙ rw (g, f) }
+
+  stopped : (r : Refusal) → passed s ≡ record { says = refusedBy r; seen = v .seen; ends = v .ends; named = named } → Walks s w₀ (C.Refused r) w
+  stopped r g = stopped-by r (ap (λ (x : Passed). x .says) g) (ap (λ (x : Passed). x .ends) g)
 
   -- one record too many
   pub full-walk : (n : ℕ) → 4096 ≤ p .rec → n ≡ (if beginsIn (getD s (p .at) 0) (bodyOf (p .depth) noMarks) then 7 else 4) → Walks s w₀ (C.Refused (refusal n (p .rec))) w
@@ -275,6 +379,11 @@ module _ (s : Bytes) (w₀ : List ℕ) (p : Place) (m : Marks) (c : Seen) (ended
         let j : Basic.refusal m (p .rec) ≡ Basic.refusal n (q .rec) = cc in
         let g : oneRecord (v .seen) s (p .at) ≡ fault m = rw (room-same (v .counts), v .body) f in
         stopped (refusal n (q .rec)) (v .same ∙ pass-fault (p .rec) (v .seen) used named (v .ends) s (p .at) (4096 - p .rec) m h (omega arith) g ∙ ap (λ (z : Basic.Refusal). record { says = fails z; seen = v .seen; ends = v .ends; named = named }) j)
+
+    -- in a body
+    one-refused : (d : 1 ≤ p .depth) (n : ℕ) → bodyRecordAt p m s .0 ≡ refused n (q .rec) → Walks s w₀ (C.Refused (refusal n (q .rec))) w
+    unfolding bodyRecordAt
+    one-refused d n e = faulted n (bodyRec (insideOf (p .depth - 1) m) s (p .at)) (ap (λ b. recordIn (roomOf c) b s (p .at)) (inside (p .depth) m d)) e
 
     -- ### Outside a body
 
@@ -315,7 +424,7 @@ module _ (s : Bytes) (w₀ : List ℕ) (p : Place) (m : Marks) (c : Seen) (ended
 
     -- ### In a body
 
-    module _ (d : 1 ≤ p .depth) (what : Inside) (e : keptAt (bodyRecordAt p m s) ≡ insideAnswer what q) where
+    module _ (d : 1 ≤ p .depth) (what : Inside) (e : turnAt p m s ≡ insideAnswer what q) where
       record Was-instr (u : Bool) (j : Shift) : Type 0 where
         it : Syntax.Instr Identifier
         uses : mayUse it ≡ u
@@ -324,13 +433,13 @@ module _ (s : Bytes) (w₀ : List ℕ) (p : Place) (m : Marks) (c : Seen) (ended
 
       was-instr : (u : Bool) (j : Shift) → insideAnswer what q ≡ (ok (an-instr u j), q) → Was-instr u j
       was-instr u j k =
-          let a = kept-of (bodyRecordAt p m s) (an-instr u j) q (e ∙ k) in
+          let a = kept-of (bodyRecordAt p m s) (an-instr u j) q (single p m s q (an-instr u j) tt (e ∙ k)) in
           let b = on-instr u j (a .rec) (a .keeps) in
           record { it = b .it; uses = b .uses; shifts = b .shifts; was = body-was (roomOf c) p m s (instr (b .it)) q l d (a .is ∙ ap (λ z. (ok z, q)) (b .is)) }
 
       was-end : what ≡ N.End → Was (roomOf c) p m s bodyEnd q
       was-end k =
-          let a = kept-of (bodyRecordAt p m s) an-end q (e ∙ ap (λ y. insideAnswer y q) k) in
+          let a = kept-of (bodyRecordAt p m s) an-end q (single p m s q an-end tt (e ∙ ap (λ y. insideAnswer y q) k)) in
           body-was (roomOf c) p m s bodyEnd q l d (a .is ∙ ap (λ z. (ok z, q)) (on-end (a .rec) (a .keeps)))
 
       less : (u : Bool) (j : Shift) → insideAnswer what q ≡ (ok (an-instr u j), q) → 4097 - q .rec < 4097 - p .rec
@@ -463,15 +572,55 @@ module _ (s : Bytes) (w₀ : List ℕ) (p : Place) (m : Marks) (c : Seen) (ended
               let z : endAt ended + 1 ≡ suc (endAt ended) = omega arith in
               rw (lt-ltb _ _ n, take-all 512 (v .ends ++ (q .at ∷ second ∷ [])) m, sets-append w₀ ENDS (v .ends) (q .at ∷ second ∷ []), i, u, z)
 
+      -- a folded record with all its operands: the blocks and the marks stay
+      in-body : v .seen .body ≡ some (record { blocks = marksIn (p .depth - 1) (bitsOf m); due = [] })
+      unfolding insideOf
+      in-body = v .body ∙ inside (p .depth) m d
+
+      turn-is : (f : Fold) → Folded-as p m s q f → Turned s (v .seen) (marksIn (p .depth - 1) (bitsOf m)) in-body used named (v .ends) (passed s) f
+      turn-is f a =
+          let x = folded-turn s (v .seen) (marksIn (p .depth - 1) (bitsOf m)) in-body used named (v .ends) p (a .first) in
+          let y = subst (Turned s (v .seen) (marksIn (p .depth - 1) (bitsOf m)) in-body used named (v .ends) (pass (4096 - p .rec) (p .rec) (v .seen) used named (v .ends) s (p .at))) (a .is) x in
+          subst (λ z. Turned s (v .seen) (marksIn (p .depth - 1) (bitsOf m)) in-body used named (v .ends) z f) (sym (v .same)) y
+
+      was-folded : (f : Does) → what ≡ N.Folded f → Folded-as p m s q (L.Past f q)
+      was-folded f k = folded-as p m s q f h (e ∙ ap (λ y. insideAnswer y q) k)
+
+      moves : (f : Does) → what ≡ N.Folded f → Moved p q × (p .rec < q .rec)
+      moves f k = subst (PassedBy p) (was-folded f k .is) (folded-passes 32 s noneDo p)
+
+      pub less-folded : (f : Does) → what ≡ N.Folded f → 4097 - q .rec < 4097 - p .rec
+      less-folded f k = let a = moves f k in omega (arith, a .1, a .0 .most)
+
+      pub again-folded : (f : Does) (m′ : Marks) (u n : Bool) → what ≡ N.Folded f → m ≡ m′ → u ≡ (used || f .uses) → n ≡ (named || f .names) → Going s w₀ q m′ c ended u n w
+      again-folded f m′ u n k g a b =
+          let y = moves f k in
+          let z = y .0 .deep in
+          record {
+            seen = v .seen;
+            ends = v .ends;
+            few = y .0 .most;
+            body = v .body ∙ rw (g, ← z);
+            counts = v .counts;
+            same = rw (← a, ← b) at (turn-is (L.Past f q) (was-folded f k));
+            area = v .area;
+            number = v .number;
+            fewer = omega (arith, y .1, v .fewer);
+            long = v .long;
+          }
+
       pub refused-instr : (n : ℕ) → what ≡ N.Refused n → Walks s w₀ (C.Refused (refusal n (q .rec))) w
-      unfolding bodyRecordAt
-      refused-instr n k =
-          faulted n (bodyRec (insideOf (p .depth - 1) m) s (p .at)) (ap (λ b. recordIn (roomOf c) b s (p .at)) (inside (p .depth) m d))
-          (not-kept (movedBy p (bodyRec (insideOf (p .depth - 1) m) s (p .at)) .0) (ap (λ (x : Answer Kept × Place). x .0) (e ∙ ap (λ y. insideAnswer y q) k)))
+      refused-instr n k = refused-as p m s q n (e ∙ ap (λ y. insideAnswer y q) k) by-fold by-one
         where
+          by-fold : Folded-as p m s q (L.Refused n q) → Walks s w₀ (C.Refused (refusal n (q .rec))) w
+          by-fold a = let x = turn-is (L.Refused n q) a in stopped-by (refusal n (q .rec)) (x .says) (x .same)
+
           not-kept : (y : Answer (Rec Identifier)) → keptAnswer y ≡ refused n (q .rec) → y ≡ refused n (q .rec)
           not-kept (ok x) e = let z : _≡_ {A = ℕ} 0 1 = cc in absurd (omega arith)
           not-kept (fails z) e = cc
+
+          by-one : keptAt (bodyRecordAt p m s) ≡ (refused n (q .rec), q) → Walks s w₀ (C.Refused (refusal n (q .rec))) w
+          by-one a = one-refused d n (not-kept (bodyRecordAt p m s .0) (ap (λ (x : Answer Kept × Place). x .0) a))
 
 -- ## The stream's end
 

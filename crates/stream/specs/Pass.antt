@@ -12,7 +12,7 @@ use Rattle.syntax.specs.declared.Place.{Place}
 use Rattle.area.specs.Layout.{BYTES, COUNTS, DATA_NAMED, ENDS, WORDS, endAt}
 use Rattle.area.specs.Flags.{flagPut}
 use Rattle.definition.specs.Basic.{if_then_else_, Answer, ok, fails, refused}
-use Rattle.definition.specs.Syntax.{Bytes, Identifier, Rec, field, instr, bodyEnd}
+use Rattle.definition.specs.Syntax.{Bytes, Identifier, Rec, field, instr, folded, bodyEnd}
 use Rattle.definition.specs.Reader.{Step, got, fault}
 use Rattle.definition.specs.Read.{Seen, nothingSeen, seenAfter, oneRecord, atEnd, records, read}
 use Rattle.laws.specs.Steps.{total}
@@ -35,18 +35,21 @@ pub record Passed : Type 0 where
 abbrev pub usedAfter : Bool → Rec Identifier → Bool
 usedAfter used (field f) = used
 usedAfter used (instr x) = used || mayUse x
+usedAfter used (folded x n) = used || mayUse x
 usedAfter used bodyEnd = false
 
 -- was a data segment named?
 abbrev pub namedAfter : Bool → Rec Identifier → Bool
 namedAfter named (field f) = named
 namedAfter named (instr x) = named || namesData x
+namedAfter named (folded x n) = named || namesData x
 namedAfter named bodyEnd = named
 
 -- the place after a body, and the record after it with what the body may use
 abbrev pub endOf : Bool → Rec Identifier → ℕ → ℕ → List ℕ
 endOf used (field f) next r = []
 endOf used (instr x) next r = []
+endOf used (folded x n) next r = []
 endOf used bodyEnd next r = next ∷ endWord r used ∷ []
 
 abbrev pub onRecord : (Rec Identifier → ℕ → Passed) → (ℕ → Passed) → Step (Rec Identifier) → Passed

@@ -14,6 +14,7 @@ use syntax::Place;
 use syntax::Refusal;
 use syntax::Seen;
 ghost use mathlib.Core.Path.{_≡_};
+ghost use mathlib.Core.Bool.{_||_};
 ghost use Prim.Native.Nat.{_+_, _*_, _≤_, _<_, _^_};
 ghost use lib.ListN.{length};
 ghost use Rattle.area.specs.Layout.{WORDS};
@@ -65,6 +66,12 @@ fn refused(number: u8, p: Place) -> Count
     ensures { λ r. ⌜ r ≡ refusedAt number p ⌝ }
 {
     Count::Refused(syntax::refusal_at(number, p.rec))
+}
+
+fn either(a: bool, b: bool) -> bool
+    ensures { λ r. ⌜ r ≡ (a || b) ⌝ }
+{
+    a || b
 }
 
 // The stream ends here: in a body it is refused, outside one the counts of items are left, and whether a data segment was named.
@@ -130,6 +137,10 @@ fn read_records(s: &[u8], work: &mut [u32]) -> Count
                 }
                 Inside::Ends => {
                     marks = without_block(marks);
+                }
+                Inside::Folded(does) => {
+                    used = either(used, does.uses);
+                    named = either(named, does.names);
                 }
                 Inside::End => {
                     put_end(work, ended, p, used);

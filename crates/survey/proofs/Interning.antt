@@ -1,5 +1,5 @@
 -- Laws of the uses of types, field after field.
-use Prim.Native.Nat.{ℕ, _+_, _-_, _≤_, _<_}
+use Prim.Native.Nat.{ℕ, _+_, _≤_, _<_}
 use mathlib.Core.Path.{_≡_, sym, _∙_, ap}
 use mathlib.Core.List.{List, [], _++_, append-nil, append-assoc}
 use mathlib.Core.Option.{Option, none, some}
@@ -22,6 +22,7 @@ use Rattle.area.specs.Kept.{Kept}
 use Rattle.area.proofs.Kept.{kept-word}
 use Rattle.type_table.specs.Table.{typeTable, Indexed}
 use Rattle.type_table.proofs.Types.{table-kept}
+use Rattle.instr.proofs.Stretches.{body-reach}
 use Rattle.walk.specs.Walk.{bodyIn, begin, cursorAfter, visitIn, visitOf, fieldsHere, fieldsAhead, fieldsIn, Ahead}
 use Rattle.walk.specs.declared.Cursor.{Cursor}
 use Rattle.walk.specs.declared.Met.{Met}
@@ -31,7 +32,6 @@ use Rattle.interning.specs.Uses.{Skips, usesField, endAfter, Known, Handled, Ha
 use Rattle.interning.specs.declared.uses.Used.{Used}
 use Rattle.interning.specs.declared.uses.Used.the-variants as U
 use Rattle.interning.proofs.Handled.{intern-on, intern-stops, known-kept, known-append, known-wide, keeps-same, handles-types, handles-stopped}
-use Rattle.interning.proofs.Bodies.{after-low, after-high}
 use Rattle.interning.proofs.Fields.{record-uses}
 use Rattle.laws.proofs.Uses.{uses-append}
 
@@ -39,11 +39,11 @@ use Rattle.laws.proofs.Uses.{uses-append}
 
 end-low : (b : Option Inside) (r : ℕ) (s : Bytes) (here : ℕ) → r + 1 ≤ endAfter b r s here
 end-low none r s here = omega arith
-end-low (some i) r s here = after-low (4096 - (r + 1)) (length (i .blocks)) (r + 1) s here
+end-low (some i) r s here = body-reach s (length (i .blocks)) (r + 1) here .least
 
 end-high : (b : Option Inside) (r : ℕ) (s : Bytes) (here : ℕ) → r < 4096 → endAfter b r s here ≤ 4096
 end-high none r s here h = omega arith
-end-high (some i) r s here h = let e = after-high (4096 - (r + 1)) (length (i .blocks)) (r + 1) s here in omega arith
+end-high (some i) r s here h = body-reach s (length (i .blocks)) (r + 1) here .most (omega arith)
 
 -- ## The walk
 
@@ -99,7 +99,7 @@ module _ (s : Bytes) (c : Cursor) (m : Met) (told : visitIn (c .left) c s ≡ vi
 
   module _ (f : Field) (here : ℕ) (is : m .what ≡ W.Field f here) where
     -- a body that is not marked need not be looked at
-    pub field-skips : (w : List ℕ) → Ahead s w c → Skips w (c .own) (bodyUses (c .rec + 1) (bodyIn (fieldBody (fieldOf s f)) (c .rec + 1) s here))
+    pub field-skips : (w : List ℕ) → Ahead s w c → Skips w (c .own) (bodyUses (bodyIn (fieldBody (fieldOf s f)) (c .rec + 1) s here))
     field-skips w a = record { unused = λ d. visit-unused s c m told f here is w a d }
 
     abbrev here-uses : Uses

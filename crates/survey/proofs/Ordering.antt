@@ -4,7 +4,7 @@ use mathlib.Core.Path.{_≡_, refl, _∙_}
 use mathlib.Core.Bool.{Bool, true, false}
 use mathlib.Core.List.{List, [], _∷_, _++_, map}
 use Rattle.definition.specs.Basic.{if_then_else_, Answer, ok, refused}
-use Rattle.definition.specs.Syntax.{Bytes, Identifier, Space, Field, exportF, ownIndex, Instr}
+use Rattle.definition.specs.Syntax.{Bytes, Identifier, Space, Field, exportF, ownIndex, Body}
 use Rattle.definition.specs.Token as Token
 use Rattle.definition.specs.Read.{fieldBody}
 use Rattle.definition.specs.Spaces.{sourceSpace}
@@ -39,7 +39,7 @@ unfolding importsFrom
 exports-none r n k late [] fs gs = refl
 exports-none r n k late (e ∷ es) fs gs = exports-none r n k late es fs gs
 
-module _ (s : Bytes) (r : ℕ) (next : Space → ℕ) (body : List (Instr Identifier)) (late : Bool) (fs : Numbered Identifier) where
+module _ (s : Bytes) (r : ℕ) (next : Space → ℕ) (body : Body Identifier) (late : Bool) (fs : Numbered Identifier) where
   source-step : (i : Part) (n : ℕ) (x : Source) → importsFrom late (map (λ f. (r, f)) (sourceFields (idOf s i) n (sourceOf s x) body) ++ fs) ≡ step r late (sourceStanding x) fs
   unfolding sourceFields importsFrom step
   source-step i n (S.Own o) = refl

@@ -10,7 +10,7 @@ use borrow.Author.Tests.{ltb-true}
 use native.Mathlib.Omega.{arith}
 use Rattle.definition.specs.Basic as Basic
 use Rattle.definition.specs.Basic.{Answer, ok, fails, _>>=_, sameBytes}
-use Rattle.definition.specs.Syntax.{Bytes, Identifier, Space, funcs, tables, mems, globals, types, elems, datas, code, Field, exportF, ownIndex, Instr}
+use Rattle.definition.specs.Syntax.{Bytes, Identifier, Space, funcs, tables, mems, globals, types, elems, datas, code, Field, exportF, ownIndex, Body}
 use Rattle.definition.specs.Reader.{got}
 use Rattle.definition.specs.Records.{fieldRec}
 use Rattle.definition.specs.Spaces.{externSpace, ownSpace, sourceSpace, segments, brings}
@@ -68,7 +68,7 @@ unfolding register itemOf _>>=_
 exports-none r n k xs [] fs gs = refl
 exports-none r n k xs (e ∷ es) fs gs = exports-none r n k xs es fs gs
 
-module _ (s : Bytes) (r : ℕ) (next : Space → ℕ) (body : List (Instr Identifier)) (xs : Items Identifier) (fs : Numbered Identifier) where
+module _ (s : Bytes) (r : ℕ) (next : Space → ℕ) (body : Body Identifier) (xs : Items Identifier) (fs : Numbered Identifier) where
   source-parts : (i : Part) (n : ℕ) (x : Source) → register sameBytes xs (map (λ f. (r, f)) (sourceFields (idOf s i) n (sourceOf s x) body) ++ fs) ≡ partsThen s r xs (sourceItems i x) fs
   unfolding sourceFields register itemOf partsThen ownSpace
   source-parts i n (S.Own o) = rw (← own-brings s o) refl

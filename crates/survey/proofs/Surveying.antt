@@ -151,7 +151,7 @@ module _ (s w₀ w : List ℕ) (c : Cursor) (k : ℕ) (v : Using s w₀ w c k) (
   using-done is = record { says = interning-done s c m told w k is (v .interning); kept = v .kept }
 
   module _ (f : Field) (here : ℕ) (is : m .what ≡ W.Field f here) where
-    pub using-skips : Skips w (c .own) (bodyUses (c .rec + 1) (bodyIn (fieldBody (fieldOf s f)) (c .rec + 1) s here))
+    pub using-skips : Skips w (c .own) (bodyUses (bodyIn (fieldBody (fieldOf s f)) (c .rec + 1) s here))
     using-skips = field-skips s c m told f here is w (v .ahead)
 
     module _ (q : Used) (w′ : List ℕ) (used : Handles (c .rec) (endAfter (fieldBody (fieldOf s f)) (c .rec) s here) s (usesField (c .rec) (fieldOf s f) s here) w k q w′) where
@@ -274,7 +274,7 @@ module _ (s w₀ w : List ℕ) (c : Cursor) (late : Bool) (k : ℕ) (v : Surveyi
       }
 
   module _ (f : Field) (here : ℕ) (is : m .what ≡ W.Field f here) where
-    pub surveying-skips : Skips w (c .own) (bodyUses (c .rec + 1) (bodyIn (fieldBody (fieldOf s f)) (c .rec + 1) s here))
+    pub surveying-skips : Skips w (c .own) (bodyUses (bodyIn (fieldBody (fieldOf s f)) (c .rec + 1) s here))
     surveying-skips = field-skips s c m told f here is w (v .ahead)
 
     module _ (t : Lateness) (e : lateness late (standing f) ≡ fineOf t) where

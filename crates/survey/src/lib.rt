@@ -50,7 +50,7 @@ struct Ended {
 
 // The uses of a field, and then its items.
 fn take_field(s: &[u8], work: &mut [u32], c: Cursor, f: Field, here: usize, count: u32) -> Took
-    requires { ⌜ Lent (now s) (now work) × Indexed (now s) (now work) count × (c .rec < 4096) × Skips (now work) (c .own) (Types.bodyUses (c .rec + 1) (bodyIn (Read.fieldBody (fieldOf (now s) f)) (c .rec + 1) (now s) here)) × Fit (c .seen) (brought f) ⌝ }
+    requires { ⌜ Lent (now s) (now work) × Indexed (now s) (now work) count × (c .rec < 4096) × Skips (now work) (c .own) (Types.bodyUses (bodyIn (Read.fieldBody (fieldOf (now s) f)) (c .rec + 1) (now s) here)) × Fit (c .seen) (brought f) ⌝ }
     ensures { λ r. ⌜ Takes (now (s .entry)) (now (work .entry)) c f here count r (now (work .exit)) ⌝ }
 {
     match interning::use_field(s, work, count, f, c.own, here, c.rec) {

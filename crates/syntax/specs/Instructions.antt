@@ -14,8 +14,8 @@ use Rattle.syntax.specs.declared.Instr.{Instr}
 use Rattle.syntax.specs.declared.Instr.the-variants as I
 use Rattle.syntax.specs.declared.InstrAt.{InstrAt}
 use Rattle.syntax.specs.declared.InstrAt.the-variants as IA
-use Rattle.syntax.specs.declared.BodyAt.{BodyAt}
-use Rattle.syntax.specs.declared.BodyAt.the-variants as BA
+use Rattle.syntax.specs.declared.FoldAt.{FoldAt}
+use Rattle.syntax.specs.declared.FoldAt.the-variants as FA
 
 abbrev pub formIs : Form → Option Instructions.Form
 formIs F.NoOpcode = none
@@ -36,7 +36,6 @@ abbrev pub instrAt : Bytes → InstrAt → Step (Syntax.Instr Identifier)
 instrAt s (IA.Got i next) = got (instrIs s i) next
 instrAt s (IA.Fault n) = fault n
 
-abbrev pub bodyAt : Bytes → BodyAt → Step (Syntax.Rec Identifier)
-bodyAt s (BA.Got i next) = got (Syntax.instr (instrIs s i)) next
-bodyAt s (BA.End next) = got Syntax.bodyEnd next
-bodyAt s (BA.Fault n) = fault n
+abbrev pub foldAt : Bytes → FoldAt → Step (Syntax.Rec Identifier)
+foldAt s (FA.Got i n next) = got (Syntax.folded (instrIs s i) n) next
+foldAt s (FA.Fault n) = fault n

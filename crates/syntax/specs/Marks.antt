@@ -17,6 +17,6 @@ unfoldable pub marksIn : ℕ → ℕ → Blocks
 marksIn zero n = []
 marksIn (suc k) n = eqb (n % 2) 1 ∷ marksIn k (n / 2)
 
--- where `k` blocks are open
+-- where `k` blocks are open and no operand is due
 unfoldable pub insideOf : ℕ → Marks → Inside
-insideOf k m = record { blocks = marksIn k (bitsOf m) }
+insideOf k m = record { blocks = marksIn k (bitsOf m); due = [] }

@@ -276,11 +276,27 @@ pub enum InstrAt {
     Fault(u8),
 }
 
+// What stands in a body that was read before.
 pub enum BodyAt {
     Got(Instr, usize),
+    // the byte F0, with which a folded record begins
+    Folded,
     // the byte FF
     End(usize),
+    Unread,
+}
+
+// The operator of a folded record, and the count of its operands.
+pub enum FoldAt {
+    Got(Instr, u32, usize),
     Fault(u8),
+}
+
+// A folded record by its places.
+pub enum Folding {
+    // where its operator stands, the count of its operands, and where they begin
+    Parts(usize, u32, usize),
+    Unread,
 }
 
 // ## Items and fields

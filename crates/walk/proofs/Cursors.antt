@@ -12,9 +12,9 @@ use native.Mathlib.Omega.{arith}
 use native.Mathlib.Nat.{add-zero}
 use mir.Syntax.{w32}
 use mir.Val.{Fits}
-use Rattle.definition.specs.Syntax.{Bytes, Identifier, Instr, Rec, field, instr, bodyEnd}
-use Rattle.definition.specs.Reader.{Step, got, fault}
-use Rattle.definition.specs.Instructions.{begun, bodyRec}
+use Rattle.definition.specs.Syntax.{Bytes}
+use Rattle.definition.specs.Reader.{got, fault}
+use Rattle.definition.specs.Instructions.{begun}
 use Rattle.definition.specs.Records.{fieldRec}
 use Rattle.definition.specs.Spaces.{brings, sourceSpace, segments}
 use Rattle.definition.specs.Read.{fieldBody, sourceBody, ownBody, isStart}
@@ -31,14 +31,13 @@ use Rattle.syntax.specs.declared.Field.the-variants as F
 use Rattle.syntax.specs.declared.FieldAt.{FieldAt}
 use Rattle.syntax.specs.declared.FieldAt.the-variants as FA
 use Rattle.next_record.specs.Uses.{anyUse, endWord}
-use Rattle.laws.specs.Depths.{deep, depthAfter}
 use Rattle.syntax.specs.Marks.{noMarks, insideOf, marksIn}
 use Rattle.next_record.specs.Places.{bodyOf}
 use Rattle.counting.specs.Counting.{oneMore, sourceBrings, fieldSeen}
 use Rattle.next_record.specs.Answers.{fieldDepth}
 use Rattle.counting.proofs.Counts.{extern-brings, own-brings}
-use Rattle.walk.specs.Walk.{begin, onVisit, afterBody, bodyIn, afterField, counting, seenWith, cursorAfter, visitAt, visitIn, endOf, endHere, endsFrom, Ahead, endRecord, endIn, usesIn, stopIn, cursorIn}
-use Rattle.instr.specs.Bodies.{onBody}
+use Rattle.walk.specs.Walk.{begin, onVisit, bodyIn, afterField, counting, seenWith, cursorAfter, visitAt, visitIn, endOf, endHere, endsFrom, Ahead, endRecord, endIn, usesIn, stopIn, cursorIn}
+use Rattle.instr.proofs.Stretches.{body-reach}
 use Rattle.walk.specs.declared.Cursor.{Cursor}
 use Rattle.walk.specs.declared.Stop.{Stop}
 
@@ -149,19 +148,6 @@ unfolding endRecord endWord
 end-record r true h = let l : MARK ≤ r + MARK = omega arith in rw (le-leb _ _ l) (omega arith)
 end-record r false h = let l : r < MARK = omega arith in rw (lt-leb _ _ l)
 
--- the record after a body is one of those that were left
-after-few : (left k r : ℕ) (s : Bytes) (here : ℕ) → afterBody left k r s here .rec ≤ left + r
-unfolding afterBody
-after-few zero k r s here = omega arith
-after-few (suc n) k r s here = go (bodyRec (deep k) s here) (λ x next. after-few n (depthAfter x k) (r + 1) s next)
-  where
-    go : (st : Step (Rec Identifier)) → ((x : Instr Identifier) (next : ℕ) → afterBody n (depthAfter x k) (r + 1) s next .rec ≤ n + (r + 1))
-        → onBody st (λ x next. afterBody n (depthAfter x k) (r + 1) s next) (λ next. record { at = next; rec = r + 1 }) (record { at = here; rec = r }) .rec ≤ suc n + r
-    go (got (field f) next) ih = omega arith
-    go (got (instr x) next) ih = omega (arith, ih x next)
-    go (got bodyEnd next) ih = omega arith
-    go (fault k) ih = omega arith
-
 -- where the next field is read, its cursor is the one that the work area gives
 module _ (s : Bytes) (w : List ℕ) (c : Cursor) (v : Ahead s w c) (f : Field) (here : ℕ) where
   cursor-is : 1 ≤ c .left → c .rec < 4096 → visitAt c s ≡ some (record { field = fieldOf s f; head-end = here; next = cursorAfter c (fieldOf s f) s here })
@@ -182,7 +168,7 @@ module _ (s : Bytes) (w : List ℕ) (c : Cursor) (v : Ahead s w c) (f : Field) (
           let y = end-words w (c .own) (afterField (some begun) (c .rec + 1) s here .at) (endWord r u) (endsFrom n next s ++ v .ends .rest) (v .ends .is ∙ ap (λ z. z ++ v .ends .rest) x ∙ rw b) in
           let y₀ = y .0 in
           let y₁ = y .1 in
-          let z = end-record r u (omega (arith, after-few (4096 - (c .rec + 1)) 0 (c .rec + 1) s here)) in
+          let z = end-record r u (body-reach s 0 (c .rec + 1) here .most (omega arith)) in
           rw (g, b, field-seen s (c .seen) f, y₀, y₁, z)
       go (suc n) l (suc (suc d)) g k = absurd (omega arith)
 

@@ -10,7 +10,7 @@ use lib.Seq.{drop-drop}
 use borrow.Author.Tests.{leb-false, lt-leb}
 use native.Mathlib.Omega.{arith}
 use Rattle.definition.specs.Basic.{if_then_else_}
-use Rattle.definition.specs.Syntax.{Bytes, Identifier, FieldRec, Instr, opens, elses, ends, indirect, plain}
+use Rattle.definition.specs.Syntax.{Bytes, Identifier, FieldRec, Instr, opens, elses, ends, indirect, plain, Body}
 use Rattle.definition.specs.Instructions.{Inside}
 use Rattle.definition.specs.Reader.{Step, got, fault}
 use Rattle.definition.specs.Records.{fieldRec}
@@ -127,12 +127,12 @@ no-use (ends l) e = refl
 no-use (indirect x t) e = let z : _≡_ {A = ℕ} 0 1 = cc in absurd (omega arith)
 no-use (plain p) e = refl
 
-unused : (xs : List (Instr Identifier)) (r : ℕ) → anyUse xs ≡ false → bodyUses r xs ≡ []
+unused : (xs : Body Identifier) → anyUse xs ≡ false → bodyUses xs ≡ []
 unfolding anyUse bodyUses
-unused [] r e = refl
-unused (x ∷ xs) r e = go (mayUse x) refl e (unused xs (r + 1))
+unused [] e = refl
+unused ((r, x) ∷ xs) e = go (mayUse x) refl e (unused xs)
   where
-    go : (b : Bool) → mayUse x ≡ b → b || anyUse xs ≡ false → (anyUse xs ≡ false → bodyUses (r + 1) xs ≡ []) → usedAt r (instrUses x) ++ bodyUses (r + 1) xs ≡ []
+    go : (b : Bool) → mayUse x ≡ b → b || anyUse xs ≡ false → (anyUse xs ≡ false → bodyUses xs ≡ []) → usedAt r (instrUses x) ++ bodyUses xs ≡ []
     go true d e ih = let z : _≡_ {A = ℕ} 0 1 = cc in absurd (omega arith)
     go false d e ih = rw (no-use x d) (ih e)
 
@@ -194,7 +194,7 @@ module _ (s : Bytes) (c : Cursor) (r : Met) (told : visitIn (c .left) c s ≡ vi
             ap (λ z. onVisit z (λ v. fieldsHere c s v ++ fieldsFrom n (v .next) s) []) (at-met .1) ∙ rw m
 
     -- the ends of bodies that are still ahead
-    abbrev body : List (Instr Identifier)
+    abbrev body : Body Identifier
     body = bodyIn (fieldBody (fieldOf s f)) (c .rec + 1) s here
 
     ends-are : endsFrom (c .left) c s ≡ endOf (fieldBody (fieldOf s f)) (r .next) body ++ endsFrom (r .next .left) (r .next) s
@@ -209,17 +209,17 @@ module _ (s : Bytes) (c : Cursor) (r : Met) (told : visitIn (c .left) c s ≡ vi
             ap (λ z. onVisit z (λ v. endHere c s v ++ endsFrom n (v .next) s) []) (at-met .1) ∙ rw m
 
     -- a body that is not marked uses no type
-    pub visit-unused : (w : List ℕ) → Ahead s w c → usesIn w (c .own) ≡ false → bodyUses (c .rec + 1) (bodyIn (fieldBody (fieldOf s f)) (c .rec + 1) s here) ≡ []
+    pub visit-unused : (w : List ℕ) → Ahead s w c → usesIn w (c .own) ≡ false → bodyUses (bodyIn (fieldBody (fieldOf s f)) (c .rec + 1) s here) ≡ []
     unfolding usesIn bodyUses
     visit-unused w v e = go (fieldBody (fieldOf s f)) refl ends-are
       where
         go : (b : Option Inside) → fieldBody (fieldOf s f) ≡ b → endsFrom (c .left) c s ≡ endOf b (r .next) body ++ endsFrom (r .next .left) (r .next) s
-            → bodyUses (c .rec + 1) body ≡ []
+            → bodyUses body ≡ []
         go none d g = rw d
         go (some k) d g =
             let x = end-words w (c .own) (r .next .at) (endWord (r .next .rec) (anyUse body)) (endsFrom (r .next .left) (r .next) s ++ v .ends .rest)
             (v .ends .is ∙ ap (λ z. z ++ v .ends .rest) g) in
-            unused body (c .rec + 1) (unmarked (r .next .rec) (anyUse body) (ap (leb MARK) (sym (x .1)) ∙ e))
+            unused body (unmarked (r .next .rec) (anyUse body) (ap (leb MARK) (sym (x .1)) ∙ e))
 
     -- its body, and what is ahead of the next cursor
     sound-parts : (w : List ℕ) → Ahead s w c → (wholeField (fieldBody (fieldOf s f)) (c .rec + 1) s here ≡ true) × (sound (r .next .left) (r .next) s ≡ true)

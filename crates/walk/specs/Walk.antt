@@ -8,16 +8,15 @@ use lib.Dec.{leb}
 use lib.ListN.{length, take, drop, getD}
 use Rattle.definition.specs.Basic.{if_then_else_, any}
 use Rattle.definition.specs.Syntax as Syntax
-use Rattle.definition.specs.Syntax.{Bytes, Identifier, Space, FieldRec, field}
+use Rattle.definition.specs.Syntax.{Bytes, Identifier, Space, FieldRec, field, Body}
 use Rattle.definition.specs.Reader.{Step, got, fault}
-use Rattle.definition.specs.Instructions.{Inside, bodyRec}
+use Rattle.definition.specs.Instructions.{Inside}
 use Rattle.definition.specs.Records.{fieldRec}
 use Rattle.definition.specs.Spaces.{brings}
 use Rattle.definition.specs.Read.{fieldBody, isStart}
 use Rattle.definition.specs.Deinline.{Numbered, fieldsOf}
 use Rattle.area.specs.Layout.{MARK, STRICT, endAt}
 use Rattle.area.specs.Flags.{dataNamedIn}
-use Rattle.laws.specs.Depths.{deep, depthAfter}
 use Rattle.syntax.specs.Items.{countOf, roomOf, noneSeen}
 use Rattle.syntax.specs.declared.Seen.{Seen}
 use Rattle.reread.specs.Known.{ReadableHead}
@@ -26,7 +25,7 @@ use Rattle.syntax.specs.declared.Field.{Field}
 use Rattle.next_record.specs.Uses.{anyUse, namesData, endWord}
 use Rattle.counting.specs.Counting.{oneMore, fieldSeen}
 use Rattle.next_record.specs.Answers.{fieldDepth}
-use Rattle.instr.specs.Bodies.{onBody, bodyFrom, wholeBody}
+use Rattle.instr.specs.Bodies.{bodyFrom}
 use Rattle.walk.specs.declared.Cursor.{Cursor}
 use Rattle.walk.specs.declared.Stop.{Stop}
 use Rattle.walk.specs.declared.Met.{Met}
@@ -35,21 +34,15 @@ use Rattle.walk.specs.declared.What.the-variants as W
 
 -- ## Bodies
 
--- where the body ends
-unfoldable pub afterBody : ℕ → ℕ → ℕ → Bytes → ℕ → Stop
-afterBody zero k r s here = record { at = here; rec = r }
-afterBody (suc left) k r s here =
-    onBody (bodyRec (deep k) s here) (λ x next. afterBody left (depthAfter x k) (r + 1) s next) (λ next. record { at = next; rec = r + 1 })
-    (record { at = here; rec = r })
-
--- the body of a field that has one; `r` is the record of its first instruction
-abbrev pub bodyIn : Option Inside → ℕ → Bytes → ℕ → List (Syntax.Instr Identifier)
+-- the body of a field that has one; `r` is the number of its first record
+abbrev pub bodyIn : Option Inside → ℕ → Bytes → ℕ → Body Identifier
 bodyIn none r s here = []
-bodyIn (some i) r s here = bodyFrom (4096 - r) (length (i .blocks)) s here
+bodyIn (some i) r s here = bodyFrom (length (i .blocks)) r s here .body
 
+-- where it ends
 abbrev pub afterField : Option Inside → ℕ → Bytes → ℕ → Stop
 afterField none r s here = record { at = here; rec = r }
-afterField (some i) r s here = afterBody (4096 - r) (length (i .blocks)) r s here
+afterField (some i) r s here = record { at = bodyFrom (length (i .blocks)) r s here .at; rec = bodyFrom (length (i .blocks)) r s here .rec }
 
 abbrev pub bodies : Option Inside → ℕ
 bodies none = 0
@@ -79,10 +72,10 @@ cursorAfter c f s here =
       seen = seenWith (c .seen) f;
     }
 
--- does the body of a field that has one read to its end? `r` is the record of its first instruction
+-- does the body of a field that has one read to its end? `r` is the number of its first record
 abbrev pub wholeField : Option Inside → ℕ → Bytes → ℕ → Bool
 wholeField none r s here = true
-wholeField (some i) r s here = wholeBody (4096 - r) (length (i .blocks)) s here
+wholeField (some i) r s here = bodyFrom (length (i .blocks)) r s here .whole
 
 -- a field that was read, or none
 abbrev pub onField : {B : Type 0} → Step (FieldRec Identifier) → (FieldRec Identifier → ℕ → B) → B → B
@@ -157,8 +150,8 @@ fieldsIn s = fieldsAhead begin s
 -- ## Data segments that are named
 
 -- does the body of an own function name one?
-abbrev pub ownNames : Syntax.Own Identifier → List (Syntax.Instr Identifier) → Bool
-ownNames (Syntax.ownFunc t ls) b = any namesData b
+abbrev pub ownNames : Syntax.Own Identifier → Body Identifier → Bool
+ownNames (Syntax.ownFunc t ls) b = any (λ x. namesData (x .1)) b
 ownNames (Syntax.ownTable t) b = false
 ownNames (Syntax.ownMem l) b = false
 ownNames (Syntax.ownGlobal t c) b = false
@@ -179,7 +172,7 @@ dataNamed fs = any (λ x. fieldNames (x .1)) fs
 -- ## The ends of bodies, in the work area
 
 -- the place after a body, and the record after it with what the body may use
-abbrev pub endOf : Option Inside → Cursor → List (Syntax.Instr Identifier) → List ℕ
+abbrev pub endOf : Option Inside → Cursor → Body Identifier → List ℕ
 endOf none c b = []
 endOf (some i) c b = c .at ∷ endWord (c .rec) (anyUse b) ∷ []
 

@@ -1,49 +1,20 @@
-use Rattle.passes.proofs.Whole.{survey-long, survey-ahead, survey-recalled, survey-typed, survey-done, survey-not}
+use Rattle.passes.proofs.Whole.{declared-lent, declared-ahead, interns-on}
 use borrow.Author.Needs.{needs}
 use Rattle.passes.proofs.intern.Statement.{statement}
 use Rattle.passes.proofs.intern.Tie as tie
 
+declare-all-requires : tie.Need-declare-all-requires
+declare-all-requires c κs = search needs
+
 survey-all-requires : tie.Need-survey-all-requires
-survey-all-requires c κs = search needs
-
-enum-told : tie.Need-enum-told
-enum-told c = search needs
-
-resolve-requires : tie.Need-resolve-requires
-resolve-requires c κs = (search (survey-long, needs), search survey-ahead, search survey-recalled, search survey-typed)
-
-enum-known-q : tie.Need-enum-known-q
-enum-known-q c = search needs
-
-refuse-requires : tie.Need-refuse-requires
-refuse-requires c κs = search needs
+survey-all-requires c κs = (search declared-lent, search needs, search declared-ahead, search needs)
 
 same-length : tie.Need-same-length
 same-length c = search needs
 
-same-length-2 : tie.Need-same-length-2
-same-length-2 c = search needs
-
 returns : tie.Need-returns
-returns c = search survey-done
-
-same-length-3 : tie.Need-same-length-3
-same-length-3 c = search needs
-
-returns-2 : tie.Need-returns-2
-returns-2 c = search survey-not
+returns c = search interns-on
 
 pub intern-spec : {M : Type 1} → statement M
 intern-spec =
-    tie.close
-    (tie.spec
-    survey-all-requires
-    enum-told
-    resolve-requires
-    enum-known-q
-    refuse-requires
-    same-length
-    same-length-2
-    returns
-    same-length-3
-    returns-2)
+    tie.close (tie.spec declare-all-requires survey-all-requires same-length returns)

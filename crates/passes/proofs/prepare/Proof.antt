@@ -1,18 +1,16 @@
-use Rattle.passes.proofs.Whole.{prepare-done, prepare-not}
-use Rattle.passes.proofs.Begin.{reads-short, reads-long, reads-ahead}
-use Rattle.passes.proofs.Counted.{reads-declared}
+use Rattle.passes.proofs.Whole.{begun-ready, prepare-unread, prepare-done}
 use borrow.Author.Needs.{needs}
 use Rattle.passes.proofs.prepare.Statement.{statement}
 use Rattle.passes.proofs.prepare.Tie as tie
 
-read-all-requires : tie.Need-read-all-requires
-read-all-requires c κs = search needs
+read-requires : tie.Need-read-requires
+read-requires c κs = search needs
 
 enum-known-count : tie.Need-enum-known-count
 enum-known-count c = search needs
 
-with-strictness-requires : tie.Need-with-strictness-requires
-with-strictness-requires c κs = (search (reads-short, reads-long), search reads-ahead, search reads-declared)
+find-requires : tie.Need-find-requires
+find-requires c κs = search begun-ready
 
 enum-known-q : tie.Need-enum-known-q
 enum-known-q c = search needs
@@ -33,15 +31,15 @@ same-length-3 : tie.Need-same-length-3
 same-length-3 c = search needs
 
 returns-2 : tie.Need-returns-2
-returns-2 c = search prepare-not
+returns-2 c = search prepare-unread
 
 pub prepare-spec : {M : Type 1} → statement M
 prepare-spec =
     tie.close
     (tie.spec
-    read-all-requires
+    read-requires
     enum-known-count
-    with-strictness-requires
+    find-requires
     enum-known-q
     refuse-requires
     same-length

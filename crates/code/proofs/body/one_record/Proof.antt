@@ -1,4 +1,5 @@
-use Rattle.code.proofs.Bodies.{forms, in-low, in-place, opening-uses, calling-uses, opening-gets, elsing-gets, ending-gets, plain-gets}
+use Rattle.code.proofs.Places.{in-place, in-within}
+use Rattle.code.proofs.Bodies.{forms, folding-resolvable, opening-uses, calling-uses, opening-gets, elsing-gets, ending-gets, plain-gets}
 use borrow.Author.Needs.{needs}
 use Rattle.code.proofs.body.one_record.Statement.{statement}
 use Rattle.code.proofs.body.one_record.Tie as tie
@@ -15,47 +16,50 @@ opcode-form-requires c κs = search needs
 enum-told : tie.Need-enum-told
 enum-told c = search needs
 
-enum-told-2 : tie.Need-enum-told-2
-enum-told-2 c = search needs
-
-opens-record-requires : tie.Need-opens-record-requires
-opens-record-requires c κs = search (opening-uses, opening-gets, in-low, in-place, needs)
-
-enum-told-3 : tie.Need-enum-told-3
-enum-told-3 c = search needs
-
-closing-record-requires : tie.Need-closing-record-requires
-closing-record-requires c κs = search (elsing-gets, in-low, in-place, needs)
-
-enum-told-4 : tie.Need-enum-told-4
-enum-told-4 c = search needs
-
-closing-record-requires-2 : tie.Need-closing-record-requires-2
-closing-record-requires-2 c κs = search (ending-gets, in-low, in-place, needs)
-
-enum-told-5 : tie.Need-enum-told-5
-enum-told-5 c = search needs
-
-indirect-record-requires : tie.Need-indirect-record-requires
-indirect-record-requires c κs = search (calling-uses, in-low, in-place, needs)
-
-enum-known-what : tie.Need-enum-known-what
-enum-known-what c = search needs
-
-plain-record-requires : tie.Need-plain-record-requires
-plain-record-requires c κs = search (plain-gets, in-low, in-place, needs)
-
-enum-told-6 : tie.Need-enum-told-6
-enum-told-6 c = search needs
-
-returns : tie.Need-returns
-returns c = search (forms) depth 12
+emit-folded-requires : tie.Need-emit-folded-requires
+emit-folded-requires c κs = search (folding-resolvable, in-within, needs)
 
 same-length : tie.Need-same-length
 same-length c = search needs
 
 same-length-2 : tie.Need-same-length-2
 same-length-2 c = search needs
+
+returns : tie.Need-returns
+returns c = search (forms) depth 12
+
+enum-told-2 : tie.Need-enum-told-2
+enum-told-2 c = search needs
+
+opens-record-requires : tie.Need-opens-record-requires
+opens-record-requires c κs = search (opening-uses, opening-gets, in-place, needs)
+
+enum-told-3 : tie.Need-enum-told-3
+enum-told-3 c = search needs
+
+closing-record-requires : tie.Need-closing-record-requires
+closing-record-requires c κs = search (elsing-gets, in-place, needs)
+
+enum-told-4 : tie.Need-enum-told-4
+enum-told-4 c = search needs
+
+closing-record-requires-2 : tie.Need-closing-record-requires-2
+closing-record-requires-2 c κs = search (ending-gets, in-place, needs)
+
+enum-told-5 : tie.Need-enum-told-5
+enum-told-5 c = search needs
+
+indirect-record-requires : tie.Need-indirect-record-requires
+indirect-record-requires c κs = search (calling-uses, in-place, needs)
+
+enum-known-what : tie.Need-enum-known-what
+enum-known-what c = search needs
+
+plain-record-requires : tie.Need-plain-record-requires
+plain-record-requires c κs = search (plain-gets, in-place, needs)
+
+enum-told-6 : tie.Need-enum-told-6
+enum-told-6 c = search needs
 
 returns-2 : tie.Need-returns-2
 returns-2 c = search (forms) depth 12
@@ -96,8 +100,17 @@ same-length-10 c = search needs
 returns-6 : tie.Need-returns-6
 returns-6 c = search (forms) depth 12
 
+same-length-11 : tie.Need-same-length-11
+same-length-11 c = search needs
+
+same-length-12 : tie.Need-same-length-12
+same-length-12 c = search needs
+
 returns-7 : tie.Need-returns-7
 returns-7 c = search (forms) depth 12
+
+returns-8 : tie.Need-returns-8
+returns-8 c = search (forms) depth 12
 
 pub one-record-spec : {M : Type 1} → statement M
 one-record-spec =
@@ -107,6 +120,10 @@ one-record-spec =
     enum-known-b
     opcode-form-requires
     enum-told
+    emit-folded-requires
+    same-length
+    same-length-2
+    returns
     enum-told-2
     opens-record-requires
     enum-told-3
@@ -118,9 +135,6 @@ one-record-spec =
     enum-known-what
     plain-record-requires
     enum-told-6
-    returns
-    same-length
-    same-length-2
     returns-2
     same-length-3
     same-length-4
@@ -134,4 +148,7 @@ one-record-spec =
     same-length-9
     same-length-10
     returns-6
-    returns-7)
+    same-length-11
+    same-length-12
+    returns-7
+    returns-8)

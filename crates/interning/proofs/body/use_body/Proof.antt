@@ -1,6 +1,6 @@
 use borrow.Author.Needs.{needs}
 use Prim.Native.Nat.{_-_}
-use Rattle.interning.proofs.Bodies.{Going, body-begin, body-again, bodies-over, read-nests}
+use Rattle.interning.proofs.Bodies.{Going, body-begin, body-again, fold-again, fold-less, bodies-over, read-nests}
 use Rattle.interning.proofs.body.use_body.Statement.{statement}
 use Rattle.interning.proofs.body.use_body.Tie as tie
 
@@ -49,6 +49,21 @@ loop-again c = search body-again
 enum-told : tie.Need-enum-told Inv-loop μ-loop
 enum-told c = search needs
 
+use-folded-requires : tie.Need-use-folded-requires Inv-loop μ-loop
+use-folded-requires c κs = search needs
+
+enum-known-m-2 : tie.Need-enum-known-m-2 Inv-loop μ-loop
+enum-known-m-2 c = search needs
+
+loop-less-2 : tie.Need-loop-less-2 Inv-loop μ-loop
+loop-less-2 c = search fold-less
+
+loop-again-2 : tie.Need-loop-again-2 Inv-loop μ-loop
+loop-again-2 c = search fold-again
+
+enum-known-q-2 : tie.Need-enum-known-q-2 Inv-loop μ-loop
+enum-known-q-2 c = search needs
+
 same-length-2 : tie.Need-same-length-2 Inv-loop μ-loop
 same-length-2 c = search needs
 
@@ -64,11 +79,20 @@ same-length-3 c = search needs
 returns-3 : tie.Need-returns-3 Inv-loop μ-loop
 returns-3 c = search bodies-over
 
+enum-told-3 : tie.Need-enum-told-3 Inv-loop μ-loop
+enum-told-3 c = search needs
+
 same-length-4 : tie.Need-same-length-4 Inv-loop μ-loop
 same-length-4 c = search needs
 
 returns-4 : tie.Need-returns-4 Inv-loop μ-loop
 returns-4 c = search bodies-over
+
+same-length-5 : tie.Need-same-length-5 Inv-loop μ-loop
+same-length-5 c = search needs
+
+returns-5 : tie.Need-returns-5 Inv-loop μ-loop
+returns-5 c = search bodies-over
 
 pub use-body-spec : {M : Type 1} → statement M
 use-body-spec =
@@ -89,10 +113,18 @@ use-body-spec =
     loop-less
     loop-again
     enum-told
+    use-folded-requires
+    enum-known-m-2
+    loop-less-2
+    loop-again-2
+    enum-known-q-2
     same-length-2
     returns-2
     enum-told-2
     same-length-3
     returns-3
+    enum-told-3
     same-length-4
-    returns-4)
+    returns-4
+    same-length-5
+    returns-5)

@@ -6,6 +6,9 @@ use Rattle.module.proofs.length.module_len.Tie as tie
 word-requires : tie.Need-word-requires
 word-requires c κs = search needs
 
+cast-size : tie.Need-cast-size
+cast-size c = search needs
+
 types-len-requires : tie.Need-types-len-requires
 types-len-requires c κs = search needs
 
@@ -32,6 +35,7 @@ module-len-spec =
     tie.close
     (tie.spec
     word-requires
+    cast-size
     types-len-requires
     tally-requires
     sections-len-requires

@@ -9,8 +9,8 @@ opcode-form-requires c κs = search needs
 enum-told : tie.Need-enum-told
 enum-told c = search needs
 
-refused-requires : tie.Need-refused-requires
-refused-requires c κs = search needs
+folded-requires : tie.Need-folded-requires
+folded-requires c κs = search needs
 
 enum-told-2 : tie.Need-enum-told-2
 enum-told-2 c = search needs
@@ -54,29 +54,29 @@ on-requires c κs = search needs
 enum-known-n : tie.Need-enum-known-n
 enum-known-n c = search needs
 
-refused-requires-2 : tie.Need-refused-requires-2
-refused-requires-2 c κs = search needs
+refused-requires : tie.Need-refused-requires
+refused-requires c κs = search needs
 
 returns : tie.Need-returns
-returns c = search forms-passed depth 8
+returns c = search (forms-passed) depth 8
 
 returns-2 : tie.Need-returns-2
-returns-2 c = search forms-passed depth 8
+returns-2 c = search (forms-passed) depth 8
 
 returns-3 : tie.Need-returns-3
-returns-3 c = search forms-passed depth 8
+returns-3 c = search (forms-passed) depth 8
 
 returns-4 : tie.Need-returns-4
-returns-4 c = search forms-passed depth 8
+returns-4 c = search (forms-passed) depth 8
 
 returns-5 : tie.Need-returns-5
-returns-5 c = search forms-passed depth 8
+returns-5 c = search (forms-passed) depth 8
 
 returns-6 : tie.Need-returns-6
-returns-6 c = search forms-passed depth 8
+returns-6 c = search (forms-passed) depth 8
 
 returns-7 : tie.Need-returns-7
-returns-7 c = search forms-passed depth 8
+returns-7 c = search (forms-passed) depth 8
 
 pub pass-instr-spec : {M : Type 1} → statement M
 pass-instr-spec =
@@ -84,7 +84,7 @@ pass-instr-spec =
     (tie.spec
     opcode-form-requires
     enum-told
-    refused-requires
+    folded-requires
     enum-told-2
     opens-requires
     enum-told-3
@@ -99,7 +99,7 @@ pass-instr-spec =
     plain-inside-requires
     on-requires
     enum-known-n
-    refused-requires-2
+    refused-requires
     returns
     returns-2
     returns-3

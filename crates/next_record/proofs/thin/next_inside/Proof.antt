@@ -34,8 +34,8 @@ use denote.Triple.Table.{entered, cited}
 use denote.Triple.Walked.{says, needs, Stays, stay-none, stay-none-slice, walkOf, goes-none, goes-none-slice, Walks, ends-at, walked, walk-meets}
 use denote.Exit.{yes}
 use denote.Triple.Clauses.{ensured}
-use Rattle.next_record.specs.Places.{bodyRecordAt}
-use Rattle.next_record.specs.Answers.{keptAt, insideAnswer}
+use Rattle.next_record.specs.Folds.{turnAt}
+use Rattle.next_record.specs.Answers.{insideAnswer}
 use Rattle.syntax.specs.declared.Place.{Place}
 use Rattle.next_record.specs.declared.marks.Innermost.{Innermost}
 use Rattle.next_record.specs.Marks.{markOf}
@@ -134,7 +134,7 @@ module _ {M : Type 1} (𝓤 : URA M) (H : Heap 𝓤) (A : Atoms 𝓤) (W : Given
   Post = walkOf 𝓤 H A self.ended stayed (self.clauses 𝓤 H A at-mem run) .post (((κ, tt), (q, tt), tt, x, at), tt)
 
   abbrev Says : Inside → Place → Type 0
-  Says w p = keptAt (bodyRecordAt h (markOf n) (now s)) ≡ insideAnswer w p
+  Says w p = turnAt h (markOf n) (now s) ≡ insideAnswer w p
 
   exits : (w : Inside) (p : Place) → Says w p → Is Y.the-row (record { what = w; place = p }) (Y′.lowered (record { what = w; place = p }) ∷ [])
       → ent 𝓤 (⋆ 𝓤 H A (‵ (flft κ q) ∷ ‵ (Stream 𝓤 H A W κ κ q q s) ∷ [])) (Post (Y′.lowered (record { what = w; place = p })))

@@ -35,8 +35,8 @@ use denote.Triple.Table.{entered, cited}
 use denote.Triple.Walked.{says, needs, Stays, stay-none, stay-none-slice, stay-ref, walkOf, goes-none, goes-none-slice, goes-ref, Walks, ends-at, walked, walk-meets}
 use denote.Exit.{yes}
 use denote.Triple.Clauses.{ensured, lasts}
-use Rattle.next_record.specs.Places.{bodyRecordAt}
-use Rattle.next_record.specs.Answers.{keptAt, insideAnswer}
+use Rattle.next_record.specs.Folds.{turnAt}
+use Rattle.next_record.specs.Answers.{insideAnswer}
 use Rattle.syntax.specs.declared.Place.{Place}
 use Rattle.next_record.specs.declared.marks.Innermost.{Innermost}
 use Rattle.next_record.specs.Marks.{markOf}
@@ -122,7 +122,7 @@ module _ {M : Type 1} (𝓤 : URA M) (H : Heap 𝓤) (A : Atoms 𝓤) (W : Given
   Post = walkOf 𝓤 H A self.ended stayed (self.clauses 𝓤 H A at-mem run) .post (((κ, (κ′, tt)), (q, (q′, tt)), bounds, x, at), tt)
 
   abbrev Says : Inside → Place → Type 0
-  Says w p = keptAt (bodyRecordAt h (markOf n) (now s)) ≡ insideAnswer w p
+  Says w p = turnAt h (markOf n) (now s) ≡ insideAnswer w p
 
   abbrev to : Callee 𝓤 H A at-mem run .Ghost
   to = (((κ, tt), (q, tt), tt, (s, (h, (n, tt))), (val ∷ [], (low h ∷ [], (num ∷ [], tt)))), tt)

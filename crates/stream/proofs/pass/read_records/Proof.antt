@@ -1,5 +1,5 @@
 use Prim.Native.Nat.{_-_}
-use Rattle.stream.proofs.Loop.{Going, begin, walk-ends, walk-refused, full-walk, less-field, again-field, refused-field, less-on, on-first, on-second, less-data, again-data, less-opens, opens-first, opens-second, less-elses, again-elses, less-ends, again-ends, end-fits, end-few, ended-fits, less-end, again-end, refused-instr}
+use Rattle.stream.proofs.Loop.{Going, begin, walk-ends, walk-refused, full-walk, less-field, again-field, refused-field, less-on, on-first, on-second, less-data, again-data, less-opens, opens-first, opens-second, less-elses, again-elses, less-ends, again-ends, less-folded, again-folded, end-fits, end-few, ended-fits, less-end, again-end, refused-instr}
 use borrow.Author.Needs.{needs}
 use Rattle.stream.proofs.pass.read_records.Statement.{statement}
 use Rattle.stream.proofs.pass.read_records.Tie as tie
@@ -139,6 +139,21 @@ loop-less-8 c = search less-ends
 loop-again-8 : tie.Need-loop-again-8 Inv-loop μ-loop
 loop-again-8 c = search again-ends
 
+enum-known-what-5 : tie.Need-enum-known-what-5 Inv-loop μ-loop
+enum-known-what-5 c = search needs
+
+either-requires : tie.Need-either-requires Inv-loop μ-loop
+either-requires c κs = search needs
+
+either-requires-2 : tie.Need-either-requires-2 Inv-loop μ-loop
+either-requires-2 c κs = search needs
+
+loop-less-9 : tie.Need-loop-less-9 Inv-loop μ-loop
+loop-less-9 c = search less-folded
+
+loop-again-9 : tie.Need-loop-again-9 Inv-loop μ-loop
+loop-again-9 c = search again-folded
+
 enum-told-4 : tie.Need-enum-told-4 Inv-loop μ-loop
 enum-told-4 c = search needs
 
@@ -148,14 +163,14 @@ put-end-requires c κs = (search needs, search end-fits, search end-few)
 add-ended : tie.Need-add-ended Inv-loop μ-loop
 add-ended c = search ended-fits
 
-loop-less-9 : tie.Need-loop-less-9 Inv-loop μ-loop
-loop-less-9 c = search less-end
+loop-less-10 : tie.Need-loop-less-10 Inv-loop μ-loop
+loop-less-10 c = search less-end
 
-loop-again-9 : tie.Need-loop-again-9 Inv-loop μ-loop
-loop-again-9 c = search again-end
+loop-again-10 : tie.Need-loop-again-10 Inv-loop μ-loop
+loop-again-10 c = search again-end
 
-enum-known-what-5 : tie.Need-enum-known-what-5 Inv-loop μ-loop
-enum-known-what-5 c = search needs
+enum-known-what-6 : tie.Need-enum-known-what-6 Inv-loop μ-loop
+enum-known-what-6 c = search needs
 
 refused-requires-3 : tie.Need-refused-requires-3 Inv-loop μ-loop
 refused-requires-3 c κs = search needs
@@ -215,12 +230,17 @@ read-records-spec =
     without-block-requires
     loop-less-8
     loop-again-8
+    enum-known-what-5
+    either-requires
+    either-requires-2
+    loop-less-9
+    loop-again-9
     enum-told-4
     put-end-requires
     add-ended
-    loop-less-9
-    loop-again-9
-    enum-known-what-5
+    loop-less-10
+    loop-again-10
+    enum-known-what-6
     refused-requires-3
     same-length-4
     returns-4)

@@ -1,0 +1,141 @@
+// Folded records: the operands of each are resolved and written before its operator.
+use plain::Turn;
+use scope::Locals;
+use syntax::ByteAt;
+use syntax::Folding;
+use syntax::Form;
+use syntax::Place;
+ghost use Prim.Native.Nat.{_+_, _-_, _≤_};
+ghost use lib.ListN.{length};
+ghost use Rattle.area.specs.Layout.{WORDS};
+ghost use Rattle.definition.specs.Instructions as Instructions;
+ghost use Rattle.token.specs.Known.{Gets};
+ghost use Rattle.type_table.specs.Table.{typesIn, Recalled};
+ghost use Rattle.instr.specs.Bodies.{operandsBy, treeAt};
+ghost use Rattle.scope.specs.Scope.{localsIn, FewLocals};
+ghost use Rattle.plain.specs.Turns.{InBody, recordOf, readUses, Turned};
+ghost use Rattle.code.specs.Body.{Within, Resolvable, StretchTurned, OperatorTurned};
+
+// The operator of a folded record, which stands at `p`. It opens and closes no block.
+fn operator_record(s: &[u8], work: &[u32], out: &mut [u8], at: usize, p: Place, l: Locals) -> Turn
+    requires { ⌜ (WORDS ≤ length (now work)) × FewLocals l × InBody p × Recalled (now work) (typesIn (now s) (now work)) (readUses (p .rec) (Instructions.operator (now s) (p .at))) × Gets (Instructions.operator (now s) (p .at)) ⌝ }
+    ensures { λ r. ⌜ Turned (now (s .entry)) (now (work .entry)) (localsIn (now (s .entry)) (now (work .entry)) l) (p .depth - 1) (p .rec) (recordOf (Instructions.operator (now (s .entry)) (p .at))) (now (out .entry)) at r (now (work .entry)) (now (out .exit)) ⌝ }
+{
+    match token::read_byte(s, p.at) {
+        ByteAt::Got(b, a) => {
+            let q = Place {
+                at: a,
+                rec: p.rec,
+                depth: p.depth,
+            };
+            match instr::opcode_form(b) {
+                Form::Calling => crate::block::indirect_record(s, work, out, at, q),
+                Form::Operands(what) => plain::plain_record(s, work, out, at, q, l, b, what),
+                Form::NoOpcode => Turn::Done,
+                Form::Opening => Turn::Done,
+                Form::Elsing => Turn::Done,
+                Form::Ending => Turn::Done,
+            }
+        }
+        ByteAt::Fault(_) => Turn::Done,
+    }
+}
+
+// The same where this came of its operands: it is written after them, and the place is the one after them.
+fn operator_last(
+    s: &[u8],
+    work: &[u32],
+    out: &mut [u8],
+    held: Turn,
+    p: Place,
+    l: Locals,
+    here: usize,
+) -> Turn
+    requires { ⌜ (WORDS ≤ length (now work)) × FewLocals l × InBody p × Recalled (now work) (typesIn (now s) (now work)) (readUses (p .rec) (Instructions.operator (now s) here)) × Gets (Instructions.operator (now s) here) ⌝ }
+    ensures { λ r. ⌜ OperatorTurned (now (s .entry)) (now (work .entry)) l p here held (now (out .entry)) r (now (out .exit)) ⌝ }
+{
+    match held {
+        Turn::On(at, end) => {
+            let q = Place {
+                at: here,
+                rec: p.rec,
+                depth: p.depth,
+            };
+            match operator_record(s, work, out, at, q, l) {
+                Turn::On(o, _) => Turn::On(o, end),
+                Turn::Done => Turn::Done,
+                Turn::Refused(r) => Turn::Refused(r),
+            }
+        }
+        Turn::Done => Turn::Done,
+        Turn::Refused(r) => Turn::Refused(r),
+    }
+}
+
+// A folded record at `p`, in which so many are nested at most, itself included: its operands and then its operator, at its own record.
+pub fn emit_folded(
+    s: &[u8],
+    work: &[u32],
+    out: &mut [u8],
+    at: usize,
+    p: Place,
+    l: Locals,
+    left: u32,
+) -> Turn
+    requires { ⌜ (WORDS ≤ length (now work)) × FewLocals l × Within p × Resolvable (now s) (now work) (treeAt left (now s) (p .rec) (p .at)) ⌝ }
+    ensures { λ r. ⌜ StretchTurned (now (s .entry)) (now (work .entry)) l (p .depth) (treeAt left (now (s .entry)) (p .rec) (p .at)) (now (out .entry)) at r (now (out .exit)) ⌝ }
+{
+    if left < 1 {
+        return Turn::Done;
+    }
+    if 4096 <= p.rec {
+        return Turn::Done;
+    }
+    match instr::pass_folded(s, p.at) {
+        Folding::Parts(a, n, next) => {
+            let held = emit_operands(s, work, out, at, p, l, left - 1, next, n);
+            operator_last(s, work, out, held, p, l, a)
+        }
+        Folding::Unread => Turn::Done,
+    }
+}
+
+// So many operands of the folded record at `p`, which stand from `next` on, from left to right; in each so many folded records are nested at most.
+fn emit_operands(
+    s: &[u8],
+    work: &[u32],
+    out: &mut [u8],
+    at: usize,
+    p: Place,
+    l: Locals,
+    left: u32,
+    next: usize,
+    n: u32,
+) -> Turn
+    requires { ⌜ (WORDS ≤ length (now work)) × FewLocals l × InBody p × Resolvable (now s) (now work) (operandsBy (treeAt left (now s)) n (p .rec + 1) next) ⌝ }
+    ensures { λ r. ⌜ StretchTurned (now (s .entry)) (now (work .entry)) l (p .depth) (operandsBy (treeAt left (now (s .entry))) n (p .rec + 1) next) (now (out .entry)) at r (now (out .exit)) ⌝ }
+{
+    let mut o = at;
+    let mut q = Place {
+        at: next,
+        rec: p.rec + 1,
+        depth: p.depth,
+    };
+    let mut due = n;
+    while 0 < due {
+        match emit_folded(s, work, out, o, q, l, left) {
+            Turn::On(b, end) => {
+                o = b;
+                q = end;
+            }
+            Turn::Done => {
+                return Turn::Done;
+            }
+            Turn::Refused(r) => {
+                return Turn::Refused(r);
+            }
+        }
+        due -= 1;
+    }
+    Turn::On(o, q)
+}

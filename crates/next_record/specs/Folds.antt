@@ -1,0 +1,103 @@
+-- Folded records in the reading pass: one is read with all its operands.
+use Prim.Native.Nat.{ℕ, zero, suc, _-_}
+use mathlib.Core.Bool.{Bool, true, false, _||_}
+use lib.Dec.{eqb, leb}
+use lib.ListN.{getD}
+use Rattle.definition.specs.Basic.{if_then_else_, Answer, ok, refused}
+use Rattle.definition.specs.Syntax.{Bytes, Identifier, Instr, Rec, field, instr, folded, bodyEnd}
+use Rattle.definition.specs.Reader.{Step, got, fault, byte}
+use Rattle.definition.specs.Instructions.{Operands, formOf, formed, fold}
+use Rattle.syntax.specs.Marks.{insideOf}
+use Rattle.syntax.specs.declared.Marks.{Marks}
+use Rattle.syntax.specs.declared.Place.{Place}
+use Rattle.next_record.specs.Uses.{mayUse, namesData, sortNames}
+use Rattle.next_record.specs.Places.{recordPast, bodyRecordAt}
+use Rattle.next_record.specs.Answers.{Kept, some-folded, keptAt, keptInstr}
+use Rattle.next_record.specs.declared.record.Does.{Does}
+use Rattle.next_record.specs.declared.fold.Fold.{Fold}
+use Rattle.next_record.specs.declared.fold.Fold.the-variants as L
+use Rattle.next_record.specs.declared.fold.HeadAt.{HeadAt}
+use Rattle.next_record.specs.declared.fold.HeadAt.the-variants as H
+use Rattle.next_record.specs.declared.fold.OperatorAt.{OperatorAt}
+use Rattle.next_record.specs.declared.fold.OperatorAt.the-variants as O
+
+-- ## What instructions do
+
+unfoldable pub doesOf : Instr Identifier → Does
+doesOf x = record { uses = mayUse x; names = namesData x }
+
+abbrev pub noneDo : Does
+noneDo = record { uses = false; names = false }
+
+unfoldable pub bothDo : Does → Does → Does
+bothDo a b = record { uses = a .uses || b .uses; names = a .names || b .names }
+
+-- by the sort of the operands and the byte after the opcode
+unfoldable pub plainDoes : Operands → ℕ → Does
+plainDoes w b = record { uses = false; names = sortNames w b }
+
+abbrev pub operatorDoes : Step (Instr Identifier) → OperatorAt
+operatorDoes (got x next) = O.Past (doesOf x) next
+operatorDoes (fault n) = O.Fault n
+
+-- what stands after F0
+abbrev pub headOf : Step (Rec Identifier) → HeadAt
+headOf (got (folded x n) next) = H.Got (doesOf x) n next
+headOf (got (field f) next) = H.Fault 0
+headOf (got (instr x) next) = H.Fault 0
+headOf (got bodyEnd next) = H.Fault 0
+headOf (fault n) = H.Fault n
+
+unfoldable pub headAt : Bytes → ℕ → HeadAt
+headAt s at = headOf (fold s at)
+
+-- ## A folded record and its operands
+
+abbrev pub onHead : HeadAt → (Does → ℕ → ℕ → Fold) → (ℕ → Fold) → Fold
+onHead (H.Got d n next) f g = f d n next
+onHead (H.Fault n) f g = g n
+
+abbrev pub onFold : Fold → (Does → Place → Fold) → Fold
+onFold (L.Past d p) f = f d p
+onFold (L.Refused n p) f = L.Refused n p
+
+abbrev pub onByte : Step ℕ → (ℕ → ℕ → Fold) → (ℕ → Fold) → Fold
+onByte (got b next) f g = f b next
+onByte (fault n) f g = g n
+
+-- so many operands from a place on, each by `f`
+unfoldable pub operandsBy : (Does → Place → Fold) → ℕ → Does → Place → Fold
+operandsBy f zero does p = L.Past does p
+operandsBy f (suc n) does p = onFold (f does p) (λ d q. operandsBy f n d q)
+
+-- F0, where there may be one record more, and what stands after it by `f`
+unfoldable pub afterF0 : (ℕ → Fold) → Bytes → Place → Fold
+afterF0 f s p =
+    onByte (byte s (p .at))
+    (λ b a. if eqb b 0xF0 then (if leb 4096 (p .rec) then L.Refused 7 p else f a) else L.Refused 4 p)
+    (λ n. L.Refused n p)
+
+-- a folded record in which so many may be nested, itself included, and all its operands
+unfoldable pub foldedAt : ℕ → Bytes → Does → Place → Fold
+foldedAt zero s does p = afterF0 (λ a. L.Refused 7 p) s p
+foldedAt (suc left) s does p =
+    afterF0
+    (λ a. onHead (headAt s a) (λ d n next. operandsBy (foldedAt left s) n (bothDo does d) (recordPast p next (p .depth))) (λ n. L.Refused n p)) s p
+
+-- ## A turn of the pass
+
+abbrev pub keptFold : Fold → Answer Kept × Place
+keptFold (L.Past d p) = (ok (some-folded d), p)
+keptFold (L.Refused n p) = (refused n (p .rec), p)
+
+-- a byte that is no opcode
+unfoldable pub foldedTurn : Place → ℕ → Bytes → Answer Kept × Place
+foldedTurn p b s = if eqb b 0xF0 then keptFold (foldedAt 32 s noneDo p) else (refused 4 (p .rec), p)
+
+-- what stands after an opcode, or after F0
+unfoldable pub instrTurn : Place → Marks → ℕ → Bytes → ℕ → Answer Kept × Place
+instrTurn p m b s at = if eqb b 0xF0 then keptFold (foldedAt 32 s noneDo p) else keptInstr p (formed (insideOf (p .depth - 1) m) b (formOf b) s at)
+
+-- a record of a body, and of a folded one all
+unfoldable pub turnAt : Place → Marks → Bytes → Answer Kept × Place
+turnAt p m s = if eqb (getD s (p .at) 0) 0xF0 then keptFold (foldedAt 32 s noneDo p) else keptAt (bodyRecordAt p m s)

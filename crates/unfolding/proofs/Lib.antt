@@ -1,0 +1,13 @@
+pub mod Examples
+pub mod FlatFields
+pub mod FlatLaws
+pub mod FlatOrder
+pub mod FlatRead
+pub mod Local
+pub mod LocalReaders
+pub mod NextRecord
+pub mod Numbers
+pub mod Operators
+pub mod SameFields
+pub mod Unfolding
+pub mod Walk
