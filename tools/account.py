@@ -3,10 +3,10 @@
 
 usage: account.py < STREAM
 
-A record is said in the standard's text notation (chapter 6). Only the bytes
-are read, so the account says what is there and not what was meant. A stream
-that the reading rules refuse is shown up to the record at fault, with the
-refusal (docs/REFUSALS.md).
+A record is said in the standard's text notation (chapter 6); operands of a folded
+record are indented, and the last one closes its bracket. Only the bytes are read,
+so the account says what is there and not what was meant. A stream that the reading
+rules refuse is shown up to the record at fault, with the refusal (docs/REFUSALS.md).
 """
 import struct
 import sys
@@ -117,6 +117,7 @@ class Teller(model.Parser):
     """Reads one record and says it."""
 
     opens_body = False
+    operand_count = None                # of a folded record
 
     def tell_field(self):
         """A field record; of an own function, its head."""
@@ -167,11 +168,19 @@ class Teller(model.Parser):
             return bracket(start, bracket(constant(*self.constant())))
         return bracket(start)
 
-    def tell_instruction(self):
-        """A record of a body."""
-        opcode = self.byte()
-        if opcode == BODY_END:
+    def tell_in_body(self):
+        """A record of a body; of a folded one, its operator."""
+        first = self.byte()
+        if first == BODY_END:
             return ')'
+        if first != model.FOLDED:
+            return self.tell_instruction(first)
+        operator = self.tell_instruction(self.byte())
+        self.operand_count = self.number()
+        return operator
+
+    def tell_instruction(self, opcode):
+        """An instruction with what stands after its opcode."""
         given = self.operands(opcode)
         if opcode == model.BULK:
             return bulk(*given)
@@ -190,6 +199,24 @@ class Teller(model.Parser):
         return joined(name, HEAP_TYPES[given] if opcode == 0xD0 else word(given))
 
 
+class Tree:
+    """The folded records that wait for operands, by how many each waits for."""
+
+    def __init__(self):
+        self.due = []
+
+    def tell(self, operator, count):
+        """A folded record among the others, with the brackets that it closes."""
+        text = '  ' * len(self.due) + '(' + operator
+        self.due.append(count)
+        while self.due and self.due[-1] == 0:
+            text += ')'
+            self.due.pop()
+            if self.due:
+                self.due[-1] -= 1
+        return text
+
+
 def told(stream):
     """For each record its offset, its bytes and what it says. At a reading
     fault the last is the refusal, beside the first bytes of what is left."""
@@ -197,10 +224,12 @@ def told(stream):
     whole = answer[1] if answer[0] == 'ok' else answer[2]
     at = 0
     in_body = False
+    tree = Tree()
     for stop in record_starts(stream)[1:whole + 1]:
         record = stream[at:stop]
         teller = Teller(record)
-        yield at, record, teller.tell_instruction() if in_body else teller.tell_field()
+        said = teller.tell_in_body() if in_body else teller.tell_field()
+        yield at, record, said if teller.operand_count is None else tree.tell(said, teller.operand_count)
         in_body = record[0] != BODY_END if in_body else teller.opens_body
         at = stop
     if answer[0] == 'refused':

@@ -3,6 +3,7 @@
 //!   bench JOB [ROUNDS]              all rivals agree on all inputs; ns per byte of each
 //!   bench JOB --batch plain|proved  reads streams in the batch form (tools/models/batch.rs),
 //!                                   and prints a line for each
+//!   bench folding [ROUNDS]          the call on streams, and on the same ones with bodies folded
 //!   bench morning [ROUNDS]          document 02's morning run: microseconds for a stream of each
 //!   bench --streams SIZE            the streams of a size in that form, for oracle --time
 //!
@@ -13,6 +14,7 @@
 //! between calls.
 #[path = "../../tools/models/batch.rs"]
 mod batch;
+mod folding;
 mod morning;
 mod plain;
 #[cfg(feature = "proved")]
@@ -139,6 +141,36 @@ fn measure(rivals: &mut Rivals, rounds: usize) {
     }
 }
 
+/// Flat streams beside the same ones folded, in turn. Both give the same modules.
+fn measure_folding(rivals: &mut Rivals, rounds: usize) {
+    for size in SIZES {
+        let flat = streams(size);
+        let folded: Vec<Vec<u8>> = (1..).zip(&flat).map(|(seed, stream)| folding::folded(stream, seed)).collect();
+        for (_, rival) in rivals.iter_mut() {
+            for (flat, folded) in flat.iter().zip(&folded) {
+                assert!(line(&mut **rival, flat) == line(&mut **rival, folded), "a folded stream differs");
+            }
+        }
+        let mut best = vec![[vec![Duration::MAX; flat.len()], vec![Duration::MAX; flat.len()]]; rivals.len()];
+        for _ in 0..rounds {
+            for ((_, rival), [of_flat, of_folded]) in rivals.iter_mut().zip(&mut best) {
+                round(&mut **rival, &flat, of_flat);
+                round(&mut **rival, &folded, of_folded);
+            }
+        }
+        let bytes = |streams: &[Vec<u8>]| streams.iter().map(Vec::len).sum::<usize>();
+        print!("{size:6} bytes, folded {:6}", bytes(&folded) / folded.len());
+        for ((name, _), [of_flat, of_folded]) in rivals.iter().zip(&best) {
+            let time = |best: &[Duration], streams: &[Vec<u8>]| {
+                best.iter().sum::<Duration>().as_nanos() as f64 / bytes(streams) as f64
+            };
+            let (flat, folded) = (time(of_flat, &flat), time(of_folded, &folded));
+            print!(", {name} {flat:.2} and {folded:.2} ns/byte, folded over flat {:.2}", folded / flat);
+        }
+        println!();
+    }
+}
+
 /// The morning run: all rivals give the same modules; of each stream the best
 /// round counts.
 fn measure_morning(rivals: &mut Rivals, rounds: usize) {
@@ -169,7 +201,8 @@ fn measure_morning(rivals: &mut Rivals, rounds: usize) {
 }
 
 fn usage() -> ! {
-    eprintln!("usage: bench reading|assembling [ROUNDS | --batch plain|proved], bench morning [ROUNDS], or bench --streams SIZE");
+    eprintln!("usage: bench reading|assembling [ROUNDS | --batch plain|proved], bench folding|morning [ROUNDS],");
+    eprintln!("    or bench --streams SIZE");
     eprintln!("`proved` needs the feature of that name");
     std::process::exit(2);
 }
@@ -188,6 +221,8 @@ fn main() -> std::io::Result<()> {
             Some((_, rival)) => return answer(&mut **rival),
             None => usage(),
         },
+        [] if *job == "folding" => measure_folding(&mut rivals, ROUNDS),
+        [rounds] if *job == "folding" => measure_folding(&mut rivals, rounds.parse().unwrap_or_else(|_| usage())),
         [] if *job == "morning" => measure_morning(&mut rivals, MORNINGS),
         [rounds] if *job == "morning" => measure_morning(&mut rivals, rounds.parse().unwrap_or_else(|_| usage())),
         [] => measure(&mut rivals, ROUNDS),

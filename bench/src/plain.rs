@@ -21,7 +21,7 @@ pub fn assemble(stream: &[u8], room: usize) -> Answer {
     assembler.intern(&fields)?;
     assembler.register(&fields)?;
     for field in &fields {
-        assembler.put_field(field).map_err(|(number, after)| (number, field.record + after))?;
+        assembler.put_field(field)?;
     }
     let module = assembler.module();
     if module.len() > room {
@@ -92,9 +92,6 @@ struct Section {
     bytes: Vec<u8>,
 }
 
-/// A refusal's number, and how many records after its field's it stands.
-type After<T> = Result<T, (u32, u32)>;
-
 struct Assembler<'a> {
     types: Vec<Signature>,
     /// Each signature's first number.
@@ -130,8 +127,9 @@ impl<'a> Assembler<'a> {
                 FieldKind::Import(_, Description::Function(type_use)) => self.see(type_use, field.record)?,
                 FieldKind::Function(function) => {
                     self.see(&function.type_use, field.record)?;
-                    for (record, instruction) in (field.record + 1..).zip(&function.body) {
-                        match &instruction.operands {
+                    for Instruction { record, operands, .. } in &function.body {
+                        let record = *record;
+                        match operands {
                             Operands::Block(_, type_use) if !type_use.is_short() => self.see(type_use, record)?,
                             Operands::CallIndirect(_, type_use) => self.see(type_use, record)?,
                             _ => {}
@@ -245,12 +243,12 @@ impl<'a> Assembler<'a> {
         &mut section.bytes
     }
 
-    fn put_field(&mut self, field: &Field<'a>) -> After<()> {
-        let at_field = |number| (number, 0);
+    fn put_field(&mut self, field: &Field<'a>) -> Result<(), Refusal> {
+        let at_field = |number| (number, field.record);
         match &field.kind {
             FieldKind::Type(_) => Ok(()),
             FieldKind::Import(strings, description) => self.put_import(strings, description).map_err(at_field),
-            FieldKind::Function(function) => self.put_function(function),
+            FieldKind::Function(function) => self.put_function(function, field.record),
             FieldKind::Table(element, limits) => {
                 let out = self.entry(4);
                 out.push(*element);
@@ -391,21 +389,21 @@ impl<'a> Assembler<'a> {
         Ok(())
     }
 
-    fn put_function(&mut self, function: &Function<'a>) -> After<()> {
-        let at_field = |number| (number, 0);
+    fn put_function(&mut self, function: &Function<'a>, record: u32) -> Result<(), Refusal> {
+        let at_field = |number| (number, record);
         let number = self.type_number(&function.type_use).map_err(at_field)?;
         let locals = self.locals(function, number).map_err(at_field)?;
         let mut code = Vec::new();
         put_locals(&mut code, &function.locals);
-        let mut body = Body { assembler: self, locals, labels: Vec::new() };
-        for (after, instruction) in (1..).zip(&function.body) {
-            body.put(&mut code, instruction).map_err(|number| (number, after))?;
+        let mut body = Body { assembler: self, locals, labels: Vec::new(), names_data: false };
+        for instruction in &function.body {
+            body.put(&mut code, instruction).map_err(|number| (number, instruction.record))?;
         }
+        let names_data = body.names_data;
         code.push(0x0B);
         put_u32(self.entry(3), number);
         put_sized(self.entry(10), &code);
-        let names_data = |one: &Instruction| matches!(one.operands, Operands::MemoryInit(..) | Operands::DataDrop(_));
-        self.counts_data |= function.body.iter().any(names_data);
+        self.counts_data |= names_data;
         Ok(())
     }
 
@@ -451,6 +449,7 @@ struct Body<'s, 'a> {
     assembler: &'s Assembler<'a>,
     locals: HashMap<Name<'a>, u32>,
     labels: Vec<Option<Name<'a>>>,
+    names_data: bool,
 }
 
 impl<'a> Body<'_, 'a> {
@@ -473,7 +472,7 @@ impl<'a> Body<'_, 'a> {
     }
 
     fn put(&mut self, out: &mut Vec<u8>, instruction: &Instruction<'a>) -> Step<()> {
-        let Instruction { opcode, operands } = instruction;
+        let Instruction { opcode, operands, .. } = instruction;
         let assembler = self.assembler;
         out.push(*opcode);
         match operands {
@@ -528,18 +527,20 @@ impl<'a> Body<'_, 'a> {
             Operands::Float(bytes) => out.extend_from_slice(bytes),
             Operands::Reference(heap) => out.push(*heap),
             Operands::MemoryInit(data, memory) => {
+                self.names_data = true;
                 out.push(MEMORY_INIT);
                 put_u32(out, assembler.number(DATA, *data)?);
-                put_u32(out, assembler.number_or_0(MEMORY, *memory)?);
+                put_u32(out, assembler.number_or_0(MEMORY, **memory)?);
             }
             Operands::DataDrop(data) => {
+                self.names_data = true;
                 out.push(DATA_DROP);
                 put_u32(out, assembler.number(DATA, *data)?);
             }
             Operands::MemoryCopy(destination, source) => {
                 out.push(MEMORY_COPY);
                 put_u32(out, assembler.number_or_0(MEMORY, *destination)?);
-                put_u32(out, assembler.number_or_0(MEMORY, *source)?);
+                put_u32(out, assembler.number_or_0(MEMORY, **source)?);
             }
             Operands::MemoryFill(memory) => {
                 out.push(MEMORY_FILL);

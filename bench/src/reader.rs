@@ -43,6 +43,9 @@ pub const OPEN_BLOCKS: u32 = 128;
 pub const INDICES: u32 = 1_024;
 pub const EXPORTS: u32 = 8;
 pub const ALIGNMENT: u8 = 32;
+pub const OPERANDS: u32 = 16;
+/// How deep folded records nest, the outermost counting 1.
+pub const NESTING: u32 = 32;
 const STREAM: usize = 65_536;
 const IDENTIFIER: u32 = 64;
 const STRING: u32 = 255;
@@ -57,6 +60,9 @@ pub const ELEM: usize = 5;
 pub const DATA: usize = 6;
 pub const SPACES: usize = 7;
 
+/// What a folded record begins with.
+pub const FOLDED: u8 = 0xF0;
+
 /// The bulk memory instructions, by the byte after FC.
 pub const MEMORY_INIT: u8 = 0x08;
 pub const DATA_DROP: u8 = 0x09;
@@ -68,6 +74,20 @@ const IDCHAR: [bool; 256] = {
     let mut byte = 0x21;
     while byte < 0x7F {
         table[byte] = !matches!(byte as u8, b'"' | b'(' | b')' | b',' | b';' | b'[' | b']' | b'{' | b'}');
+        byte += 1;
+    }
+    table
+};
+
+/// What a record of a body may begin with.
+const IN_BODY: [bool; 256] = {
+    let mut table = [false; 256];
+    let mut byte = 0;
+    while byte < 0x100 {
+        table[byte] = matches!(
+            byte,
+            0x00..=0x05 | 0x0B..=0x11 | 0x1A | 0x1B | 0x20..=0x24 | 0x28..=0xC4 | 0xD0..=0xD2 | 0xF0 | 0xFC | 0xFF
+        );
         byte += 1;
     }
     table
@@ -90,6 +110,10 @@ impl<'a> Reader<'a> {
             return Err((1, 0));
         }
         Ok(Reader { stream, at: 0, record: 0, open_blocks: 0, takes_else: 0, items: [0; SPACES], started: false })
+    }
+
+    pub fn bytes_read(&self) -> usize {
+        self.at
     }
 
     pub fn at_end(&self) -> bool {
@@ -337,14 +361,34 @@ impl<'a> Reader<'a> {
         Ok(first)
     }
 
-    /// The opcode of an instruction record, or FF; opens and closes blocks.
+    /// After F0, nested so deep: the operator's opcode.
+    pub fn operator(&mut self, nesting: u32) -> Step<u8> {
+        if nesting > NESTING {
+            return Err(7);
+        }
+        let opcode = self.byte()?;
+        if !IN_BODY[usize::from(opcode)] || matches!(opcode, 0x02..=0x05 | 0x0B | FOLDED | 0xFF) {
+            return Err(4);
+        }
+        Ok(opcode)
+    }
+
+    /// The F0 of an operand.
+    pub fn operand(&mut self) -> Step<()> {
+        if self.byte()? != FOLDED {
+            return Err(4);
+        }
+        if self.record == RECORDS {
+            return Err(7);
+        }
+        Ok(())
+    }
+
+    /// The opcode of an instruction record, F0 or FF; opens and closes blocks.
     #[inline]
     pub fn opcode(&mut self) -> Step<u8> {
         let opcode = self.byte()?;
-        if !matches!(
-            opcode,
-            0x00..=0x05 | 0x0B..=0x11 | 0x1A | 0x1B | 0x20..=0x24 | 0x28..=0xC4 | 0xD0..=0xD2 | 0xFC | 0xFF
-        ) {
+        if !IN_BODY[usize::from(opcode)] {
             return Err(4);
         }
         if self.record == RECORDS {

@@ -46,6 +46,16 @@ impl Reader<'_> {
     }
 
     fn check_field(&mut self) -> Step<()> {
+        if self.check_record()? {
+            self.check_body()?;
+        }
+        Ok(())
+    }
+
+    /// A field record; of an own function, what stands before its body. Says whether
+    /// one follows.
+    pub fn check_record(&mut self) -> Step<bool> {
+        let mut has_body = false;
         match self.field_byte()? {
             0x01 => {
                 self.item(TYPE)?;
@@ -68,10 +78,9 @@ impl Reader<'_> {
             0x03 => {
                 let form = self.check_head(FUNC, 1)?;
                 self.check_type_use()?;
-                if form == 0 {
+                has_body = form == 0;
+                if has_body {
                     self.check_variables(LOCALS)?;
-                    self.record += 1;
-                    return self.check_body();
                 }
             }
             0x04 => {
@@ -123,7 +132,7 @@ impl Reader<'_> {
             }
         }
         self.record += 1;
-        Ok(())
+        Ok(has_body)
     }
 
     /// Identifier, exports, form, and the two strings of form 1.
@@ -161,35 +170,58 @@ impl Reader<'_> {
                     self.record += 1;
                     return Ok(());
                 }
-                0x02..=0x04 => {
-                    self.identifier()?;
-                    self.check_type_use()?;
+                FOLDED => self.check_folded(1)?,
+                opcode => {
+                    self.check_instruction(opcode)?;
+                    self.record += 1;
                 }
-                0x05 | 0x0B => self.identifier().map(|_| ())?,
-                0x0C | 0x0D | 0x10 | 0x20..=0x24 | 0xD2 => self.index().map(|_| ())?,
-                0x0E => {
-                    let count = self.up_to(INDICES, 7)?;
-                    self.check_indices(count + 1)?;
-                }
-                0x11 => {
-                    self.optional_index()?;
-                    self.check_type_use()?;
-                }
-                0x28..=0x3E => {
-                    self.form(ALIGNMENT)?;
-                    self.u32()?;
-                    self.optional_index()?;
-                }
-                0x3F | 0x40 => self.optional_index().map(|_| ())?,
-                0x41 => self.u32().map(|_| ())?,
-                0x42 => self.u64().map(|_| ())?,
-                0x43 => self.raw(4).map(|_| ())?,
-                0x44 => self.raw(8).map(|_| ())?,
-                0xD0 => self.reference().map(|_| ())?,
-                0xFC => self.check_bulk()?,
-                _ => {}
             }
-            self.record += 1;
+        }
+    }
+
+    /// After F0, nested so deep: the operator, a count, and operands.
+    fn check_folded(&mut self, nesting: u32) -> Step<()> {
+        let opcode = self.operator(nesting)?;
+        self.check_instruction(opcode)?;
+        let count = self.up_to(OPERANDS, 7)?;
+        self.record += 1;
+        for _ in 0..count {
+            self.operand()?;
+            self.check_folded(nesting + 1)?;
+        }
+        Ok(())
+    }
+
+    #[inline]
+    pub fn check_instruction(&mut self, opcode: u8) -> Step<()> {
+        match opcode {
+            0x02..=0x04 => {
+                self.identifier()?;
+                self.check_type_use()
+            }
+            0x05 | 0x0B => self.identifier().map(|_| ()),
+            0x0C | 0x0D | 0x10 | 0x20..=0x24 | 0xD2 => self.index().map(|_| ()),
+            0x0E => {
+                let count = self.up_to(INDICES, 7)?;
+                self.check_indices(count + 1)
+            }
+            0x11 => {
+                self.optional_index()?;
+                self.check_type_use()
+            }
+            0x28..=0x3E => {
+                self.form(ALIGNMENT)?;
+                self.u32()?;
+                self.optional_index().map(|_| ())
+            }
+            0x3F | 0x40 => self.optional_index().map(|_| ()),
+            0x41 => self.u32().map(|_| ()),
+            0x42 => self.u64().map(|_| ()),
+            0x43 => self.raw(4).map(|_| ()),
+            0x44 => self.raw(8).map(|_| ()),
+            0xD0 => self.reference().map(|_| ()),
+            0xFC => self.check_bulk(),
+            _ => Ok(()),
         }
     }
 }

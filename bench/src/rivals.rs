@@ -117,7 +117,7 @@ pub fn rivals(job: &str) -> Vec<(&'static str, Box<dyn Rival>)> {
             #[cfg(feature = "proved")]
             list.push(("proved", Box::new(ProvedReading { work: vec![0; WORK] })));
         }
-        "assembling" => {
+        "assembling" | "folding" => {
             list.push(("plain", Box::new(PlainAssembler::default())));
             #[cfg(feature = "proved")]
             list.push((

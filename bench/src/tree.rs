@@ -69,15 +69,16 @@ pub enum Operands<'a> {
     I64(u64),
     Float(&'a [u8]),
     Reference(u8),
-    MemoryInit(Index<'a>, Option<Index<'a>>),
+    MemoryInit(Index<'a>, Box<Option<Index<'a>>>),
     DataDrop(Index<'a>),
     /// Destination and source.
-    MemoryCopy(Option<Index<'a>>, Option<Index<'a>>),
+    MemoryCopy(Option<Index<'a>>, Box<Option<Index<'a>>>),
     MemoryFill(Option<Index<'a>>),
 }
 
-/// The i-th of a body (from 0) is record i + 1 after the function's.
+/// A body has them in flat order: a folded record after its operands.
 pub struct Instruction<'a> {
+    pub record: u32,
     pub opcode: u8,
     pub operands: Operands<'a>,
 }
@@ -268,13 +269,29 @@ impl<'a> Reader<'a> {
         let mut body = Vec::new();
         loop {
             self.record += 1;
-            let opcode = self.opcode()?;
-            if opcode == 0xFF {
-                return Ok(body);
+            match self.opcode()? {
+                0xFF => return Ok(body),
+                FOLDED => self.folded(1, &mut body)?,
+                opcode => {
+                    let (record, operands) = (self.record, self.operands(opcode)?);
+                    body.push(Instruction { record, opcode, operands });
+                }
             }
-            let operands = self.operands(opcode)?;
-            body.push(Instruction { opcode, operands });
         }
+    }
+
+    /// After F0, nested so deep: the operands, and then the operator. Leaves `record`
+    /// at the last operand.
+    fn folded(&mut self, nesting: u32, body: &mut Vec<Instruction<'a>>) -> Step<()> {
+        let opcode = self.operator(nesting)?;
+        let operator = Instruction { record: self.record, opcode, operands: self.operands(opcode)? };
+        for _ in 0..self.up_to(OPERANDS, 7)? {
+            self.record += 1;
+            self.operand()?;
+            self.folded(nesting + 1, body)?;
+        }
+        body.push(operator);
+        Ok(())
     }
 
     fn operands(&mut self, opcode: u8) -> Step<Operands<'a>> {
@@ -301,9 +318,9 @@ impl<'a> Reader<'a> {
             0x44 => Operands::Float(self.raw(8)?),
             0xD0 => Operands::Reference(self.reference()?),
             0xFC => match self.bulk()? {
-                MEMORY_INIT => Operands::MemoryInit(self.index()?, self.optional_index()?),
+                MEMORY_INIT => Operands::MemoryInit(self.index()?, Box::new(self.optional_index()?)),
                 DATA_DROP => Operands::DataDrop(self.index()?),
-                MEMORY_COPY => Operands::MemoryCopy(self.optional_index()?, self.optional_index()?),
+                MEMORY_COPY => Operands::MemoryCopy(self.optional_index()?, Box::new(self.optional_index()?)),
                 _ => Operands::MemoryFill(self.optional_index()?),
             },
             _ => Operands::None,

@@ -5,8 +5,8 @@
 
 A stream is the sum of its fields; a body is the sum of its instructions, made by
 `code(...)` of lines such as 'local.get x', 'i32.const -1' or 'i32.add', and of
-`block`, `access` and the others below. An index is a number, a name or None
-(absent). Nothing is checked: that is the assembler's part.
+`block`, `access`, `folded` and the others below. An index is a number, a name or
+None (absent). Nothing is checked: that is the assembler's part.
 """
 import struct
 
@@ -277,3 +277,10 @@ def line(words):
 def code(*parts):
     """Instructions, as lines or as bytes of the helpers above."""
     return b''.join(part if isinstance(part, bytes) else line(part) for part in parts)
+
+
+def folded(operator, *operands):
+    """F0: an instruction on its operands, from left to right. An operand is a folded
+    record again, or a line for one without operands."""
+    operands = [one if isinstance(one, bytes) else folded(one) for one in operands]
+    return b'\xF0' + code(operator) + groups(len(operands)) + b''.join(operands)

@@ -9,7 +9,8 @@ const TYPES: usize = 256;
 /// An instruction, and the number of its record.
 pub type Located<'a> = (u32, Instruction<'a>);
 
-/// A field, the number of its record, and the body of an own function.
+/// A field, the number of its record, and the body of an own function in flat order:
+/// a folded record is its operands, and then its operator.
 pub struct Whole<'a> {
     pub record: usize,
     pub field: Field<'a>,

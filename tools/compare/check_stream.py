@@ -6,8 +6,9 @@ usage: check_stream.py [--stream FILE] [DOCUMENT]
 The bytes of the stream stand at the head of the lines in the fenced blocks
 after the first, under the heading of the example; those of the module at the
 head of its indented lines. Said are the counts, which the text must have, too.
-With --stream the stream is also written to FILE. The lines of Python must make
-a stream that is accepted. Exit status 1 if anything is wrong.
+With --stream the stream is also written to FILE. The two fenced blocks under Folded
+records must be bodies of the same module. The lines of Python must make a stream
+that is accepted. Exit status 1 if anything is wrong.
 """
 import argparse
 import os
@@ -18,6 +19,7 @@ sys.path.insert(0, os.path.join(os.path.dirname(os.path.abspath(__file__)), '..'
 import paths
 import account
 import model
+from records import func
 
 DOCUMENT = os.path.join(paths.ROOT, 'docs', 'STREAM.md')
 
@@ -35,7 +37,9 @@ def main():
     parser.add_argument('document', nargs='?', default=DOCUMENT)
     options = parser.parse_args()
     with open(options.document, encoding='utf-8') as file:
-        example, python = file.read().split('\n## An example, record by record\n')[1].split('\n## Written from Python\n')
+        page = file.read()
+    example, python = page.split('\n## An example, record by record\n')[1].split('\n## Written from Python\n')
+    folding = page.split('\n### Folded records\n')[1].split('\n## ')[0]
     text, *fences = re.findall(r'```\n(.*?)\n```', example, re.DOTALL)
     stream = bytes_of(line for fence in fences for line in fence.splitlines())
     module = bytes_of(re.findall(r'^    ([0-9A-F]{2} .*)', example, re.MULTILINE))
@@ -50,6 +54,10 @@ def main():
         plain = re.sub(r'[()]|param |\s+', '', said)
         if plain not in re.sub(r'[()]|param |\s+', '', text):
             wrong.append('record %d is not in the text: %s' % (number, said))
+    with_code = lambda fence: model.assemble(func(body=bytes_of(fence.splitlines())))
+    folded, flat = re.findall(r'```\n(.*?)\n```', folding, re.DOTALL)
+    if with_code(folded) != with_code(flat) or with_code(flat)[0] != 'ok':
+        wrong.append('the folded records are not the flat ones')
     made = {}
     exec(re.search(r'```python\n(.*?)\nopen\(', python, re.DOTALL).group(1), made)
     if model.assemble(made['stream'])[0] != 'ok':

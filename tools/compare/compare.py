@@ -1,7 +1,7 @@
 #!/usr/bin/env python3
 """Holds the assembler to the crate's own code and to a plain model.
 
-usage: compare.py [--strict] [--names] [--streams N] [--seed S] [--without-library] [...]
+usage: compare.py [--strict] [--names] [--streams N] [--seed S] [--sort SORT] [--without-library] [...]
 
 Makes N streams (generate.py), in pieces, and asks three judges of each:
   library   the assembler, through tools/driver
@@ -11,7 +11,8 @@ Makes N streams (generate.py), in pieces, and asks three judges of each:
 A line is printed for each sort of streams. Where two judges disagree, the
 stream is made smaller and shown in hex with the answers, one for each pair of
 sorts of answers. Most pieces are lent 16,384 words and 65,536 bytes; some fewer
-words (10) or bytes (18), some more. Exit status 1 on any disagreement.
+words (10) or bytes (18), some more. With --sort all are of one sort. Exit status
+1 on any disagreement.
 
 With --names it is the call that also writes the name section (document 02, §1),
 and the streams are rich in names. There the crate has one known difference
@@ -41,10 +42,9 @@ PIECE = 500             # streams in a piece
 PATIENCE = 60           # seconds for a program's answer to one piece
 
 # Of each hundred pieces, how many are of a sort.
-SHARES = (('rich', 34), ('faulty', 36), ('damaged', 26), ('edges', 4))
-NAME_SHARES = (('names', 60), ('rich', 14), ('faulty', 10), ('damaged', 10), ('edges', 6))
-
-STRICT_SHARES = (('numbers', 60), ('rich', 10), ('faulty', 12), ('damaged', 14), ('edges', 4))
+SHARES = (('rich', 26), ('faulty', 28), ('damaged', 22), ('edges', 4), ('folded', 20))
+NAME_SHARES = (('names', 56), ('rich', 12), ('faulty', 10), ('damaged', 8), ('edges', 4), ('folded', 10))
+STRICT_SHARES = (('numbers', 56), ('rich', 10), ('faulty', 10), ('damaged', 10), ('edges', 4), ('folded', 10))
 
 # The model with the crate's known difference; of the plain call, where it is the strict one.
 AS_CRATE = 'as crate'
@@ -152,6 +152,7 @@ def main():
     parser.add_argument('--strict', action='store_true', help='the strict call')
     parser.add_argument('--streams', type=int, default=20000, metavar='N')
     parser.add_argument('--seed', type=int, default=1)
+    parser.add_argument('--sort', choices=generate.SORTS, help='streams of this sort alone (generate.py)')
     parser.add_argument('--oracle', default=paths.ORACLE, metavar='PROGRAM')
     parser.add_argument('--driver', default=paths.DRIVER, metavar='PROGRAM')
     parser.add_argument('--without-library', action='store_true', help='model and oracle alone')
@@ -161,6 +162,8 @@ def main():
     judges = Judges(None if options.without_oracle else options.oracle,
                     None if options.without_library else options.driver, options.names, options.strict)
     shares = STRICT_SHARES if options.strict else NAME_SHARES if options.names else SHARES
+    if options.sort:
+        shares = ((options.sort, 100),)
     for program in (judges.oracle, judges.driver):
         if program and not os.path.exists(program):
             parser.error('%s is not there; see docs/TESTING.md' % program)

@@ -20,9 +20,16 @@ import generate
 import model
 import shrink
 
-SHARES = (('rich', 0.25), ('faulty', 0.4), ('damaged', 0.2), ('edges', 0.15))
-STRICT_SHARES = (('numbers', 0.7), ('rich', 0.1), ('faulty', 0.2))
+SHARES = (('rich', 0.2), ('faulty', 0.35), ('damaged', 0.2), ('edges', 0.12), ('folded', 0.13))
+STRICT_SHARES = (('numbers', 0.65), ('rich', 0.1), ('faulty', 0.15), ('folded', 0.1))
 ROOMS = (65536, 65536, 65536, 60, 200)
+
+# A body resolved in the order of its records, and written in flat order.
+RESOLVED = ("return b''.join(bytes([opcode]) + self.operand(record, opcode, operands)\n"
+            '                        for record, opcode, operands in body)',
+            'made = {record: bytes([opcode]) + self.operand(record, opcode, operands)\n'
+            '                for record, opcode, operands in sorted(body, key=lambda one: one[0])}\n'
+            "        return b''.join(made[record] for record, _, _ in body)")
 
 # (what, old text, new text), once in model.py
 MODEL = [
@@ -189,6 +196,20 @@ MODEL = [
     ('section 12 counts the data with names', 'groups(self.counts[DATA])', 'groups(len(self.names[DATA]))'),
     ('section 12 counts the memories', 'groups(self.counts[DATA])', 'groups(self.counts[MEMORY])'),
     ('section 12 as a list', 'entries[0] if number in (8, 12) else', 'entries[0] if number == 8 else'),
+    ('an operator before its operands', 'return before + [operator]', 'return [operator] + before'),
+    ('operands from right to left', 'before += self.folded()', 'before = self.folded() + before'),
+    ('an operator after its first operand', 'return before + [operator]',
+     'return [before[0], operator] + before[1:] if len(before) == 2 else before + [operator]'),
+    ('an operator at the record of its last operand', 'return before + [operator]',
+     'return before + [(self.record,) + operator[1:]]'),
+    ('operands at the record of their operator', 'before += self.folded()',
+     'before += [(record,) + one[1:] for one in self.folded()]'),
+    ('a record numbered in flat order', 'if opcode == 0xFF:\n                return body',
+     'if opcode == 0xFF:\n'
+     '                return [(self.record - len(body) + at,) + one[1:] for at, one in enumerate(body)]'),
+    ('a type added in stream order', 'for at, opcode, operands in field.body:',
+     'for at, opcode, operands in sorted(field.body, key=lambda one: one[0]):'),
+    ('resolved in stream order', *RESOLVED),
     ('the output one too long', 'len(module) > room', 'len(module) > room + 1'),
     ('the output one too short', 'len(module) > room', 'len(module) >= room'),
     ('a work area one too short', 'work < WORK:', 'work < WORK - 1:'),
@@ -230,6 +251,37 @@ READING = [
      '            if second not in BULK_INDICES:\n'
      '                raise Refused(4)\n'
      '            for space in BULK_INDICES[second]:'),
+    ('nesting counted over all operands', 'self.folded(nesting + 1)', 'nesting += 1\n            self.folded(nesting)'),
+    ('no end of nesting', 'self.folded(nesting + 1)', 'self.folded(nesting)'),
+    ('33 deep told at its operator', 'count = self.up_to(OPERANDS)\n',
+     'count = self.up_to(OPERANDS)\n        if count and nesting == NESTING:\n            raise Refused(7)\n'),
+    ('the count before the operator', 'self.instruction(self.one_of(FOLDABLE))\n        count = self.up_to(OPERANDS)',
+     'count = self.up_to(OPERANDS)\n        self.instruction(self.one_of(FOLDABLE))'),
+    ('a count past 16 at the next record', 'count = self.up_to(OPERANDS)\n        self.record += 1',
+     'self.record += 1\n        count = self.up_to(OPERANDS)'),
+    ('F0 folded', 'self.one_of(FOLDABLE)', 'self.one_of(FOLDABLE + bytes([FOLDED]))'),
+    ('FF folded', 'self.one_of(FOLDABLE)', 'self.one_of(FOLDABLE + bytes([BODY_END]))'),
+    ('a barred operator at the next record', 'self.instruction(self.one_of(FOLDABLE))',
+     'self.record += self.at < len(self.stream) and self.stream[self.at] not in FOLDABLE\n'
+     '        self.instruction(self.one_of(FOLDABLE))'),
+    ('an operand without F0', 'self.begin(bytes([FOLDED]))\n            self.folded(nesting + 1)',
+     'first = self.begin(OPCODES + bytes([FOLDED]))\n'
+     '            if first == FOLDED:\n'
+     '                self.folded(nesting + 1)\n'
+     '            else:\n'
+     '                self.instruction(first)\n'
+     '                self.record += 1'),
+    ('FF where an operand is due told as 8', 'self.begin(bytes([FOLDED]))\n',
+     'if self.begin(bytes([FOLDED, BODY_END])) == BODY_END:\n                raise Refused(8)\n'),
+    ('what is due told at its operator',
+     'self.record += 1\n        for _ in range(count):\n'
+     '            self.begin(bytes([FOLDED]))\n            self.folded(nesting + 1)\n',
+     'for _ in range(count):\n'
+     '            self.begin(bytes([FOLDED]))\n            self.folded(nesting + 1)\n        self.record += 1\n'),
+    ('operands past 4,096 records', 'self.begin(bytes([FOLDED]))', 'self.one_of(bytes([FOLDED]))'),
+    ('an operand too many before its byte', 'self.begin(bytes([FOLDED]))',
+     'if self.record == RECORDS and self.at < len(self.stream):\n'
+     '                raise Refused(7)\n            self.begin(bytes([FOLDED]))'),
     ('a second start', 'raise Refused(9)', 'pass'),
     ('the end of a body at the record before', 'self.record += 1\n        if has_body',
      'if not has_body:\n            self.record += 1\n        if has_body'),
@@ -238,11 +290,18 @@ READING = [
 ]
 CEILINGS = ('STREAM = 65536', 'RECORDS = 4096', 'ITEMS = 256', 'PARAMETERS = 64', 'RESULTS = 16', 'LOCALS = 64',
             'OPEN_BLOCKS = 128', 'FUNCTIONS = 1024', 'LABELS = 1024', 'EXPORTS = 8', 'IDENTIFIER = 64', 'STRING = 255',
-            'ALIGNMENT = 32')
+            'ALIGNMENT = 32', 'OPERANDS = 16', 'NESTING = 32')
 for ceiling in CEILINGS:
     name, value = ceiling.split(' = ')
     for other in (int(value) - 1, int(value) + 1):
         READING.append(('%s %d' % (name.lower().replace('_', ' '), other), '\n' + ceiling, '\n%s = %d' % (name, other)))
+
+# Each instruction that may not be folded, folded; and some that may, not.
+BARRED = ['BLOCK', 'LOOP', 'IF', 'ELSE', 'END']
+for what, others in [(one.lower() + ' folded', [other for other in BARRED if other != one]) for one in BARRED] + [
+        ('call_indirect not folded', BARRED + ['0x11']), ('bulk memory not folded', BARRED + ['BULK']),
+        ('branches not folded', BARRED + ['0x0C', '0x0D', '0x0E'])]:
+    READING.append((what, 'not in (%s))' % ', '.join(BARRED), 'not in (%s))' % ', '.join(others)))
 
 # Of the strict call, in model.py.
 COUNT = 'count = len(self.types) if space == TYPE else self.counts[space]'
@@ -272,6 +331,7 @@ STRICT = [
     ('imported items alone', COUNT, COUNT.replace(
         'self.counts[space]', '(sum(type(one) is Import and one.kind == space for _, one in self.fields)\n'
         '                                                             if space < TYPE else self.counts[space])')),
+    ('numbers resolved in stream order', *RESOLVED),
     ('named items alone', COUNT, COUNT.replace('self.counts[space]', 'len(self.names[space])')),
     ('data segments among the memories', COUNT, COUNT.replace('[space]', '[MEMORY if space == DATA else space]')),
     ('items so far', COUNT, 'count = len(self.types) if space == TYPE else sum(\n'

@@ -86,13 +86,15 @@ class Uses(generate.Counting):
 
     def use(self, record):
         """The sort of use that a record is."""
-        first = self.stream[self.starts[record]]
+        at = self.starts[record]
         if record not in self.bodies:
-            return USES.get(first, 'item')
+            return USES.get(self.stream[at], 'item')
+        at += self.stream[at] == model.FOLDED           # the operator's
+        first = self.stream[at]
         if 0x28 <= first <= 0x3E:
             return 'load' if first < 0x36 else 'store'
         if first == model.BULK:
-            return BULK[self.stream[self.starts[record] + 1]]
+            return BULK[self.stream[at + 1]]
         return CODE[first]
 
 

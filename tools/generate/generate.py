@@ -17,6 +17,10 @@ Sorts:
   numbers   rich in numbers, for the strict call: below, at and above the count of
             what they point to, in every sort of use; absences where there is an
             item and where there is none; some with names that nothing has
+  folded    rich in folded records (the others have some too): trees of all shapes,
+            with uses that add types in operands and faults whose flat order is not
+            that of the stream; up to and past 16 operands and 32 deep; some folded
+            badly
 
 A stream is known by its sort, seed and number alone. Writes the batch form
 (batch.py), or with --hex a line for each stream.
@@ -31,9 +35,9 @@ sys.path.insert(0, os.path.join(os.path.dirname(os.path.abspath(__file__)), '..'
 import paths
 import batch
 import model
-from reading_model import IDCHARS, OPCODES, groups, record_starts
+from reading_model import IDCHARS, NESTING, OPCODES, OPERANDS, groups, record_starts
 
-SORTS = ('rich', 'faulty', 'edges', 'damaged', 'names', 'numbers')
+SORTS = ('rich', 'faulty', 'edges', 'damaged', 'names', 'numbers', 'folded')
 
 I32, I64, F32, F64, FUNCREF, EXTERNREF = 0x7F, 0x7E, 0x7D, 0x7C, 0x70, 0x6F
 VALUE_TYPES = (I32, I64, F32, F64, FUNCREF, EXTERNREF)
@@ -48,6 +52,7 @@ NUMBERS = (0, 0, 0, 1, 1, 2, 3, 5, 63, 64, 127, 128, 255, 256, 8191, 8192, 16383
            2**27, 2**28 - 1, 2**28, 2**31 - 1, 2**31, 2**32 - 1)
 
 BLOCK, LOOP, IF, ELSE, END = b'\x02', b'\x03', b'\x04', b'\x05', b'\x0B'
+FOLDED = bytes([model.FOLDED])
 
 # A block that is open: its label or None, and whether it is an if without else.
 Open = namedtuple('Open', 'label awaits_else')
@@ -71,13 +76,14 @@ EDGES32, EDGES64 = edge_numbers(32), edge_numbers(64)
 class Maker:
     """One stream. `faults` gives, for a refusal, how often a place that can
     have it gets it; 4 is in bulk memory, 8 an else where none may be, 13 is for
-    items, 'local' for a function's names. `unnamed` gives for both how often there
-    is no name, and `pool` has the names."""
+    items, 'local' for a function's names, 'folded' for a record folded badly.
+    `unnamed` gives for both how often there is no name, and `pool` has the names."""
 
     unnamed = {13: 0.35, 'local': 0.35}
     pool = NAMES
     local_counts = (0, 0, 1, 2, 4)
     reach = 1                           # how much of `instruction` there is; blocks come first
+    foldings = (0, 0, 0, 0.1, 0.5)      # how often an instruction is folded, in a stream
 
     def __init__(self, chance, faults=None):
         self.chance = chance
@@ -88,6 +94,8 @@ class Maker:
         self.names = [[] for _ in range(7)]
         self.declared = []              # the names of the declared types
         self.types = []                 # as interning will number them
+        self.folds = self.pick(self.foldings)
+        self.depth = self.pick((1, 2, 3, 4, 8, NESTING))        # how deep they nest
 
     def fault(self, number):
         """Whether this place gets this fault."""
@@ -380,7 +388,10 @@ class Maker:
         """Some instructions, all blocks closed, and FF."""
         blocks = []
         for _ in range(size):
-            self.out.append(self.instruction(local_names, blocks))
+            if self.random() < self.folds:
+                self.out.append(self.folded(local_names, blocks))
+            else:
+                self.out.append(self.instruction(local_names, blocks))
         while blocks:
             self.out.append(self.end(blocks))
         self.out.append(b'\xFF')
@@ -406,7 +417,6 @@ class Maker:
     def instruction(self, local_names, blocks):
         """One instruction; `blocks` are the open ones."""
         way = self.random() * self.reach
-        names = self.names
         if way < 0.14:
             label = self.pick(NAMES[:5]) if self.random() < 0.6 else None
             use = self.use(block=True)
@@ -417,6 +427,44 @@ class Maker:
             if self.fault(8) or blocks[-1].awaits_else and self.random() < 0.5:
                 return self.else_(blocks)
             return self.end(blocks)
+        return self.plain(way, local_names, blocks)
+
+    def operator(self, local_names, blocks):
+        """One that may be folded."""
+        return self.plain(self.chance.uniform(0.26, 1), local_names, blocks)
+
+    def folded(self, local_names, blocks, nesting=1):
+        """A folded record, nested so deep, and its operands: made in flat order, as
+        types are numbered, and put in stream order."""
+        inner, count = nesting + 1, self.pick((0, 0, 1, 2, 2, 3) if self.depth < 5 else (0, 1, 1, 1, 1, 2))
+        if nesting >= self.depth:
+            count = 0
+        elif self.random() < 0.01:
+            inner, count = self.depth, self.chance.randint(4, OPERANDS)         # they have none themselves
+        operands = [self.folded(local_names, blocks, inner) for _ in range(count)]
+        operator = self.operator(local_names, blocks)
+        if self.fault('folded'):
+            return self.badly_folded(operator, operands)
+        return FOLDED + operator + self.number(count) + b''.join(operands)
+
+    def badly_folded(self, operator, operands):
+        """An operator that may not be folded, a wrong count, or an operand that is
+        not folded."""
+        count, way = len(operands), self.random()
+        if way < 0.4:
+            opened = self.identifier(None) + use()
+            operator = self.pick((BLOCK + opened, LOOP + opened, IF + opened, ELSE + b'\0', END + b'\0', FOLDED, b'\xFF',
+                                  FOLDED + operator + b'\0', b'\x06', b'\x08'))
+        elif way < 0.7:
+            count = self.pick((count + 1, count - 1, OPERANDS, OPERANDS + 1, OPERANDS + 2, 127, 128, 2**32 - 1)) % 2**32
+        else:
+            operands.append(self.pick((operator, b'\xFF', END + b'\0', BLOCK, b'\x01')))
+            count += 1
+        return FOLDED + operator + self.number(count) + b''.join(operands)
+
+    def plain(self, way, local_names, blocks):
+        """One that opens and closes no block."""
+        names = self.names
         if way < 0.38:
             return bytes([self.pick((0x20, 0x21, 0x22))]) + self.index(local_names)
         if way < 0.46:
@@ -496,6 +544,12 @@ class Copier(Maker):
         if self.random() < 0.7:
             return self.bulk(self.pick(self.seconds))
         return super().instruction(local_names, blocks)
+
+    def operator(self, local_names, blocks):
+        """The same, folded."""
+        if self.random() < 0.7:
+            return self.bulk(self.pick(self.seconds))
+        return super().operator(local_names, blocks)
 
 
 def rich(chance):
@@ -1052,6 +1106,133 @@ def numbers(chance):
 
 
 # ---------------------------------------------------------------------------
+# Folded records
+
+class Folder(Maker):
+    """Functions of folded records above all, among them many uses of types."""
+
+    foldings = (0.3, 0.7, 1)
+
+    def planned_fields(self):
+        """Something of each sort that an operand can name, and functions."""
+        sorts = ['type', 'type', 'table', 'memory', 'global', 'data']
+        own = self.chance.sample(sorts, self.pick((0, 1, 3))) + ['func'] * self.pick((1, 1, 2, 3))
+        self.chance.shuffle(own)
+        return ['import'] * self.pick((0, 0, 1)) + own
+
+    def operator(self, local_names, blocks):
+        """Often one that may add a type."""
+        if self.random() < 0.25:
+            return b'\x11' + self.index(self.names[TABLE], True) + self.use()
+        return super().operator(local_names, blocks)
+
+
+def fold(operator, *operands):
+    """A folded record with its operands, which are folded."""
+    return FOLDED + operator + groups(len(operands)) + b''.join(operands)
+
+
+NOP = b'\x01'
+LEAF = fold(NOP)
+
+
+def deep_folds(chance):
+    """About 32 deep, by the first, the last or any operand; and about 128 blocks
+    around it, or an operand that ends a chain before."""
+    depth = near(chance, NESTING)
+    tree = fold(chance.choice((NOP, b'\x20\2\1q', b'\x11\0' + use(b'\x7F'))))
+    if chance.random() < 0.3:
+        tree = chance.choice((BLOCK, LOOP, ELSE, END, b'\xFF', FOLDED + FOLDED, NOP, FOLDED, b''))
+    width = chance.choice((1, 1, 1, 2, 3, OPERANDS))
+    for _ in range(depth - 1):
+        place = chance.choice((0, width - 1, chance.randrange(width)))
+        tree = fold(NOP, *[LEAF] * place, tree, *[LEAF] * (width - 1 - place))
+    code = chance.choice((b'', tree, LEAF)) + tree + chance.choice((b'', NOP, LEAF))
+    blocks = chance.choice((0, 0, 1, 127, 128))
+    return in_function((BLOCK + b'\0' + use()) * blocks + code + ENDED * blocks)
+
+
+def wide_folds(chance):
+    """About 16 operands, at the top or inside, some of them with operands."""
+    some = [chance.choice((LEAF, LEAF, fold(NOP, LEAF), fold(b'\x41\x80\1'), fold(b'\xFC\x0B\0')))
+            for _ in range(near(chance, OPERANDS))]
+    tree = fold(chance.choice((NOP, b'\x0E\1\1\0\1\0')), *some)
+    for _ in range(chance.choice((0, 0, 1, 3))):
+        tree = fold(NOP, *[LEAF] * chance.randrange(2), tree, *[LEAF] * chance.randrange(2))
+    if chance.random() < 0.2:
+        tree = tree[:chance.randint(1, len(tree))]              # an operand is due
+    return in_function(tree)
+
+
+def trees(chance, operators):
+    """Folded records of these operators, in flat order."""
+    done = []                           # operands that wait for an operator
+    for operator in operators:
+        count = chance.choice((0, 0, 1, 2, 3, len(done)))
+        count = min(count, len(done), OPERANDS)
+        operands = done[len(done) - count:]
+        height = 1 + max((height for height, _ in operands), default=0)
+        if height > NESTING:
+            operands, height = [], 1
+        del done[len(done) - len(operands):]
+        done.append((height, fold(operator, *(tree for _, tree in operands))))
+    return b''.join(tree for _, tree in done)
+
+
+def many_folded_types(chance):
+    """Declared types and folded uses that bring them to about 256."""
+    declared = chance.choice((0, 200, 250, 255, 256))
+    uses = [b'\x11\0' + use(signature_number(number)) for number in range(declared, near(chance, 256))]
+    for _ in range(chance.choice((0, 3, 20))):
+        uses.insert(chance.randint(0, len(uses)), b'\x11\0' + use(signature_number(chance.randrange(300))))
+    out = [type_record(b'', signature_number(number)) for number in range(declared)]
+    return b''.join(out) + in_function(trees(chance, uses))
+
+
+def many_folded_records(chance):
+    """About 4,096 records, the last ones folded; the next an operand, or something
+    else where one is due."""
+    count = near(chance, 4096)
+    last = chance.choice((1, 2, 17, 400))
+    body = NOP * (count - 2 - last) + trees(chance, [NOP] * last)
+    if chance.random() < 0.5:
+        body = NOP * (count - 3) + FOLDED + NOP + b'\2' + chance.choice((LEAF, NOP, b'\xFF', FOLDED, b'')) * 2
+        return FUNCTION + body
+    return in_function(body)
+
+
+def two_in_a_tree(chance):
+    """Several faults in one tree, whose order is another in the stream."""
+    missing, there = b'\2\1q', b'\2\1a'
+    wrong_uses = (use(b'\x7F', b'', missing), use(b'\x7F', b'', b'\1\x09'), use(b'\x7E', b'', b'\1\0'))
+    operators = [b'\x20' + missing, b'\x21\1\x63', b'\x23' + missing, b'\x10' + missing, b'\x0C' + missing, b'\xFC\x09' + missing,
+                 b'\x0C' + there, b'\x23' + there, NOP, NOP, b'\x41\5', b'\x11' + missing + use(),
+                 b'\x11\0' + chance.choice(wrong_uses), b'\x11\0' + use(b'\x7F'), b'\x11\0' + use(b'\x7D\x7D')]
+    items = type_record(b'a', b'\x7F') + b'\4\1a\0\0\x70\0\1' + b'\6\1a\0\0\x7F\0\0\0'
+    code = trees(chance, chance.choices(operators, k=chance.choice((2, 3, 5, 9))))
+    wrong_end = chance.choice((ENDED, END + b'\1a', END + b'\1b'))
+    return items + in_function(BLOCK + b'\1a' + use() + code + wrong_end)
+
+
+FOLDS = (deep_folds, wide_folds, many_folded_types, many_folded_records, two_in_a_tree, two_in_a_tree)
+
+
+def folded(chance):
+    """Rich in folded records."""
+    way = chance.random()
+    if way < 0.45:
+        return Folder(chance).stream()
+    if way < 0.65:
+        sorts = chance.sample((11, 13, 'local', 14, 14, 15, 16, 17), chance.choice((1, 2, 3)))
+        return Folder(chance, {number: chance.choice((0.05, 0.2, 0.5)) for number in sorts}).stream()
+    if way < 0.75:
+        return Folder(chance, {'folded': chance.choice((0.02, 0.1)), 19: 0.001}).stream()
+    if way < 0.8:
+        return moved(chance, Folder(chance).stream())
+    return chance.choice(FOLDS)(chance)
+
+
+# ---------------------------------------------------------------------------
 
 def damaged(chance):
     """Bytes changed, mostly refused while reading; numbers in too many groups;
@@ -1121,7 +1302,8 @@ def moved(chance, stream):
     return b''.join(records)
 
 
-MAKERS = {'rich': rich, 'faulty': faulty, 'edges': edges, 'damaged': damaged, 'names': names, 'numbers': numbers}
+MAKERS = {'rich': rich, 'faulty': faulty, 'edges': edges, 'damaged': damaged, 'names': names, 'numbers': numbers,
+          'folded': folded}
 
 
 def stream(sort, seed, number):

@@ -44,9 +44,14 @@ import samples
 import slips
 
 LONGEST = 700           # bytes; longer ones only for what nothing shorter shows
-RECORDS = [bytes([byte]) for byte in reading_model.FIELDS + reading_model.OPCODES] + [b'\xFF']
+RECORDS = [bytes([byte]) for byte in reading_model.FIELDS + reading_model.OPCODES] + [b'\xF0', b'\xFF']
 SLIP_STREAMS = 15000
-FROM = (('rich', 4000), ('faulty', 16000), ('damaged', 16000), ('edges', 4000))
+FROM = (('rich', 4000), ('faulty', 16000), ('damaged', 16000), ('edges', 4000), ('folded', 6000))
+
+# Where an operator's operands have another form than those of the opcodes before it.
+FORMS = (0x00, 0x0C, 0x0E, 0x0F, 0x10, 0x11, 0x1A, 0x20, 0x23, 0x28, 0x3F, 0x41, 0x42, 0x43, 0x44, 0x45, 0xD0, 0xD1, 0xD2,
+         model.BULK)
+NESTINGS = (1, 2, 3, reading_model.NESTING - 1, reading_model.NESTING)
 NAMES_FROM = (('names', 8000), ('damaged', 2000), ('edges', 2000))
 
 # Slips of the name section: (file, what, old text, new text), as in slips.py.
@@ -105,6 +110,7 @@ class Shown(model.Parser):
         super().__init__(stream)
         self.shown = set()
         self.where = None
+        self.nesting = 0
 
     def field(self, first):
         self.where = first
@@ -139,6 +145,14 @@ class Shown(model.Parser):
         self.where = opcode
         self.shown.add(('opcode', opcode))
         return super().operands(opcode)
+
+    def folded(self):
+        self.nesting += 1
+        self.shown.add(('folded', max(form for form in FORMS if form <= self.stream[self.at])))
+        self.shown.add(('nesting', max(nesting for nesting in NESTINGS if nesting <= self.nesting)))
+        flat = super().folded()
+        self.nesting -= 1
+        return flat
 
     def bulk(self, second):
         self.where = model.BULK, second

@@ -1,13 +1,13 @@
 """Streams with an answer that document 01 or 02 itself gives: the samples of 01,
 for each of the refusals 11 to 17, and 19, streams with two faults that compete,
-and bulk memory.
+bulk memory, and folded records.
 
 SAMPLES is a list of (what it is, stream, answer). An answer is 'refused N at R',
 or bytes in hex that the module must hold: the resolved numbers where they stand.
 """
-from records import (block, call_indirect, code, const, data, data_drop, elem, end, export, f32, f64, func, funcref, global_,
-                     i32, i64, import_, inline_memory, limits, memory, memory_copy, memory_fill, memory_init, start, table,
-                     type, use)
+from records import (access, block, call_indirect, code, const, data, data_drop, elem, end, export, f32, f64, folded, func,
+                     funcref, global_, i32, i64, import_, inline_memory, limits, memory, memory_copy, memory_fill,
+                     memory_init, start, table, type, use)
 
 PREAMBLE = '0061736d01000000'
 
@@ -161,4 +161,48 @@ BULK = [
     ('memory.init of nothing', with_code(memory_init(None, 0)), 'refused 4 at 1'),
 ]
 
-SAMPLES = DOCUMENT + COMPETING + SPELLED + BULK
+
+
+# document 02, §4: F0, an operator and a count; operands from left to right, and then the operator
+def deep(count):
+    """So many folded nops, one in the other."""
+    tree = folded('nop')
+    for _ in range(count - 1):
+        tree = folded('nop', tree)
+    return tree
+
+
+FOLDED = [
+    ('operands of operands, then the operators',
+     with_code(folded(access('i32.store'), folded('i32.add', 'i32.const 1', 'i32.const 2'), 'i32.const 3'),
+               folded('drop', folded('call 0')), 'nop'), '4101' + '4102' + '6a' + '4103' + '360200' + '1000' + '1a' + '01' + '0b'),
+    ('three operands from left to right', with_code(folded('select', 'i32.const 1', 'i32.const 2', 'i32.const 3')),
+     '4101' + '4102' + '4103' + '1b' + '0b'),
+    ('no operand', with_code('nop', folded('i32.const 7'), 'drop'), '01' + '4107' + '1a' + '0b'),
+    ('in a block, a branch by its label', with_code(block('a'), folded('br_if a', 'i32.const 0'), end('a')), '0240' + '4100' + '0d00' + '0b'),
+    ('memory.init as an operator brings section 12', with_code(folded(memory_init(0), 'nop')), '0c0100' + '0a09010700' + '01' + 'fc080000'),
+    ('memory.init as an operand brings section 12', with_code(folded('nop', folded(memory_init(0)))), '0c0100' + '0a09010700' + 'fc080000' + '01'),
+    ('an operand adds its type before its operator',
+     func(None, None, (), folded(call_indirect(use(None, [i64])), folded(call_indirect(use(None, [i32]))))),
+     '010c03' + '600000' + '60017f00' + '60017e00' + '03020100' + '0a0a010800' + '110100' + '110200' + '0b'),
+    ('12 at the operator, whose operand adds the last type',
+     many_types(255) + func(None, None, (), folded(call_indirect(NEW_USE), folded(call_indirect(use(None, [i64] * 9))))),
+     'refused 12 at 256'),
+    ("an operand's fault before its operator's", with_code(folded('local.set a', folded('local.get b'))), 'refused 14 at 2'),
+    ("a later operand's fault before its operator's",
+     type(None, [i32]) + with_code(folded('call f', 'nop', folded('drop', folded(call_indirect(use(0, [i64])))))), 'refused 16 at 5'),
+    ("an operator's fault before the next operand's",
+     with_code(folded('nop', folded('call f', 'nop'), folded('call g'))), 'refused 14 at 2'),
+    ('a fault after a tree', with_code(folded('nop', 'nop', 'nop'), 'call f'), 'refused 14 at 4'),
+    ('16 operands', with_code(folded('nop', *['unreachable'] * 16)), '00' * 17 + '01' + '0b'),
+    ('17 operands', with_code(folded('nop', *['nop'] * 17)), 'refused 7 at 1'),
+    ('32 deep', with_code(deep(32)), '0a24012200' + '01' * 32 + '0b'),
+    ('33 deep', with_code(deep(33)), 'refused 7 at 33'),
+    ('a block is folded', with_code(folded(block())), 'refused 4 at 1'),
+    ('F0 is folded', with_code(folded(folded('nop'))), 'refused 4 at 1'),
+    ('an operand without F0', with_code(folded('nop', code('nop'))), 'refused 4 at 2'),
+    ('the body ends where an operand is due', with_code(folded('nop', b'')), 'refused 4 at 2'),
+    ('the stream ends where an operand is due', with_code(folded('nop', 'nop', b''))[:-1], 'refused 2 at 3'),
+]
+
+SAMPLES = DOCUMENT + COMPETING + SPELLED + BULK + FOLDED

@@ -189,6 +189,13 @@ class Maker:
     def block(self, opcode, label, use):
         return self.code(opcode, self.identifier(label), use)
 
+    def folded(self, count, opcode, *operands, due=False):
+        """F0, an instruction and the count of its operands, itself one that is due
+        or not. What may not be folded is a wrong opcode."""
+        first = self.byte(model.FOLDED, *((0x01, 0x02, 0x05, 0x0B, 0xFF) if due else (0x06, 0xEF, 0xF1)))
+        wrong = (0x02, 0x03, 0x04, 0x05, 0x0B, 0xF0, 0xFF, 0x06, 0xFE)
+        return first + self.byte(opcode, *wrong) + sum(operands, []) + self.count(count, model.OPERANDS)
+
     def bulk(self, second, *indices):
         """After FC; indices as those of `index`."""
         optional = [space == 'memory' for space in model.BULK_INDICES[second]]
@@ -338,39 +345,49 @@ class Rich:
                 blocks[-1] = False
             elif opcode == model.END:
                 blocks.pop()
-            self.instruction(opcode)
+            self.put(self.instruction(opcode))
+            if self.chance.random() < 0.1:
+                self.folded(self.chance.choice([1, 2, 3, 5]))
         for _ in blocks:
-            self.instruction(0x0B)
+            self.put(self.instruction(0x0B))
         self.put(self.make.byte(0xFF))
 
     def instruction(self, opcode):
+        """The tokens of one."""
         make = self.make
         if opcode in (2, 3, 4):
-            self.put(make.block(opcode, self.name(), self.use()))
-        elif opcode in (5, 0x0B):
-            self.put(make.code(opcode, make.identifier(self.name())))
-        elif opcode == 0x0E:
-            self.put(make.code(opcode, make.indices(self.whats(3, 1), extra=1)))
-        elif opcode == 0x11:
-            self.put(make.code(opcode, self.index(optional=True), self.use()))
-        elif 0x28 <= opcode <= 0x3E:
+            return make.block(opcode, self.name(), self.use())
+        if opcode in (5, 0x0B):
+            return make.code(opcode, make.identifier(self.name()))
+        if opcode == 0x0E:
+            return make.code(opcode, make.indices(self.whats(3, 1), extra=1))
+        if opcode == 0x11:
+            return make.code(opcode, self.index(optional=True), self.use())
+        if 0x28 <= opcode <= 0x3E:
             align = self.chance.choice([0, 0, 1, 2, 3, 32, self.chance.randint(0, 32)])
-            self.put(make.code(opcode, make.byte(align), make.number(self.value()), self.index(optional=True)))
-        elif opcode in (0x3F, 0x40):
-            self.put(make.code(opcode, self.index(optional=True)))
-        elif 0x41 <= opcode <= 0x44:
+            return make.code(opcode, make.byte(align), make.number(self.value()), self.index(optional=True))
+        if opcode in (0x3F, 0x40):
+            return make.code(opcode, self.index(optional=True))
+        if 0x41 <= opcode <= 0x44:
             kind = opcode - 0x41
-            self.put(make.code(opcode, make.operand(kind, self.constant_value(kind))))
-        elif opcode == 0xD0:
-            self.put(make.code(opcode, make.reference(self.reference())))
-        elif opcode == model.BULK:
+            return make.code(opcode, make.operand(kind, self.constant_value(kind)))
+        if opcode == 0xD0:
+            return make.code(opcode, make.reference(self.reference()))
+        if opcode == model.BULK:
             second = self.chance.choice(list(model.BULK_INDICES))
             optional = [space == 'memory' for space in model.BULK_INDICES[second]]
-            self.put(make.bulk(second, *map(self.what, optional)))
-        elif opcode in (0x0C, 0x0D, 0x10, 0xD2) or 0x20 <= opcode <= 0x24:
-            self.put(make.code(opcode, self.index()))
-        else:
-            self.put(make.code(opcode))
+            return make.bulk(second, *map(self.what, optional))
+        if opcode in (0x0C, 0x0D, 0x10, 0xD2) or 0x20 <= opcode <= 0x24:
+            return make.code(opcode, self.index())
+        return make.code(opcode)
+
+    def folded(self, nesting):
+        """A folded record and its operands, so deep at most."""
+        count = self.chance.choice([0, 0, 1, 1, 2, 3]) if nesting > 1 else 0
+        self.put(self.make.byte(model.FOLDED), self.instruction(self.chance.choice(model.FOLDABLE)),
+                 self.make.count(count, model.OPERANDS))
+        for _ in range(count):
+            self.folded(nesting - 1)
 
     def fields(self, count):
         plan = self.chance.choices(range(1, 11), [3, 3, 5, 2, 2, 3, 2, 0, 2, 2], k=count)
@@ -384,7 +401,19 @@ class Rich:
         self.put(self.make.function(self.name(), self.texts(), self.use(), self.pairs(3)))
         opcodes = [opcode for opcode in model.OPCODES if opcode != 0x0B]
         for opcode in opcodes + [0x0B] * 3:
-            self.instruction(opcode)
+            self.put(self.instruction(opcode))
+        self.put(self.make.byte(0xFF))
+
+    def every_folded(self):
+        """A function with each opcode that may be folded, some on those before it."""
+        self.put(self.make.function(self.name(), self.texts(), self.use(), self.pairs(3)))
+        due = 0
+        for opcode in model.FOLDABLE:
+            count = self.chance.choice([0, 1, 2, 16]) if due == 0 else 0
+            self.put(self.make.byte(model.FOLDED), self.instruction(opcode), self.make.count(count, model.OPERANDS))
+            due = count or max(due - 1, 0)
+        for _ in range(due):
+            self.folded(1)
         self.put(self.make.byte(0xFF))
 
 
@@ -397,6 +426,8 @@ def valid(seed, count):
         elif number == 1:
             for byte in range(1, 11):
                 maker.field(byte)
+        elif number == 2:
+            maker.every_folded()
         else:
             maker.fields(chance.choice([1, 1, 2, 3, 4, 6, 9]))
         yield Case('valid %d' % number, joined(maker.records), accepted(len(maker.records)))
@@ -490,6 +521,14 @@ def kinds():
         yield what, [head], m.bulk(second, *indices), b'\xFF'
     for opcode in (0x00, 0x01, 0x0F, 0x1A, 0x1B, 0x45, 0xC4, 0xD1):
         yield 'plain %02X' % opcode, [head], m.code(opcode), b'\xFF'
+    leaf = hexed('F0 01 00')
+    memory = m.byte(0) + m.number(200) + m.index(None, True)
+    yield 'folded, no operand', [head], m.folded(0, 0x41, m.number(0x80)), b'\xFF'
+    yield 'folded, two operands', [head], m.folded(2, 0x36, memory), leaf * 2 + b'\xFF'
+    yield 'folded call_indirect', [head], m.folded(1, 0x11, m.index(b't', True), use), leaf + b'\xFF'
+    yield 'folded bulk memory', [head], m.folded(3, model.BULK, m.bulk(0x08, b'd', None)[1:]), leaf * 3 + b'\xFF'
+    yield 'folded, an operand', [head, m.folded(1, 0x1A)], m.folded(1, 0x10, m.index(b'f'), due=True), leaf + b'\xFF'
+    yield 'folded, a last operand', [head, m.folded(2, 0x6A), m.folded(0, 0x01)], m.folded(0, 0x20, m.index(1), due=True), b'\xFF'
 
 
 def variants(token):
@@ -601,6 +640,8 @@ def sweeps():
             ('optional index', func + '3F', '01 61 FF'),
             ('alignment', func + '28', '00 00 FF'),
             ('second byte of bulk memory', func + 'FC', '01 00 FF'),
+            ('operator', func + 'F0', '00 FF'),
+            ('first byte of an operand', func + 'F0 1A 01', '01 00 FF'),
             ('identifier byte', '01 01', '00 00'),
             ('last byte of an identifier in an index', '08 02 02 61', ''),
             ('identifier length', '01', '00 00'),
@@ -624,7 +665,7 @@ def faults():
     func = hexed('03 00 00 00 00 00 00 00')
     block, loop, if_ = hexed('02 00 00 00 00'), hexed('03 00 00 00 00'), hexed('04 00 00 00 00')
     else_, end = hexed('05 00'), hexed('0B 00')
-    start = hexed('08 01 00')
+    start, fold = hexed('08 01 00'), hexed('F0 01 00 FF')
     for what, text, answer in [
             # 2 between records
             ('ends after a function\'s head', func, refused(2, 1)),
@@ -697,6 +738,36 @@ def faults():
              accepted(8)),
             ('an if in the second function', (func + if_ + else_ + end + b'\xFF') * 2, accepted(10)),
             ('an else in the second function', func + if_ + end + b'\xFF' + func + else_, refused(8, 5)),
+            # 4, 7 and 2 in and around folded records
+            ('folded', func + fold, accepted(3)),
+            ('folded in a block', func + block + fold[:-1] + end + b'\xFF', accepted(5)),
+            ('F0 outside a body', hexed('F0 01 00'), refused(4, 0)),
+            ('F0, then the end of the stream', func + b'\xF0', refused(2, 1)),
+            ('an operator, then the end', func + hexed('F0 01'), refused(2, 1)),
+            ('an operator without its operand, then the end', func + hexed('F0 41'), refused(2, 1)),
+            ('an operand is due, then the end', func + hexed('F0 1A 01'), refused(2, 2)),
+            ('the second operand is due, then the end', func + hexed('F0 6A 02 F0 01 00'), refused(2, 3)),
+            ('an operand of an operand is due, then the end', func + hexed('F0 6A 02 F0 1A 01'), refused(2, 3)),
+            ('a block is folded', func + hexed('F0 02 00 00 00 00 00 FF'), refused(4, 1)),
+            ('an else is folded, no block open', func + hexed('F0 05'), refused(4, 1)),
+            ('an else is folded in an if', func + if_ + hexed('F0 05 00 00'), refused(4, 2)),
+            ('an end is folded in a block', func + block + hexed('F0 0B 00 00'), refused(4, 2)),
+            ('FF is folded', func + hexed('F0 FF 00'), refused(4, 1)),
+            ('F0 is folded', func + hexed('F0 F0 01 00 00'), refused(4, 1)),
+            ('an operand without F0', func + hexed('F0 1A 01 01 FF'), refused(4, 2)),
+            ('an operand after an operand with operands, without F0', func + hexed('F0 6A 02 F0 1A 01 F0 01 00 01'), refused(4, 4)),
+            ('FF where an operand is due', func + hexed('F0 1A 01 FF'), refused(4, 2)),
+            ('end where an operand is due, in a block', func + block + hexed('F0 1A 01 0B 00'), refused(4, 3)),
+            ('FF where the second operand is due', func + hexed('F0 6A 02 F0 01 00 FF'), refused(4, 3)),
+            ('17 operands, then the end', func + hexed('F0 1A 11'), refused(7, 1)),
+            ('17 operands in an operand', func + hexed('F0 1A 01 F0 1A 11'), refused(7, 2)),
+            ('a barred operator and a wrong count', func + hexed('F0 02 00 00 00 00 11'), refused(4, 1)),
+            ('a padded count past 16', func + hexed('F0 1A 91 00'), refused(19, 1)),
+            ('a folded record after another', func + fold[:-1] * 3 + b'\xFF', accepted(5)),
+            ('an instruction after a folded one', func + hexed('F0 1A 01 F0 01 00 01 FF'), accepted(5)),
+            ('FF after an operand, a block open', func + block + hexed('F0 1A 01 F0 01 00 FF'), refused(8, 4)),
+            ('an else after a folded record', func + if_ + fold[:-1] + else_ + end + b'\xFF', accepted(6)),
+            ('a body that ends in a folded one, then another', (func + hexed('F0 1A 01 F0 01 00 FF')) * 2, accepted(8)),
             # 9
             ('second start', start + start, refused(9, 1)),
             ('second start, then the end', start + b'\x08', refused(9, 1)),
@@ -805,6 +876,8 @@ def ceilings():
         yield Case('%d ifs, an else of the outermost, a block elsewhere' % depth,
                    in_body(one_if + block * (depth - 1) + end * (depth - 1) + one_else + end), accepted(2 * depth + 3))
 
+    yield from folded_ceilings(func)
+
     # 1,024 in a count
     indices = lambda count: b'\1\0' * count
     for what, before, extra, after, record, records in [
@@ -866,6 +939,57 @@ def ceilings():
     for refusal, case in places():
         if refusal is None:
             yield case
+
+
+def folded_ceilings(func):
+    """16 operands, 32 deep, and both among 4,096 records and 128 blocks."""
+    in_body = lambda code: func + code + b'\xFF'
+    fold = lambda *operands: hexed('F0 01') + groups(len(operands)) + b''.join(operands)
+    leaf = fold()
+    block, end = hexed('02 00 00 00 00'), hexed('0B 00')
+
+    def chain(depth, before=0, after=0):
+        """One in the other, with operands beside each."""
+        tree = leaf
+        for _ in range(depth - 1):
+            tree = fold(*[leaf] * before, tree, *[leaf] * after)
+        return tree
+
+    for count in (15, 16, 17):
+        answer = accepted(count + 3) if count < 17 else refused(7, 1)
+        yield Case('%d operands' % count, in_body(fold(*[leaf] * count)), answer)
+        inner = accepted(count + 4) if count < 17 else refused(7, 2)
+        yield Case('%d operands of an operand' % count, in_body(fold(fold(*[leaf] * count))), inner)
+    yield Case('16 operands, each with 16', in_body(fold(*[fold(*[leaf] * 16)] * 16)), accepted(275))
+    yield Case('16 operands, one missing', in_body(fold(*[leaf] * 16)[:-3]), refused(4, 17))
+    yield Case('16 operands, one more after them', in_body(fold(*[leaf] * 16) + leaf), accepted(20))
+    for depth in (31, 32, 33):
+        fine = depth < 33
+        for before, after in ((0, 0), (1, 0), (0, 1), (2, 1)):
+            records = depth + (depth - 1) * (before + after)
+            refusal = refused(7, 33 + 31 * before)
+            yield Case('%d deep, %d operands before and %d after' % (depth, before, after),
+                       in_body(chain(depth, before, after)), accepted(records + 2) if fine else refusal)
+        yield Case('%d deep, twice' % depth, in_body(chain(depth) * 2), accepted(2 * depth + 2) if fine else refused(7, 33))
+        yield Case('%d deep, after an operand of 31' % depth, in_body(fold(chain(31), chain(depth - 1))),
+                   accepted(depth + 33) if fine else refused(7, 64))
+        yield Case('%d deep in 128 blocks' % depth, in_body(block * 128 + chain(depth) + end * 128),
+                   accepted(258 + depth) if fine else refused(7, 161))
+        yield Case('%d deep, the last a block' % depth, func + chain(depth)[:-3] + hexed('F0 02'),
+                   refused(4, depth) if fine else refused(7, 33))
+    deep = chain(33)[:-3]
+    yield Case('33 deep, cut at its F0', func + deep + b'\xF0', refused(7, 33))
+    yield Case('33 deep, no F0 there', func + deep + b'\x01', refused(4, 33))
+    yield Case('33 deep, nothing there', func + deep, refused(2, 33))
+
+    # the 4,096th record and the next
+    nops = lambda count: b'\x01' * count
+    due = fold(leaf)[:-3]
+    yield Case('4,096 records, the last folded', in_body(nops(4092) + fold(leaf)), accepted(4096))
+    yield Case('4,097 records, the last but one an operand', in_body(nops(4093) + fold(leaf)), refused(7, 4096))
+    for what, last, answer in (('an operand', b'\xF0', 7), ('none', b'\x01', 4), ('FF', b'\xFF', 4), ('an end', b'\x0B', 4), ('nothing', b'', 2)):
+        yield Case('4,097th is %s where an operand is due' % what, func + nops(4094) + due + last, refused(answer, 4096))
+    yield Case('4,097th is F0', func + nops(4095) + b'\xF0', refused(7, 4096))
 
 
 def item_ceilings(func):

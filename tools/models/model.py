@@ -1,7 +1,8 @@
 #!/usr/bin/env python3
 """A plain model of the whole of document 01, and of document 02's call with
-names (§1), rule of else (§3), one spelling (§5), first holder of a name (§6),
-strict call (§8) and bulk memory instructions (§11): what a call says of a stream.
+names (§1), rule of else (§3), folded records (§4), one spelling (§5), first holder
+of a name (§6), strict call (§8) and bulk memory instructions (§11): what a call
+says of a stream.
 
 It says what the documents and the standard's chapter 5 and appendix (the name
 section) say, in their order, and shares nothing with the definition, the proved
@@ -31,6 +32,8 @@ FUNC, TABLE, MEMORY, GLOBAL = range(4)          # kinds, also of an export
 TYPE, ELEM, DATA = range(4, 7)                  # the other index spaces
 
 NATURAL = (2, 3, 2, 3, 0, 0, 1, 1, 0, 0, 1, 1, 2, 2, 2, 3, 2, 3, 0, 1, 0, 1, 2)
+
+FOLDED = 0xF0
 
 # Bulk memory: FC, a second byte, and an index of each of these, in the record and in the module.
 BULK = 0xFC
@@ -233,14 +236,29 @@ class Parser:
             self.put(Memory(identifier, Limits(is64 | 1, pages, pages)))
 
     def body(self):
-        """The instructions, each (record, opcode, operands)."""
+        """The instructions in flat order, each (record, opcode, operands)."""
         body = []
         while True:
             self.record += 1
             opcode = self.byte()
             if opcode == 0xFF:
                 return body
-            body.append((self.record, opcode, self.operands(opcode)))
+            if opcode == FOLDED:
+                body += self.folded()
+            else:
+                body.append((self.record, opcode, self.operands(opcode)))
+
+    def folded(self):
+        """After F0: its operands from left to right, and then its operator, each
+        with the number that its record has in the stream."""
+        record, opcode = self.record, self.byte()
+        operator = record, opcode, self.operands(opcode)
+        before = []
+        for _ in range(self.number()):
+            self.record += 1
+            self.byte()                         # F0 again
+            before += self.folded()
+        return before + [operator]
 
     def operands(self, opcode):
         """What follows an opcode; None if nothing does, or if it is an absent index."""

@@ -1,7 +1,8 @@
 #!/usr/bin/env python3
 """A reading of document 01's record stream, refusals 1 to 9, with document 02's
-one spelling (19, §5), its rule of else (8, §3) and its bulk memory instructions
-(§11), written from the documents, to be compared with the proved code.
+one spelling (19, §5), its rule of else (8, §3), its bulk memory instructions
+(§11) and its folded records (§4), written from the documents, to be compared with
+the proved code.
 
 As a module:   read(stream) -> ('ok', count of records)
                             or ('refused', number, record)
@@ -26,6 +27,8 @@ EXPORTS = 8
 IDENTIFIER = 64           # bytes
 STRING = 255              # bytes
 ALIGNMENT = 32            # the byte: 0 natural, else exponent 0 to 31 plus 1
+OPERANDS = 16             # of a folded record
+NESTING = 32              # of folded records, the outermost counting 1
 
 VALUE_TYPES = bytes([0x7F, 0x7E, 0x7D, 0x7C, 0x70, 0x6F])
 REFERENCE_TYPES = bytes([0x70, 0x6F])
@@ -36,9 +39,11 @@ STRING_BYTES = bytes(range(0x20, 0x7F))
 FIELDS = bytes(range(0x01, 0x0B))
 BODY_END = 0xFF
 BLOCK, LOOP, IF, ELSE, END = 0x02, 0x03, 0x04, 0x05, 0x0B
+FOLDED = 0xF0
 BULK = 0xFC                                 # and a second byte
 OPCODES = bytes([*range(0x00, 0x06), *range(0x0B, 0x12), 0x1A, 0x1B,
                  *range(0x20, 0x25), *range(0x28, 0xC5), *range(0xD0, 0xD3), BULK])
+FOLDABLE = bytes(opcode for opcode in OPCODES if opcode not in (BLOCK, LOOP, IF, ELSE, END))
 SPACES = ('func', 'table', 'memory', 'global', 'type', 'elem', 'data')
 
 # Bulk memory instructions, by their second byte: of which spaces their indices are.
@@ -313,14 +318,29 @@ class Reader:
 
     def body(self):
         while True:
-            first = self.begin(OPCODES + bytes([BODY_END]))
+            first = self.begin(OPCODES + bytes([FOLDED, BODY_END]))
             if first == BODY_END:
                 if self.open_blocks:
                     raise Refused(8)
                 self.record += 1
                 return
-            self.instruction(first)
-            self.record += 1
+            if first == FOLDED:
+                self.folded(1)
+            else:
+                self.instruction(first)
+                self.record += 1
+
+    def folded(self, nesting):
+        """After F0, nested so deep: one instruction and the count of its operands
+        are the record, and the operands are folded records again."""
+        if nesting > NESTING:
+            raise Refused(7)
+        self.instruction(self.one_of(FOLDABLE))
+        count = self.up_to(OPERANDS)
+        self.record += 1
+        for _ in range(count):
+            self.begin(bytes([FOLDED]))
+            self.folded(nesting + 1)
 
     def instruction(self, opcode):
         if opcode in (BLOCK, LOOP, IF):

@@ -1,6 +1,7 @@
 //! Document 01's samples, refusals, and what a call leaves of what it is lent.
 mod common;
 
+use barrizuppa::stream::{Folded, Head, Instruction, Op, TypeUse, Writer};
 use barrizuppa::{
     assemble, assemble_into, assemble_names, assemble_names_into, assemble_strict,
     assemble_strict_into, assemble_strict_names, assemble_strict_names_into, Refusal, STREAM_BYTES,
@@ -103,6 +104,62 @@ fn s11_128_nested_blocks_and_no_more() {
         Ok(module(&[b"\x01\x04\x01\x60\0\0", b"\x03\x02\x01\0", &code]))
     );
     assert_eq!(assemble(&nested(129)), refused(7, 129));
+}
+
+#[test]
+fn bulk_memory_and_the_data_count() {
+    // data d, memory.init d, data.drop 0, memory.copy, memory.fill: section 12 says one segment
+    let data = b"\x0A\x01d\0\x01a";
+    let code = b"\xFC\x08\x02\x01d\0\xFC\x09\x01\0\xFC\x0A\0\0\xFC\x0B\0";
+    let head: [&[u8]; 2] = [b"\x01\x04\x01\x60\0\0", b"\x03\x02\x01\0"];
+    assert_eq!(
+        assemble(&[&data[..], &function(&signature(0, 0), code)].concat()),
+        Ok(module(&[
+            head[0],
+            head[1],
+            b"\x0C\x01\x01",
+            b"\x0A\x12\x01\x10\0\xFC\x08\0\0\xFC\x09\0\xFC\x0A\0\0\xFC\x0B\0\x0B",
+            b"\x0B\x04\x01\x01\x01a",
+        ]))
+    );
+    // memory.fill alone needs no section 12
+    assert_eq!(
+        assemble(&function(&signature(0, 0), b"\xFC\x0B\0")),
+        Ok(module(&[
+            head[0],
+            head[1],
+            b"\x0A\x07\x01\x05\0\xFC\x0B\0\x0B"
+        ]))
+    );
+    let drop = function(&signature(0, 0), b"\xFC\x09\x02\x01d");
+    assert_eq!(assemble(&drop), refused(14, 1));
+}
+
+#[test]
+fn folded_and_flat_streams_give_the_same_module() {
+    let leaf = |value| Folded::leaf(Instruction::I32Const(value)).unwrap();
+    let sum = Folded::new(Op::I32Add, [leaf(1), leaf(2)]).unwrap();
+    let store = Instruction::Access(barrizuppa::stream::Access::I32Store, Default::default());
+    let store = Folded::new(store, [sum, leaf(3)]).unwrap();
+    let (mut folded, mut flat) = (Writer::new(), Writer::new());
+    folded.func(Head::new(), TypeUse::new(), &[], |body| {
+        body.folded(&store);
+    });
+    flat.func(Head::new(), TypeUse::new(), &[], |body| {
+        body.i32_const(1).i32_const(2).i32_add().i32_const(3);
+        body.i32_store(Default::default());
+    });
+    let (folded, flat) = (folded.finish().unwrap(), flat.finish().unwrap());
+    assert_ne!(folded, flat);
+    let module = assemble(&folded).unwrap();
+    assert!(module.ends_with(b"\0\x41\x01\x41\x02\x6A\x41\x03\x36\x02\0\x0B"));
+    assert_eq!(assemble(&flat), Ok(module));
+    // The operand's fault comes first, at its own record.
+    let calls = function(
+        &signature(0, 0),
+        b"\xF0\x10\x02\x01a\x01\xF0\x10\x02\x01b\0",
+    );
+    assert_eq!(assemble(&calls), refused(14, 2));
 }
 
 #[test]

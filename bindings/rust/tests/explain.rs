@@ -200,6 +200,66 @@ fn data_and_memories_of_bulk_memory() {
 }
 
 #[test]
+fn folded_records() {
+    let get = |name| Folded::leaf(Instruction::LocalGet(Index::Name(name))).unwrap();
+    let call = |ty| Folded::leaf(Instruction::CallIndirect(None, ty)).unwrap();
+    let inner = TypeUse::new().param(F64);
+    let outer = Instruction::CallIndirect(None, TypeUse::new().param(F32));
+    let mut stream = Writer::new();
+    let local = [Var::named("length", I32)];
+    stream.func("f", TypeUse::new(), &local, |body| {
+        body.folded(&Folded::new(Op::I32Add, [get("length"), get("lenght")]).unwrap());
+        body.folded(&Folded::new(outer, [call(inner)]).unwrap());
+        body.folded(&call(TypeUse::of(1).param(F32)));
+    });
+    let stream = stream.finish().unwrap();
+    assert_has(
+        &lines(&stream, 14, 3),
+        &[
+            "     1 |   (i32.add",
+            "     2 |     (local.get $length)",
+            "     3 |     (local.get $lenght))",
+            "       |                ^^^^^^^ no parameter or local of this function is named lenght; is length meant?",
+        ],
+    );
+    // The operand's type comes before its operator's.
+    assert_has(
+        &lines(&stream, 16, 6),
+        &[
+            "     5 |     (call_indirect (param f64)))",
+            "       |     - brings this type",
+            "     6 |   (call_indirect (type 1) (param f32))",
+            "       |                        ^ it is (func (param f64))",
+        ],
+    );
+}
+
+#[test]
+fn an_operand_that_is_due() {
+    // An addition, a drop of a folded nop, and a nop that is not folded.
+    let body = b"\x03\0\0\0\0\0\0\0\xF0\x6A\x02\xF0\x1A\x01\xF0\x01\0";
+    assert_has(
+        &lines(&[&body[..], b"\x01\xFF"].concat(), 4, 4),
+        &[
+            "     1 |   (i32.add",
+            "       |   - waits for operand 2 of 2",
+            "     2 |     (drop",
+            "     3 |       (nop))",
+            "     4 | 01 FF",
+            "       | ^^ at byte 17: an operand is due, and it begins with F0",
+        ],
+    );
+    assert_has(
+        &lines(&body[..14], 2, 3),
+        &[
+            "     2 |     (drop",
+            "       |     - waits for operand 1 of 1",
+            "       | ^^ at byte 14: the stream ends",
+        ],
+    );
+}
+
+#[test]
 fn a_label_of_a_block_that_has_ended() {
     let mut stream = Writer::new();
     stream.func(Head::new(), TypeUse::new(), &[], |body| {

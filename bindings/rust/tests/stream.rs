@@ -173,6 +173,11 @@ fn every_field_and_instruction() {
         body.memory_copy(index("m"), None)
             .memory_copy(None, index("m"));
         body.memory_fill(None).memory_fill(index("m"));
+        let get = || Folded::leaf(Instruction::LocalGet(0.into())).unwrap();
+        let call = Instruction::CallIndirect(None, TypeUse::of(0));
+        let call = Folded::new(call, [get()]).unwrap();
+        body.folded(&get())
+            .folded(&Folded::new(Op::I32Add, [call, get()]).unwrap());
         body.i32_const(i32::MIN).i64_const(-1).f32_const(1.5);
         body.f64_const(f64::INFINITY).ref_null(RefType::Extern);
     });
@@ -199,6 +204,11 @@ fn every_field_and_instruction() {
         "memory.copy $m 0\n",
         "memory.copy 0 $m\n",
         "memory.fill $m\n",
+        "  (local.get 0)\n",
+        "  (i32.add\n",
+        "    (call_indirect (type 0)\n",
+        "      (local.get 0))\n",
+        "    (local.get 0))\n",
         "f64.const inf",
     ] {
         assert!(told.contains(line), "{line}\n{told}");
@@ -396,6 +406,112 @@ fn bulk_memory() {
         assert_eq!(body(&[second, 0, 0, 0]), Err((4, 9)));
     }
     assert_eq!(read(b"\x03\0\0\0\0\0\0\0\xFC").unwrap_err().offset, 9);
+}
+
+/// Folded nops, so many, one in the other.
+fn nested(count: usize) -> Result<Folded<'static>, CannotFold> {
+    (1..count).try_fold(Folded::leaf(Op::Nop)?, |tree, _| {
+        Folded::new(Op::Nop, [tree])
+    })
+}
+
+#[test]
+fn folded_records_that_can_be_made() {
+    let nops = |count| vec![nested(1).unwrap(); count];
+    assert_eq!(
+        Folded::new(Op::Nop, nops(16)).map(|tree| tree.operands().len()),
+        Ok(16)
+    );
+    assert_eq!(Folded::new(Op::Nop, nops(17)), Err(CannotFold::Operands));
+    assert_eq!(
+        Folded::new(Op::Nop, std::iter::repeat(nested(1).unwrap())),
+        Err(CannotFold::Operands)
+    );
+    assert_eq!(nested(32).map(|tree| tree.nesting()), Ok(32));
+    assert_eq!(nested(33), Err(CannotFold::Nesting));
+    // By its deepest operand.
+    let beside = Folded::new(Op::Nop, [nested(1).unwrap(), nested(32).unwrap()]);
+    assert_eq!(beside, Err(CannotFold::Nesting));
+    for barred in [
+        Instruction::Open(Opening::Block, None, TypeUse::new()),
+        Instruction::Else(None),
+        Instruction::End(None),
+    ] {
+        assert_eq!(Folded::leaf(barred), Err(CannotFold::Operator));
+    }
+    // What can be made can be written and read.
+    let wide = Folded::new(Op::Nop, nops(16)).unwrap();
+    let mut writer = Writer::new();
+    writer.func(Head::new(), TypeUse::new(), &[], |body| {
+        body.folded(&wide).folded(&nested(32).unwrap());
+    });
+    let stream = writer.finish().unwrap();
+    assert_eq!(read(&stream).unwrap().len(), 1 + 17 + 32 + 1);
+    assert_eq!(again(&stream), stream);
+}
+
+#[test]
+fn folded_records_that_cannot_be_read() {
+    let body = |record: &[u8]| {
+        read(&[b"\x03\0\0\0\0\0\0\0", record].concat())
+            .map_err(|fault| (fault.refusal.number, fault.refusal.record, fault.offset - 8))
+            .map(|records| records.len())
+    };
+    assert_eq!(body(b"\xF0\x1A\x01\xF0\x01\0\x01\xFF"), Ok(5));
+    // What may not be folded: block, loop, if, else, end, F0, FF, and no opcode.
+    for barred in [0x02, 0x03, 0x04, 0x05, 0x0B, 0xF0, 0xFF, 0x06] {
+        assert_eq!(body(&[0xF0, barred, 0]), Err((4, 1, 1)));
+    }
+    // An operand begins with F0, at the next record.
+    for other in [0x01, 0x02, 0x0B, 0xFF] {
+        assert_eq!(body(&[0xF0, 0x1A, 1, other]), Err((4, 2, 3)));
+        assert_eq!(body(&[0xF0, 0x6A, 2, 0xF0, 0x01, 0, other]), Err((4, 3, 6)));
+    }
+    assert_eq!(body(b"\xF0\x1A\x01"), Err((2, 2, 3)));
+    assert_eq!(body(b"\xF0\x1A"), Err((2, 1, 2)));
+    assert_eq!(body(b"\xF0\x1A\x11"), Err((7, 1, 2)));
+    assert_eq!(body(b"\xF0\x1A\x91\0"), Err((19, 1, 3)));
+    let deep = b"\xF0\x01\x01".repeat(32);
+    assert_eq!(body(&[&deep[..], b"\xF0"].concat()), Err((7, 33, 96)));
+    assert_eq!(body(&[&deep[..], b"\x01"].concat()), Err((4, 33, 96)));
+    assert_eq!(body(&[&deep[3..], b"\xF0\x01\0\xFF"].concat()), Ok(34));
+    assert_eq!(read(b"\xF0\x01\0").unwrap_err().refusal.number, 4);
+}
+
+#[test]
+fn a_folded_body_in_flat_order() {
+    // (i32.store (i32.add (i32.const 1) (i32.const 2)) (i32.const 3)) nop
+    let stream = b"\x03\0\0\0\0\0\0\0\xF0\x36\0\0\0\x02\xF0\x6A\x02\
+        \xF0\x41\x01\0\xF0\x41\x02\0\xF0\x41\x03\0\x01\xFF";
+    let mut reader = Reader::new(stream);
+    assert!(reader.next().unwrap().is_ok());
+    let numbers = |body: Vec<(u32, Instruction<'_>)>| -> Vec<u32> {
+        body.iter().map(|(number, _)| *number).collect()
+    };
+    assert_eq!(numbers(reader.body().unwrap()), [3, 4, 2, 5, 1, 6]);
+    assert_eq!((reader.record(), reader.next()), (8, None));
+    // What one by one has already given is not given again.
+    let mut reader = Reader::new(stream);
+    for _ in 0..4 {
+        reader.next().unwrap().unwrap();
+    }
+    assert_eq!(numbers(reader.body().unwrap()), [4, 5, 6]);
+    let told = account(stream);
+    let nestings: Vec<usize> = told.rows.iter().map(|row| row.nesting).collect();
+    assert_eq!(nestings, [0, 0, 1, 2, 2, 1, 0, 0]);
+    let depths: Vec<usize> = told.rows.iter().map(|row| row.depth).collect();
+    assert_eq!(depths, [0, 1, 2, 3, 3, 2, 1, 0]);
+    let texts: Vec<&str> = told.rows.iter().map(|row| &row.text[..]).collect();
+    assert_eq!(
+        texts[1..6],
+        [
+            "(i32.store",
+            "(i32.add",
+            "(i32.const 1)",
+            "(i32.const 2))",
+            "(i32.const 3))"
+        ]
+    );
 }
 
 #[test]

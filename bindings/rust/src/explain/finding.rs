@@ -115,6 +115,7 @@ pub(super) fn find(account: &Account<'_>, refusal: Refusal) -> Finding {
 fn reading(account: &Account<'_>, fault: Fault) -> Finding {
     let rows = &account.rows;
     let beside = match fault.refusal.number {
+        2 | 4 | 7 if fault.offset == account.read() => awaited(rows).into_iter().collect(),
         8 if account.rest.first() == Some(&ELSE) => forbidden_else(rows),
         8 => unclosed(rows),
         9 => rows
@@ -130,6 +131,25 @@ fn reading(account: &Account<'_>, fault: Fault) -> Finding {
         beside,
         ..Finding::default()
     }
+}
+
+/// The folded record that waits for an operand after these rows, if one does.
+fn awaited(rows: &[Row<'_>]) -> Option<(usize, String)> {
+    let mut waiting: Vec<(usize, u32, u32)> = Vec::new();
+    for (at, row) in rows.iter().enumerate() {
+        let Content::Folded(_, operands) = row.record.content else {
+            continue;
+        };
+        waiting.push((at, 0, operands));
+        while waiting.last().is_some_and(|(_, there, all)| there == all) {
+            waiting.pop();
+            if let Some((_, there, _)) = waiting.last_mut() {
+                *there += 1;
+            }
+        }
+    }
+    let (at, there, all) = waiting.pop()?;
+    Some((at, format!("waits for operand {} of {all}", there + 1)))
 }
 
 /// The blocks that are open before a row, the outermost first.
@@ -317,7 +337,9 @@ type Use<'a> = (Space, Option<Index<'a>>);
 fn uses<'a>(content: &Content<'a>) -> Vec<Use<'a>> {
     match content {
         Content::Field(field) => field_uses(field),
-        Content::Instruction(instruction) => instruction_uses(instruction),
+        Content::Instruction(instruction) | Content::Folded(instruction, _) => {
+            instruction_uses(instruction)
+        }
         Content::BodyEnd => Vec::new(),
     }
 }
@@ -512,6 +534,23 @@ struct Type<'a> {
     name: Option<&'a str>,
 }
 
+/// The rows in flat order: a folded record comes after its operands.
+fn flat_order(rows: &[Row<'_>]) -> Vec<usize> {
+    let (mut order, mut waiting) = (Vec::new(), Vec::<usize>::new());
+    for (at, row) in rows.iter().enumerate() {
+        let complete = |last: &usize| rows[*last].nesting >= row.nesting;
+        while waiting.last().is_some_and(complete) {
+            order.extend(waiting.pop());
+        }
+        match row.record.content {
+            Content::Folded(..) => waiting.push(at),
+            _ => order.push(at),
+        }
+    }
+    order.extend(waiting.into_iter().rev());
+    order
+}
+
 /// All types by their numbers: declared ones, then those that uses add.
 fn types<'a>(rows: &[Row<'a>]) -> Vec<Type<'a>> {
     let mut types = Vec::new();
@@ -530,8 +569,8 @@ fn types<'a>(rows: &[Row<'a>]) -> Vec<Type<'a>> {
             });
         }
     }
-    for (row, one) in rows.iter().enumerate() {
-        let Some((ty, is_block)) = type_use(&one.record.content) else {
+    for row in flat_order(rows) {
+        let Some((ty, is_block)) = type_use(&rows[row].record.content) else {
             continue;
         };
         let short = is_block && ty.params.is_empty() && ty.results.len() <= 1;
@@ -560,7 +599,8 @@ fn type_use<'r, 'a>(content: &'r Content<'a>) -> Option<(&'r TypeUse<'a>, bool)>
             Some((ty, false))
         }
         Content::Instruction(Instruction::Open(_, _, ty)) => Some((ty, true)),
-        Content::Instruction(Instruction::CallIndirect(_, ty)) => Some((ty, false)),
+        Content::Instruction(Instruction::CallIndirect(_, ty))
+        | Content::Folded(Instruction::CallIndirect(_, ty), _) => Some((ty, false)),
         _ => None,
     }
 }

@@ -13,11 +13,14 @@ const LEFT: usize = 4 * WIDTH;
 #[derive(Clone, Debug, PartialEq, Eq)]
 pub struct Row<'a> {
     pub record: Record<'a>,
-    /// What it says; of an own function, its head, with the bracket left open.
+    /// What it says. The bracket of an own function is left open, and so is that of
+    /// a folded record with operands: the last of them closes it.
     pub text: String,
     /// How deep it stands: 0 for a field and the end of a body, and one more for
-    /// a body and each block in it.
+    /// a body, each block in it, and each folded record of which it is an operand.
     pub depth: usize,
+    /// The same of folded records alone.
+    pub nesting: usize,
 }
 
 /// The records of a stream, up to its first fault if it has one. It is shown as
@@ -37,15 +40,19 @@ pub fn account(stream: &[u8]) -> Account<'_> {
     let mut fault = None;
     let mut end = 0;
     let mut depth: usize = 0;
+    let mut due = Vec::new();
     for record in Reader::new(stream) {
         match record {
             Ok(record) => {
                 end = record.offset + record.bytes.len();
                 let (at, next) = depths(depth, &record.content);
                 depth = next;
+                let nesting = due.len();
+                let closed = closes(&mut due, &record.content);
                 rows.push(Row {
-                    text: text(&record.content),
-                    depth: at,
+                    text: text(&record.content) + &")".repeat(closed),
+                    depth: at + nesting,
+                    nesting,
                     record,
                 });
             }
@@ -59,6 +66,25 @@ pub fn account(stream: &[u8]) -> Account<'_> {
     }
 }
 
+/// How many brackets of folded records a record closes beside its own: it is an
+/// operand, and the last of those that they wait for. `due` is how many operands
+/// each still waits for, the outermost first.
+fn closes(due: &mut Vec<u32>, content: &Content<'_>) -> usize {
+    let Content::Folded(_, operands) = content else {
+        return 0;
+    };
+    let mut closed = 0;
+    due.push(*operands);
+    while due.last() == Some(&0) {
+        due.pop();
+        if let Some(outer) = due.last_mut() {
+            *outer -= 1;
+            closed += usize::from(*outer == 0);
+        }
+    }
+    closed
+}
+
 /// Where a record stands that comes at this depth, and where the next one does.
 fn depths(depth: usize, content: &Content<'_>) -> (usize, usize) {
     match content {
@@ -67,7 +93,7 @@ fn depths(depth: usize, content: &Content<'_>) -> (usize, usize) {
         Content::Instruction(Instruction::Open(..)) => (depth, depth + 1),
         Content::Instruction(Instruction::Else(_)) => (depth - 1, depth),
         Content::Instruction(Instruction::End(_)) => (depth - 1, depth - 1),
-        Content::Instruction(_) => (depth, depth),
+        Content::Instruction(_) | Content::Folded(..) => (depth, depth),
     }
 }
 
@@ -90,7 +116,8 @@ impl fmt::Display for Account<'_> {
                 bytes,
                 ..
             } = row.record;
-            show(f, number, offset, bytes, &row.text)?;
+            let text = "  ".repeat(row.nesting) + &row.text;
+            show(f, number, offset, bytes, &text)?;
         }
         if let Some(fault) = self.fault {
             let number = self.rows.len() as u32;
@@ -127,11 +154,14 @@ pub(crate) fn hex(bytes: &[u8]) -> String {
     text
 }
 
-/// What a record says, in the standard's text notation.
+/// What a record says, in the standard's text notation. Of a folded record with
+/// operands the bracket is left open.
 pub fn text(content: &Content<'_>) -> String {
     match content {
         Content::Field(field) => field_text(field),
         Content::Instruction(instruction) => instruction_text(instruction),
+        Content::Folded(operator, 0) => format!("({})", instruction_text(operator)),
+        Content::Folded(operator, _) => format!("({}", instruction_text(operator)),
         Content::BodyEnd => ")".to_string(),
     }
 }

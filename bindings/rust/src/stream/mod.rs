@@ -17,6 +17,7 @@
 //! ```
 
 mod account;
+mod folded;
 mod opcodes;
 mod reader;
 mod types;
@@ -24,6 +25,7 @@ mod writer;
 
 pub use account::{account, text, Account, Row};
 pub(crate) use account::{hex, signature};
+pub use folded::{CannotFold, Folded};
 pub use opcodes::{Access, Op};
 pub use reader::{read, Fault, Reader};
 pub use types::*;
@@ -31,3 +33,9 @@ pub use writer::{Body, Writer};
 
 /// The longest stream, in bytes.
 pub const STREAM_BYTES: usize = 65_536;
+
+/// The most operands of a folded record.
+pub const OPERANDS: usize = 16;
+
+/// How deep folded records nest at most, the outermost counting 1.
+pub const NESTING: usize = 32;

@@ -1,6 +1,6 @@
 //! Reads a stream record by record, by the reading rules: refusals 1 to 9 and 19.
 use super::types::*;
-use super::{Access, Op, STREAM_BYTES};
+use super::{Access, Op, NESTING, OPERANDS, STREAM_BYTES};
 use crate::Refusal;
 use std::fmt;
 
@@ -90,6 +90,34 @@ impl OpenBlocks {
     }
 }
 
+/// The folded records whose operands are not all there, the outermost first, each
+/// by how many it waits for.
+#[derive(Clone, Debug, Default)]
+struct Waiting {
+    due: [u32; NESTING],
+    depth: usize,
+}
+
+impl Waiting {
+    /// Is an operand due?
+    fn is_due(&self) -> bool {
+        self.depth > 0
+    }
+
+    /// One more, with so many operands; with none it is complete, and so is what
+    /// waited for it alone. There is room.
+    fn push(&mut self, operands: u32) {
+        self.due[self.depth] = operands;
+        self.depth += 1;
+        while self.is_due() && self.due[self.depth - 1] == 0 {
+            self.depth -= 1;
+            if self.is_due() {
+                self.due[self.depth - 1] -= 1;
+            }
+        }
+    }
+}
+
 /// The records of a stream, in order. After a fault it ends.
 #[derive(Clone, Debug)]
 pub struct Reader<'a> {
@@ -98,6 +126,7 @@ pub struct Reader<'a> {
     record: u32,
     in_body: bool,
     open: OpenBlocks,
+    waiting: Waiting,
     items: [u32; 7],
     started: bool,
     stopped: bool,
@@ -117,6 +146,7 @@ impl<'a> Reader<'a> {
             record: 0,
             in_body: false,
             open: OpenBlocks::default(),
+            waiting: Waiting::default(),
             items: [0; 7],
             started: false,
             stopped: false,
@@ -459,48 +489,94 @@ impl<'a> Reader<'a> {
         if !self.in_body {
             return Ok(Content::Field(self.field()?));
         }
-        Ok(match self.opcode()? {
-            Some(opcode) => Content::Instruction(self.instruction(opcode)?),
-            None => Content::BodyEnd,
+        Ok(match self.body_byte()? {
+            0xFF => Content::BodyEnd,
+            0xF0 => {
+                let (operator, operands) = self.folded()?;
+                Content::Folded(operator, operands)
+            }
+            opcode => Content::Instruction(self.instruction(opcode)?),
         })
     }
 
-    /// The first byte of a body's record; None is FF, which ends the body.
+    /// The first byte of a body's record; FF ends the body.
     #[inline]
-    fn opcode(&mut self) -> Step<Option<u8>> {
-        let known = |byte| is_opcode(byte) || byte == 0xFF;
-        match self.begin(
+    fn body_byte(&mut self) -> Step<u8> {
+        if self.waiting.is_due() {
+            return self.begin(
+                |byte| byte == 0xF0,
+                &Wrong(4, "an operand is due, and it begins with F0"),
+            );
+        }
+        let known = |byte| is_opcode(byte) || matches!(byte, 0xF0 | 0xFF);
+        let first = self.begin(
             known,
             &Wrong(4, "no record of a body begins with this byte"),
-        )? {
-            0xFF if self.open.count > 0 => Err(&Wrong(8, "the body ends, and a block is open")),
-            0xFF => {
-                self.in_body = false;
-                Ok(None)
+        )?;
+        if first == 0xFF {
+            if self.open.count > 0 {
+                return Err(&Wrong(8, "the body ends, and a block is open"));
             }
-            opcode => Ok(Some(opcode)),
+            self.in_body = false;
         }
+        Ok(first)
     }
 
-    /// All that is left of a body, FF included: for whoever makes a tree. Each
-    /// instruction has its record's number. Outside a body there is nothing.
+    /// All that is left of a body, FF included, in flat order: for whoever makes a
+    /// tree of the standard's instructions. A folded record means its operands from
+    /// left to right, and then its operator. Each instruction has its record's
+    /// number. Outside a body there is nothing.
     pub fn body(&mut self) -> Result<Vec<(u32, Instruction<'a>)>, Fault> {
-        let mut body = Vec::new();
+        let (mut body, mut operators) = (Vec::new(), Vec::new());
         while self.in_body && !self.stopped {
-            self.one_more(&mut body).map_err(|fault| self.stop(fault))?;
+            self.one_more(&mut body, &mut operators)
+                .map_err(|fault| self.stop(fault))?;
             self.record += 1;
         }
         Ok(body)
     }
 
-    /// One more record of a body.
+    /// One more record of a body. Operators wait for their operands, each with how
+    /// deep it is nested.
     #[inline]
-    fn one_more(&mut self, body: &mut Vec<(u32, Instruction<'a>)>) -> Step<()> {
-        if let Some(opcode) = self.opcode()? {
-            let number = self.record;
-            body.push((number, self.instruction(opcode)?));
+    fn one_more(
+        &mut self,
+        body: &mut Vec<(u32, Instruction<'a>)>,
+        operators: &mut Vec<(usize, u32, Instruction<'a>)>,
+    ) -> Step<()> {
+        let number = self.record;
+        match self.body_byte()? {
+            0xFF => {}
+            0xF0 => {
+                let nesting = self.waiting.depth;
+                let (operator, _) = self.folded()?;
+                operators.push((nesting, number, operator));
+                let complete =
+                    |(nesting, ..): &(usize, u32, Instruction<'a>)| *nesting >= self.waiting.depth;
+                while operators.last().is_some_and(complete) {
+                    let (_, number, operator) = operators.pop().expect("there is a last");
+                    body.push((number, operator));
+                }
+            }
+            opcode => body.push((number, self.instruction(opcode)?)),
         }
         Ok(())
+    }
+
+    /// After F0: an operator and the count of its operands.
+    fn folded(&mut self) -> Step<(Instruction<'a>, u32)> {
+        if self.waiting.depth == NESTING {
+            return Err(&Wrong(7, "folded records are nested 32 deep already"));
+        }
+        let opcode = self.byte()?;
+        if !may_fold(opcode) {
+            return Err(&Wrong(4, "no instruction that may be folded has this byte"));
+        }
+        let operator = self.instruction(opcode)?;
+        let too_many = &Wrong(7, "there are more than 16 operands");
+        let operands = self.up_to(OPERANDS as u32, too_many)?;
+        self.waiting.push(operands);
+        Ok((operator, operands))
     }
 
     /// The fault at the record that is being read; nothing more is read.
@@ -782,6 +858,11 @@ fn is_opcode(byte: u8) -> bool {
             | 0xD0..=0xD2
             | 0xFC
     )
+}
+
+/// May the instruction with this opcode be folded?
+fn may_fold(opcode: u8) -> bool {
+    is_opcode(opcode) && !matches!(opcode, 0x02..=0x05 | 0x0B)
 }
 
 /// The standard's idchar: what is printed but for the blank, the quotation mark,

@@ -552,11 +552,31 @@ pub enum Instruction<'a> {
     RefFunc(Index<'a>),
 }
 
+impl Instruction<'_> {
+    /// May it be the operator of a folded record? block, loop, if, else and end
+    /// may not.
+    pub fn may_fold(&self) -> bool {
+        !matches!(
+            self,
+            Instruction::Open(..) | Instruction::Else(_) | Instruction::End(_)
+        )
+    }
+}
+
+impl From<Op> for Instruction<'_> {
+    fn from(op: Op) -> Self {
+        Instruction::Op(op)
+    }
+}
+
 /// What a record says.
 #[derive(Clone, Debug, PartialEq, Eq, Hash)]
 pub enum Content<'a> {
     Field(Field<'a>),
     Instruction(Instruction<'a>),
+    /// F0: an operator and how many operands it has. They are the folded records
+    /// that follow, each with its own.
+    Folded(Instruction<'a>, u32),
     /// FF, the end of a body.
     BodyEnd,
 }

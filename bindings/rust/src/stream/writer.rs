@@ -1,11 +1,12 @@
 //! Writes a stream, record by record.
 use super::opcodes::{accesses, ops};
 use super::types::*;
-use super::{Access, Fault, Op, Reader};
+use super::{Access, Fault, Folded, Op, Reader};
 
 /// Makes a stream. Its calls cannot write a number in another form than its
-/// shortest, a length that is not that of what follows, or a byte that means
-/// nothing; what is left, such as a name of 65 bytes, a ninth export or a block
+/// shortest, a length that is not that of what follows, a byte that means nothing,
+/// or a [folded record](Folded) with a 17th operand, nested 33 deep or without all
+/// its operands; what is left, such as a name of 65 bytes, a ninth export or a block
 /// without its end, is told by [`finish`](Writer::finish).
 ///
 /// An index is a number or a name, `1` or `"length"`. A name that may be absent
@@ -59,11 +60,14 @@ impl Writer {
 
     /// Any record as [`Reader`] gives it. What it reads and this writes are the
     /// same bytes. After an own function its instructions and
-    /// [`Content::BodyEnd`] must follow.
+    /// [`Content::BodyEnd`] must follow, after a folded record its operands.
     pub fn record(&mut self, content: &Content<'_>) -> &mut Self {
         match content {
             Content::Field(field) => self.out.field(field),
             Content::Instruction(instruction) => self.out.instruction(instruction),
+            Content::Folded(operator, operands) => {
+                self.out.folded(operator, *operands as usize);
+            }
             Content::BodyEnd => self.out.byte(0xFF),
         }
         self
@@ -250,6 +254,12 @@ impl Body<'_> {
     /// Any instruction.
     pub fn instruction(&mut self, instruction: &Instruction<'_>) -> &mut Self {
         self.out.instruction(instruction);
+        self
+    }
+
+    /// A folded record and its operands.
+    pub fn folded(&mut self, folded: &Folded<'_>) -> &mut Self {
+        self.out.folded_tree(folded);
         self
     }
 
@@ -631,6 +641,19 @@ impl Out {
     fn indexed(&mut self, opcode: u8, index: &Index<'_>) {
         self.byte(opcode);
         self.index(index);
+    }
+
+    /// F0, an operator and how many operands follow.
+    fn folded(&mut self, operator: &Instruction<'_>, operands: usize) {
+        self.byte(0xF0);
+        self.instruction(operator);
+        self.count(operands);
+    }
+
+    fn folded_tree(&mut self, folded: &Folded<'_>) {
+        let operands = folded.operands();
+        self.folded(folded.operator(), operands.len());
+        operands.iter().for_each(|one| self.folded_tree(one));
     }
 
     /// What bulk memory instructions begin with.

@@ -1,0 +1,69 @@
+//! A stream with its bodies folded: what stands between two that open or close a
+//! block becomes trees, each instruction on some of those before it. Flat order,
+//! and so the module, stays.
+use crate::reader::*;
+use crate::template::Chance;
+
+/// How many operands an instruction takes at most; the ceiling is 16.
+const WIDEST: usize = 4;
+
+/// A folded record with its operands, and how deep it goes.
+struct Tree {
+    bytes: Vec<u8>,
+    nesting: u32,
+}
+
+/// The stream must have no reading fault.
+pub fn folded(stream: &[u8], seed: u64) -> Vec<u8> {
+    let mut reader = Reader::new(stream).expect("it is not too long");
+    let mut chance = Chance::new(seed);
+    let mut out = Vec::new();
+    while !reader.at_end() {
+        let start = reader.bytes_read();
+        let has_body = reader.check_record().expect("it is fine");
+        out.extend_from_slice(&stream[start..reader.bytes_read()]);
+        if has_body {
+            fold_body(stream, &mut reader, &mut chance, &mut out).expect("it is fine");
+        }
+    }
+    out
+}
+
+fn fold_body(stream: &[u8], reader: &mut Reader, chance: &mut Chance, out: &mut Vec<u8>) -> Step<()> {
+    let mut trees: Vec<Tree> = Vec::new();
+    loop {
+        let start = reader.bytes_read();
+        let opcode = reader.opcode()?;
+        if opcode != 0xFF {
+            reader.check_instruction(opcode)?;
+        }
+        reader.record += 1;
+        let record = &stream[start..reader.bytes_read()];
+        if matches!(opcode, 0x02..=0x05 | 0x0B | 0xFF) {
+            trees.drain(..).for_each(|tree| out.extend(tree.bytes));
+            out.extend_from_slice(record);
+            if opcode == 0xFF {
+                return Ok(());
+            }
+        } else {
+            let tree = fold(record, &mut trees, chance);
+            trees.push(tree);
+        }
+    }
+}
+
+/// An operator on some of the last trees.
+fn fold(operator: &[u8], trees: &mut Vec<Tree>, chance: &mut Chance) -> Tree {
+    let first = trees.len() - chance.below(trees.len().min(WIDEST) + 1);
+    let operands = trees.drain(first..);
+    let mut bytes = vec![FOLDED];
+    bytes.extend_from_slice(operator);
+    bytes.push(operands.len() as u8);
+    let mut nesting = 1;
+    for operand in operands {
+        nesting = nesting.max(operand.nesting + 1);
+        bytes.extend(operand.bytes);
+    }
+    assert!(nesting <= NESTING, "a body of the bench is short");
+    Tree { bytes, nesting }
+}
