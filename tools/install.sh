@@ -10,4 +10,5 @@ if [ -z "$missing" ]; then
     echo "nothing is missing"
     exit
 fi
+apt-get update
 apt-get install -y $missing

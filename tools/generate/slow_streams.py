@@ -7,14 +7,13 @@ usage: slow_streams.py PROGRAM [WORD ..]
            the last of them
   labels   128 open blocks of such names, and branches to the outermost
   types    255 types that differ in their last parameters, and uses of the last
-  bucket   255 types in one bucket of the index over types, and uses of the one
-           that the bucket's chain ends with
+  bucket   types in one bucket of the index over types, on the longest way through
+           its tree that some seconds of search find, and uses of the last of them
 Each is a stream of nearly 65,536 bytes, the last of as many records as there
 may be. PROGRAM reads it from standard input, as target/bin/assemble and
 `barrizuppa assemble` do. What counts is the processor's time, the best of all
 runs, less that of an empty stream.
 """
-import itertools
 import os
 import re
 import resource
@@ -29,6 +28,10 @@ from reading_model import RECORDS, STREAM
 
 RUNS = 25
 INDEX = os.path.join(paths.ROOT, 'crates', 'type_table', 'src', 'index.rt')
+
+# The signatures that are searched have so many parameters at most, the one that is used so many.
+PARAMETERS = 9
+USED = 5
 
 
 def name(number):
@@ -63,35 +66,42 @@ def types():
     return filled(head, r.call_indirect(r.use(None, parameters[-1])), b'\xFF')
 
 
-def hashing():
-    """The hash of a signature without results, by the numbers that the code has."""
+def buckets():
+    """All short signatures without results, each after its hash, by the numbers that the code has."""
     with open(INDEX) as source:
         said = dict(re.findall(r'^const (\w+): u64 = (\w+);', source.read(), re.M))
-    half, start, spread, other, buckets = (int(said[word], 0) for word in ('HALF', 'START', 'SPREAD', 'OTHER', 'BUCKETS'))
+    half, start, spread, other, count = (int(said[word], 0) for word in ('HALF', 'START', 'SPREAD', 'OTHER', 'BUCKETS'))
 
     def mix(before, value):
         a, b = (before % half + value * spread) % half, (before // half + other) % half
         return a * b + a + b
 
-    def bucket(parameters):
-        total = start
-        for value in parameters:
-            total = mix(total, value)
-        return mix(total, 0) // half % buckets
+    found = [[] for _ in range(count)]
+    longest = [(start, ())]
+    for _ in range(PARAMETERS):
+        longest = [(mix(total, value), some + (value,)) for total, some in longest for value in (r.i32, r.i64, r.f32, r.f64)]
+        for total, some in longest:
+            ended = mix(total, 0)
+            found[ended // half % count].append((ended, some))
+    return found
 
-    return bucket
+
+def way(types, bit=0):
+    """The longest way through a tree of some types, to one that is short enough to be used often. A
+    tree branches by the bits of the hash, so what stands before a type has its bits up to there."""
+    if len(types) < 2 or bit == 64:
+        return [one for one in types if len(one[1]) <= USED][:1]
+    sides = ([one for one in types if one[0] >> bit & 1 == side] for side in (0, 1))
+    end = max((way(side, bit + 1) for side in sides), key=len)
+    return end and [one for one in types if one not in end][:1] + end
 
 
 def bucket():
-    """The first type that was declared is the last of its chain."""
-    of = hashing()
-    every = (some for length in range(1, 9) for some in itertools.product((r.i32, r.i64, r.f32, r.f64), repeat=length))
-    first = next(every)
-    others = (some for some in every if of(some) == of(first))
-    parameters = [first] + list(itertools.islice(others, model.TYPES - 2))
+    """The last type that was declared is the last on its way."""
+    parameters = [some for _, some in max(map(way, buckets()), key=len)]
     head = b''.join(r.type(None, some) for some in parameters) + r.func('f')[:-1]
     uses = RECORDS - len(parameters) - 2
-    return head + r.call_indirect(r.use(None, first)) * uses + b'\xFF'
+    return head + r.call_indirect(r.use(None, parameters[-1])) * uses + b'\xFF'
 
 
 def seconds(program, stream):

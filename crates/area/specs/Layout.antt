@@ -37,7 +37,7 @@ STRICT = 520
 abbrev pub TYPES : ℕ
 TYPES = 521
 
--- the index over them: for each bucket of hashes the chain's first type, for each type the next in its chain, and its hash in two words
+-- the index over them: for each bucket of hashes the root of a tree, for each type its two branches, and its hash in two words
 abbrev pub HEADS : ℕ
 HEADS = 1801
 
@@ -45,39 +45,39 @@ abbrev pub LINKS : ℕ
 LINKS = 2057
 
 abbrev pub HASHES : ℕ
-HASHES = 2313
+HASHES = 2569
 
 -- the byte size of the type section's content
 abbrev pub SIZE : ℕ
-SIZE = 2825
+SIZE = 3081
 
 -- for each record the number of the type of its use
 abbrev pub USES : ℕ
-USES = 2826
+USES = 3082
 
 -- how many types there are
 abbrev pub TOTAL : ℕ
-TOTAL = 6922
+TOTAL = 7178
 
 -- how many names the table of each index space has
 abbrev pub NAMED : ℕ
-NAMED = 6923
+NAMED = 7179
 
 -- the tables of names
 abbrev pub NAMES : ℕ
-NAMES = 6930
+NAMES = 7186
 
 -- for each name the record that defined its item
 abbrev pub DEFINERS : ℕ
-DEFINERS = 12306
+DEFINERS = 12562
 
 -- the function's parameters and locals
 abbrev pub LOCALS : ℕ
-LOCALS = 14098
+LOCALS = 14354
 
 -- the labels of its open blocks, the outermost first
 abbrev pub LABELS : ℕ
-LABELS = 14482
+LABELS = 14738
 
 -- the words of one table of names
 abbrev pub TABLE : ℕ

@@ -21,28 +21,28 @@ pub const ENDS: usize = 8;
 pub const STRICT: usize = 520;
 // The table of types, five words each.
 pub const TYPES: usize = 521;
-// The index over them: for each bucket of hashes the chain's first type, for each type the next in its chain, and its hash in two words.
+// The index over them: for each bucket of hashes the root of a tree, for each type its two branches, and its hash in two words.
 pub const HEADS: usize = 1801;
 
 pub const LINKS: usize = 2057;
 
-pub const HASHES: usize = 2313;
+pub const HASHES: usize = 2569;
 // The byte size of the type section's content.
-pub const SIZE: usize = 2825;
+pub const SIZE: usize = 3081;
 // For each record the number of the type of its use.
-pub const USES: usize = 2826;
+pub const USES: usize = 3082;
 // How many types there are.
-pub const TOTAL: usize = 6922;
+pub const TOTAL: usize = 7178;
 // How many names the table of each index space has.
-pub const NAMED: usize = 6923;
+pub const NAMED: usize = 7179;
 // The tables of names.
-pub const NAMES: usize = 6930;
+pub const NAMES: usize = 7186;
 // For each name the record that defined its item.
-pub const DEFINERS: usize = 12306;
+pub const DEFINERS: usize = 12562;
 // The function's parameters and locals.
-pub const LOCALS: usize = 14098;
+pub const LOCALS: usize = 14354;
 // The labels of its open blocks, the outermost first.
-pub const LABELS: usize = 14482;
+pub const LABELS: usize = 14738;
 
 // The words of one table of names.
 pub const TABLE: usize = 768;

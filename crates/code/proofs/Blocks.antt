@@ -1,7 +1,6 @@
 -- Instructions that open or close a block or have a type use: what is resolved is what was written.
 use Prim.Native.Nat.{ℕ, zero, suc, _+_, _-_, _≤_, _<_}
-use mathlib.Core.Path.{_≡_, refl, sym, ap, _∙_}
-use mathlib.Core.Bool.{Bool, true}
+use mathlib.Core.Path.{_≡_, refl, sym, ap}
 use mathlib.Core.List.{List, [], _∷_}
 use mathlib.Core.Option.{Option, none}
 use lib.Dec.{ltb}
@@ -32,7 +31,6 @@ use Rattle.syntax.specs.declared.PartAt.the-variants as P
 use Rattle.syntax.specs.declared.Index.{Index}
 use Rattle.syntax.specs.declared.IndexAt.{IndexAt}
 use Rattle.syntax.specs.declared.IndexAt.the-variants as X
-use Rattle.token.proofs.Gets.{gets-first, gets-rest, gets-after}
 use Rattle.syntax.specs.TypeUses.{useOf, useAt}
 use Rattle.syntax.specs.declared.TypeUse.{TypeUse}
 use Rattle.syntax.specs.declared.UseAt.{UseAt}
@@ -41,6 +39,7 @@ use Rattle.name_table.specs.Area.{resolved}
 use Rattle.name_table.specs.declared.table.Resolved.{Resolved}
 use Rattle.name_table.specs.declared.table.Resolved.the-variants as R
 use Rattle.instr.specs.Bodies.{deepInstr}
+use Rattle.instr.proofs.Known.{elses-known, ends-known}
 use Rattle.instr.proofs.Ways.{deep-opening, deep-elsing, deep-ending}
 use Rattle.type_table.specs.Table.{typesIn, Recalled}
 use Rattle.scope.specs.Scope.{scopeIn, labelsIn}
@@ -123,11 +122,6 @@ same-done s w p m x next d old at y r new g b o f t e = record {
   each = λ ls. rw t (turned-same s w ls (p .depth - 1) (p .rec) (recordOf m) old at x (past p next d) (rw g) o f refl new y b (e ls));
 }
 
--- a label can be read where the whole record can
-label-known : {B : Type 0} (f : Option Identifier → ℕ → Step B) (n : ℕ) (t : Bool) (s : List ℕ) (here : ℕ)
-    → Gets (onward (λ _ q. onward f (Token.identifier s q)) (require n t s here)) → Gets (Token.identifier s here)
-label-known f n t s here g = gets-first f (Token.identifier s here) (gets-after (λ _ q. onward f (Token.identifier s q)) n t s here g)
-
 -- an else or an end, by how many blocks it closes
 abbrev closer : ℕ → Option Identifier → Syntax.Instr Identifier
 closer zero l = Syntax.elses l
@@ -137,20 +131,6 @@ module _ (s : List ℕ) (k op here : ℕ) where
   opening-reads : deepInstr k op opening s here ≡ (require 7 (ltb k 128) >> Instructions.instruction op opening) s here
   opening-reads = ap (λ (m : Reader (Syntax.Instr Identifier)). m s here) (deep-opening k op)
 
-  pub opens-known : Gets (deepInstr k op opening s here) → Gets (Token.identifier s here)
-  unfolding Instructions.instruction
-  opens-known g = label-known _ 7 (ltb k 128) s here (rw opening-reads at g)
-
-  -- and after the label a type use
-  pub opens-use : (r : PartAt) (label : Part) (a : ℕ) → Token.identifier s here ≡ idAt s r → r ≡ P.Got label a → Gets (deepInstr k op opening s here) → Gets (Token.typeUse s a)
-  opens-use r label a e d g = go (rw opening-reads at g)
-    where
-      after-label : Gets (Instructions.instruction op opening s here) → Gets (Token.typeUse s a)
-      after-label h = unfold Instructions.instruction in gets-first _ (Token.typeUse s a) (gets-rest _ (Token.identifier s here) h (idOf s label) a (e ∙ ap (idAt s) d))
-
-      go : Gets ((require 7 (ltb k 128) >> Instructions.instruction op opening) s here) → Gets (Token.typeUse s a)
-      go h = after-label (gets-after (λ _ q. Instructions.instruction op opening s q) 7 (ltb k 128) s here h)
-
   -- an else or an end is read in the same way
   closing-reads : (c : ℕ) → deepInstr k op (closingForm c) s here
       ≡ onward (λ _ q. onward (λ l next. got (closer c l) next) (Token.identifier s q)) (require 8 (ltb 0 k) s here)
@@ -159,7 +139,8 @@ module _ (s : List ℕ) (k op here : ℕ) where
   closing-reads (suc c) = ap (λ (m : Reader (Syntax.Instr Identifier)). m s here) (deep-ending k op)
 
   pub closing-known : (c : ℕ) → Gets (deepInstr k op (closingForm c) s here) → Gets (Token.identifier s here)
-  closing-known c g = label-known _ 8 (ltb 0 k) s here (rw (closing-reads c) at g)
+  closing-known zero g = elses-known s k op here g
+  closing-known (suc c) g = ends-known s k op here g
 
 module _ (s w : List ℕ) (p : Place) (op here : ℕ) where
   -- a block

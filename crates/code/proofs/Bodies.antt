@@ -1,7 +1,7 @@
 -- The loop over a body: what has been written and what is still to come are the whole.
 use Prim.Native.Nat.{ℕ, suc, _+_, _-_, _*_, _≤_, _<_, _^_}
 use mathlib.Core.Path.{_≡_, refl, sym, _∙_, ap}
-use mathlib.Core.Bool.{Bool, true, false, false≢true}
+use mathlib.Core.Bool.{Bool, true, false}
 use mathlib.Core.Option.{Option, none, some, Option·none-ne-some}
 use mathlib.Core.List.{List, [], _∷_, _++_, append-assoc, append-nil}
 use lib.Dec.{eqb}
@@ -38,7 +38,8 @@ use Rattle.area.specs.Kept.{Kept}
 use Rattle.area.proofs.Kept.{kept-same, kept-then, kept-less}
 use Rattle.type_table.specs.Table.{typesIn, Recalled}
 use Rattle.instr.specs.Bodies.{deepInstr, Head, one, folding, ended, unread, oneOf, onHead, headAt, Stretch, nothing, stopped, joined, before, treeAt, bodyFrom}
-use Rattle.instr.proofs.Stretches.{tree-later, body-turn, body-full}
+use Rattle.instr.proofs.Known.{one-gets}
+use Rattle.instr.proofs.Stretches.{tree-later, body-turn, body-full, body-one, body-folded, whole-head}
 use Rattle.scope.specs.Scope.{scopeIn, localsIn, FewLocals, labelsIn}
 use Rattle.scope.specs.declared.Locals.{Locals}
 use Rattle.scope.proofs.Frames.{scope-kept, locals-kept, recalled-left, recalled-right, recalled-scope}
@@ -117,25 +118,15 @@ module _ (s : List ℕ) (k r here : ℕ) (low : r < 4096) where
       go (ended next) h = refl
       go unread h = refl
 
-  body-one : (x : Syntax.Instr Identifier) (next : ℕ) → headAt k s here ≡ one x next → bodyFrom k r s here ≡ before r x (bodyFrom (depthAfter x k) (r + 1) s next)
-  body-one x next e = body-turn s k r here low ∙ rw e refl
-
-  body-folded : headAt k s here ≡ folding → bodyFrom k r s here ≡ joined (treeAt 32 s r here) (bodyFrom k (treeAt 32 s r here .rec) s (treeAt 32 s r here .at))
-  body-folded e = body-turn s k r here low ∙ rw e refl
-
-  body-cut : headAt k s here ≡ unread → bodyFrom k r s here ≡ stopped r here
-  body-cut e = body-turn s k r here low ∙ rw e refl
-
   module _ (w : List ℕ) (v : Resolvable s w (bodyFrom k r s here)) where
     one-uses : (x : Syntax.Instr Identifier) (next : ℕ) → headAt k s here ≡ one x next
         → Recalled w (typesIn s w) (usedAt r (instrUses x) ++ bodyUses (bodyFrom (depthAfter x k) (r + 1) s next .body))
     unfolding bodyUses
-    one-uses x next e = let u = v .recalled in rw (body-one x next e) at u
+    one-uses x next e = let u = v .recalled in rw (body-one s k r here low x next e) at u
 
     -- an instruction stands there: it can be read, and its type use has its number
     head-gets : (m : Step (Syntax.Instr Identifier)) → headAt k s here ≡ oneOf m → Gets m
-    head-gets (got x next) e = record { value = x; next = next; is = refl }
-    head-gets (fault n) e = absurd (never-cut v (ap (λ (t : Stretch). t .whole) (body-cut e)))
+    head-gets m e = one-gets m (rw e at (whole-head s k r here low (v .whole)))
 
     head-uses : (m : Step (Syntax.Instr Identifier)) → headAt k s here ≡ oneOf m → Recalled w (typesIn s w) (readUses r m)
     head-uses (got x next) e = recalled-left w (typesIn s w) (usedAt r (instrUses x)) (bodyUses (bodyFrom (depthAfter x k) (r + 1) s next .body)) (one-uses x next e)
@@ -143,7 +134,7 @@ module _ (s : List ℕ) (k r here : ℕ) (low : r < 4096) where
 
     -- a folded record stands there
     head-tree : headAt k s here ≡ folding → Resolvable s w (treeAt 32 s r here)
-    head-tree e = resolvable-first s w (treeAt 32 s r here) (bodyFrom k (treeAt 32 s r here .rec) s (treeAt 32 s r here .at)) (rw (body-folded e) at v)
+    head-tree e = resolvable-first s w (treeAt 32 s r here) (bodyFrom k (treeAt 32 s r here .rec) s (treeAt 32 s r here .at)) (rw (body-folded s k r here low e) at v)
 
 -- an instruction that was read as a record
 instr-read : (m : Step (Syntax.Instr Identifier)) (x : Syntax.Instr Identifier) (q : ℕ) → recordOf m ≡ got (instr x) q → oneOf m ≡ one x q
@@ -281,6 +272,10 @@ module _ (s w : List ℕ) (k r here : ℕ) (v : Resolvable s w (bodyFrom k r s h
     pub calling-uses : f ≡ F.Calling → Recalled w (typesIn s w) (readUses r (deepInstr k 0x11 calling s a))
     unfolding deepInstr admits instruction
     calling-uses e = formed-uses calling (ap formIs e)
+
+    pub calling-gets : f ≡ F.Calling → Gets (deepInstr k 0x11 calling s a)
+    unfolding deepInstr admits instruction
+    calling-gets e = formed-gets calling (ap formIs e)
 
     pub plain-gets : (o : Operands) → f ≡ F.Operands o → Gets (plainOf b (operandsIs o) s a)
     unfolding deepInstr admits instruction

@@ -36,7 +36,7 @@ use Rattle.token.proofs.Gets.{gets-first}
 use Rattle.type_table.specs.Table.{typesIn, Recalled}
 use Rattle.instr.specs.Bodies.{deepInstr, onByte, Stretch, nothing, stopped, joined, operatorLast, onFold, foldHere, operandsBy, treeAt}
 use Rattle.instr.specs.Readers.{countOf, partsOf, partsAt}
-use Rattle.instr.proofs.Stretches.{tree-reach, tree-is}
+use Rattle.instr.proofs.Stretches.{tree-reach, tree-is, operands-none, operands-more}
 use Rattle.scope.specs.Scope.{scopeIn, localsIn, labelsIn}
 use Rattle.scope.specs.declared.Locals.{Locals}
 use Rattle.binary.specs.Emits.{Wrote, Emits}
@@ -48,7 +48,7 @@ use Rattle.plain.specs.declared.turn.Turn.{Turn}
 use Rattle.plain.specs.declared.turn.Turn.the-variants as T
 use Rattle.plain.proofs.Turns.{turned-fault}
 use Rattle.code.specs.Body.{Resolvable, Within, stretchAnswer, Unfolded, StretchTurned, lastTurn, OperatorTurned}
-use Rattle.code.proofs.Stretches.{concat-append, all-after, after-after, operands-none, operands-more, resolvable-first, resolvable-rest, resolvable-operands, resolvable-operator, never-cut, operands-level, tree-level, body-append}
+use Rattle.code.proofs.Stretches.{concat-append, all-after, after-after, resolvable-first, resolvable-rest, resolvable-operands, resolvable-operator, never-cut, operands-level, tree-level, body-append}
 
 -- ## `operator_record`
 
@@ -87,6 +87,9 @@ module _ (s w : List ℕ) (l : Locals) (k rec here : ℕ) (q : ByteAt) (told : b
 
     pub operator-calling-uses : (j : ℕ) → f ≡ F.Calling → Recalled w (typesIn s w) (readUses rec (operator s here)) → Recalled w (typesIn s w) (readUses rec (deepInstr j 0x11 calling s a))
     operator-calling-uses j e r = rw (calling-is j e) at r
+
+    pub operator-calling-gets : (j : ℕ) → f ≡ F.Calling → Gets (operator s here) → Gets (deepInstr j 0x11 calling s a)
+    operator-calling-gets j e g = rw (calling-is j e) at g
 
     pub operator-calling : (j : ℕ) (old : List ℕ) (at : ℕ) (r : Turn) (w′ new : List ℕ) → f ≡ F.Calling → AnyLocals s w k rec (recordOf (deepInstr j 0x11 calling s a)) old at r w′ new
         → Turned s w (localsIn s w l) k rec (recordOf (operator s here)) old at r w′ new

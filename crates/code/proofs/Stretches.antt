@@ -1,11 +1,9 @@
 -- What resolving makes of a stretch of a body: of one and then another, and of folded records.
-use Prim.Native.Nat.{ℕ, zero, suc, _+_, _-_, _≤_, _<_}
+use Prim.Native.Nat.{ℕ, zero, suc, _+_, _-_}
 use mathlib.Core.Path.{_≡_, refl, sym, _∙_, ap}
-use mathlib.Core.Bool.{Bool, true, false, _&&_, false≢true}
+use mathlib.Core.Bool.{Bool, true, false, false≢true}
 use mathlib.Core.List.{List, [], _∷_, _++_, append-assoc}
 use lib.Dec.{leb}
-use borrow.Author.Tests.{leb-false}
-use native.Mathlib.Omega.{arith}
 use Rattle.definition.specs.Basic.{Answer, ok, fails, _>>=_, concatMap, if_then_else_}
 use Rattle.definition.specs.Syntax as Syntax
 use Rattle.definition.specs.Syntax.{Bytes, Identifier, Body, Op, Rec, field, instr, folded, bodyEnd}
@@ -17,7 +15,8 @@ use Rattle.laws.proofs.Bodies.{Foldable, folds}
 use Rattle.syntax.specs.Refusals.{refusedBy}
 use Rattle.syntax.specs.declared.Refusal.{Refusal}
 use Rattle.type_table.specs.Table.{typesIn, Recalled}
-use Rattle.instr.specs.Bodies.{Stretch, nothing, stopped, joined, operatorLast, onFold, foldHere, operandsBy, treeAt}
+use Rattle.instr.specs.Bodies.{Stretch, stopped, joined, operatorLast, onFold, foldHere, operandsBy, treeAt}
+use Rattle.instr.proofs.Stretches.{whole-first, whole-rest}
 use Rattle.scope.proofs.Frames.{recalled-left, recalled-right}
 use Rattle.operands.proofs.Elements.{after}
 use Rattle.code.specs.Body.{Resolvable}
@@ -47,33 +46,17 @@ unfolding _>>=_ after
 after-after (ok ys) done more = ap ok (sym (append-assoc done more ys))
 after-after (fails q) done more = refl
 
--- ## Operands
-
--- none is left; one, and the others
-pub operands-none : (f : ℕ → ℕ → Stretch) (n r here : ℕ) → n ≤ 0 → operandsBy f n r here ≡ nothing r here
-unfolding operandsBy
-operands-none f n r here h = let m : n ≡ 0 = omega arith in rw m refl
-
-pub operands-more : (f : ℕ → ℕ → Stretch) (n r here : ℕ) → 0 < n → operandsBy f n r here ≡ joined (f r here) (operandsBy f (n - 1) (f r here .rec) (f r here .at))
-unfolding operandsBy
-operands-more f zero r here h = absurd (omega arith)
-operands-more f (suc n) r here h = let m : suc n - 1 ≡ n = omega arith in rw m refl
-
 -- ## What may be resolved
-
-both : (a b : Bool) → (a && b) ≡ true → (a ≡ true) × (b ≡ true)
-both true b e = (refl, e)
-both false b e = absurd (false≢true e)
 
 module _ (s w : List ℕ) (t u : Stretch) (v : Resolvable s w (joined t u)) where
   joined-uses : Recalled w (typesIn s w) (bodyUses (t .body) ++ bodyUses (u .body))
   joined-uses = rw (uses-append (t .body) (u .body)) at (v .recalled)
 
   pub resolvable-first : Resolvable s w t
-  resolvable-first = record { recalled = recalled-left w (typesIn s w) (bodyUses (t .body)) (bodyUses (u .body)) joined-uses; whole = both (t .whole) (u .whole) (v .whole) .0 }
+  resolvable-first = record { recalled = recalled-left w (typesIn s w) (bodyUses (t .body)) (bodyUses (u .body)) joined-uses; whole = whole-first t u (v .whole) }
 
   pub resolvable-rest : Resolvable s w u
-  resolvable-rest = record { recalled = recalled-right w (typesIn s w) (bodyUses (t .body)) (bodyUses (u .body)) joined-uses; whole = both (t .whole) (u .whole) (v .whole) .1 }
+  resolvable-rest = record { recalled = recalled-right w (typesIn s w) (bodyUses (t .body)) (bodyUses (u .body)) joined-uses; whole = whole-rest t u (v .whole) }
 
 module _ (s w : List ℕ) (r : ℕ) (x : Syntax.Instr Identifier) (t : Stretch) (v : Resolvable s w (operatorLast r x t)) where
   operator-recalled : Recalled w (typesIn s w) (bodyUses (t .body) ++ bodyUses ((r, x) ∷ []))

@@ -176,11 +176,11 @@ fn emit_indirect(
 }
 
 pub fn indirect_record(s: &[u8], work: &[u32], out: &mut [u8], at: usize, p: Place) -> Turn
-    requires { ⌜ (WORDS ≤ length (now work)) × InBody p × Recalled (now work) (typesIn (now s) (now work)) (readUses (p .rec) (deepInstr (p .depth - 1) 0x11 Instructions.calling (now s) (p .at))) ⌝ }
+    requires { ⌜ (WORDS ≤ length (now work)) × InBody p × Recalled (now work) (typesIn (now s) (now work)) (readUses (p .rec) (deepInstr (p .depth - 1) 0x11 Instructions.calling (now s) (p .at))) × Gets (deepInstr (p .depth - 1) 0x11 Instructions.calling (now s) (p .at)) ⌝ }
     ensures { λ r. ⌜ AnyLocals (now (s .entry)) (now (work .entry)) (p .depth - 1) (p .rec) (recordOf (deepInstr (p .depth - 1) 0x11 Instructions.calling (now (s .entry)) (p .at))) (now (out .entry)) at r (now (work .entry)) (now (out .exit)) ⌝ }
 {
-    match token::read_optional(s, p.at) {
-        IndexAt::Got(x, a) => match typeuse::read_type_use(s, a) {
+    match token::known_optional(s, p.at) {
+        IndexAt::Got(x, a) => match typeuse::known_type_use(s, a) {
             UseAt::Got(t, next) => {
                 let e = emit_indirect(s, work, out, at, p, x, t);
                 plain::go_on(e, p, next, p.depth)

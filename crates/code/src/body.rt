@@ -29,16 +29,28 @@ fn one_record(s: &[u8], work: &mut [u32], out: &mut [u8], at: usize, p: Place, l
                     if b == 0xF0 {
                         return crate::fold::emit_folded(s, work, out, at, p, l, 32);
                     }
-                    Turn::Done
+                    return Turn::Done;
                 }
-                Form::Opening => crate::block::opens_record(s, work, out, at, q, b),
-                Form::Elsing => crate::block::closing_record(s, work, out, at, q, 0x05, 0),
-                Form::Ending => crate::block::closing_record(s, work, out, at, q, 0x0B, 1),
-                Form::Calling => crate::block::indirect_record(s, work, out, at, q),
-                Form::Operands(what) => plain::plain_record(s, work, out, at, q, l, b, what),
+                Form::Opening => {
+                    return crate::block::opens_record(s, work, out, at, q, b);
+                }
+                Form::Elsing => {
+                    return crate::block::closing_record(s, work, out, at, q, 0x05, 0);
+                }
+                Form::Ending => {
+                    return crate::block::closing_record(s, work, out, at, q, 0x0B, 1);
+                }
+                Form::Calling => {
+                    return crate::block::indirect_record(s, work, out, at, q);
+                }
+                Form::Operands(what) => {
+                    return plain::plain_record(s, work, out, at, q, l, b, what);
+                }
             }
         }
-        ByteAt::Fault(_) => Turn::Done,
+        ByteAt::Fault(_) => {
+            return Turn::Done;
+        }
     }
 }
 

@@ -91,7 +91,7 @@ pub fn emit_folded(
     if 4096 <= p.rec {
         return Turn::Done;
     }
-    match instr::pass_folded(s, p.at) {
+    match instr::skip_folded(s, p.at) {
         Folding::Parts(a, n, next) => {
             let held = emit_operands(s, work, out, at, p, l, left - 1, next, n);
             operator_last(s, work, out, held, p, l, a)

@@ -1,4 +1,5 @@
 // The entries of a field.
+use crate::section;
 use syntax::Entry;
 use syntax::Extern;
 use syntax::Field;
@@ -31,21 +32,21 @@ pub fn section_of(e: Entry) -> u8
 {
     match e {
         Entry::Nothing => 0,
-        Entry::Import(_, _) => 2,
-        Entry::Func(_) => 3,
-        Entry::Table(_) => 4,
-        Entry::InlineTable(_, _) => 4,
-        Entry::Mem(_) => 5,
-        Entry::InlineMem(_, _) => 5,
-        Entry::Global(_, _) => 6,
-        Entry::Export(_, _, _) => 7,
-        Entry::Exports(_, _, _) => 7,
-        Entry::Start(_) => 8,
-        Entry::Elem(_, _) => 9,
-        Entry::InlineElem(_, _, _) => 9,
-        Entry::Code(_, _, _) => 10,
-        Entry::Data(_, _) => 11,
-        Entry::InlineData(_, _, _) => 11,
+        Entry::Import(_, _) => section::IMPORT,
+        Entry::Func(_) => section::FUNC,
+        Entry::Table(_) => section::TABLE,
+        Entry::InlineTable(_, _) => section::TABLE,
+        Entry::Mem(_) => section::MEM,
+        Entry::InlineMem(_, _) => section::MEM,
+        Entry::Global(_, _) => section::GLOBAL,
+        Entry::Export(_, _, _) => section::EXPORT,
+        Entry::Exports(_, _, _) => section::EXPORT,
+        Entry::Start(_) => section::START,
+        Entry::Elem(_, _) => section::ELEM,
+        Entry::InlineElem(_, _, _) => section::ELEM,
+        Entry::Code(_, _, _) => section::CODE,
+        Entry::Data(_, _) => section::DATA,
+        Entry::InlineData(_, _, _) => section::DATA,
     }
 }
 

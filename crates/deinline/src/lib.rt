@@ -1,5 +1,6 @@
 // What a field puts into the sections: up to three entries, each of one section.
 pub mod entry;
+pub mod section;
 
 pub use entry::ItemIn;
 pub use entry::Spot;

@@ -1,10 +1,13 @@
 -- Folded records that are passed over, along what the calls of the code answered.
 use mathlib.Core.Path.{_≡_, refl, _∙_}
 use Prim.Native.Nat.{ℕ}
+use mathlib.Core.List.{List, [], _∷_}
+use types.Run.{OneOf, miss}
+use denote.Enum.Declared.{tagOf}
 use Rattle.definition.specs.Syntax.{Bytes, Identifier, Instr, folded}
 use Rattle.definition.specs.Reader.{Step, got, fault, onward, byte}
 use Rattle.definition.specs.Token.{upTo, optional, typeUse}
-use Rattle.definition.specs.Instructions.{formOf, plainOf, instruction, mayFold, operator, fold}
+use Rattle.definition.specs.Instructions.{calling, formOf, plainOf, instruction, mayFold, operator, fold}
 use Rattle.laws.specs.Steps.{stops}
 use Rattle.syntax.specs.Numbers.{u32At}
 use Rattle.syntax.specs.declared.U32.{U32}
@@ -23,6 +26,7 @@ use Rattle.syntax.specs.declared.Operands.{Operands}
 use Rattle.syntax.specs.Instructions.{formIs}
 use Rattle.syntax.specs.declared.Form as Code
 use Rattle.syntax.specs.declared.Form.the-variants as F
+use Rattle.syntax.proofs.Form as FormOf
 use Rattle.syntax.specs.declared.Folding.{Folding}
 use Rattle.syntax.specs.declared.Folding.the-variants as FO
 use Rattle.token.proofs.Skips.{stops-made, stops-then, gave, gave-not}
@@ -30,6 +34,9 @@ use Rattle.expr.proofs.Skips.{any-opcode}
 use Rattle.instr.specs.Readers.{countOf, partsOf}
 
 -- ## The operator
+
+abbrev Barred : List ℕ
+Barred = 0 ∷ 1 ∷ 2 ∷ 3 ∷ []
 
 module _ (s : Bytes) (at : ℕ) (x : Step (Unit {0})) (q : ByteAt) (told : byte s at ≡ byteAt q) where
   pub operator-none : (n : ℕ) → q ≡ B.Fault n → fault n ≡ x → stops (operator s at) ≡ x
@@ -58,6 +65,23 @@ module _ (s : Bytes) (at : ℕ) (x : Step (Unit {0})) (q : ByteAt) (told : byte 
     unfolding operator mayFold instruction
     operator-plain w e p = rw (told, d, says, e) (stops-made _ (plainOf b (operandsIs w) s a) ∙ any-opcode b (operandsIs w) s a ∙ p)
 
+    -- a call_indirect that another routine passes over
+    pub operator-calls : f ≡ F.Calling → stops (instruction b calling s a) ≡ x → stops (operator s at) ≡ x
+    unfolding operator mayFold
+    operator-calls e p = rw (told, d, says, e) p
+
+    -- none other can be folded
+    pub barred : OneOf Barred (tagOf FormOf.the-type f) → fault 4 ≡ x → stops (operator s at) ≡ x
+    barred h p = go f refl h
+      where
+        go : (g : Code.Form) → f ≡ g → OneOf Barred (tagOf FormOf.the-type g) → stops (operator s at) ≡ x
+        go F.NoOpcode e l = no-opcode e p
+        go F.Opening e l = barred-opening e p
+        go F.Elsing e l = barred-elsing e p
+        go F.Ending e l = barred-ending e p
+        go F.Calling e l = absurd (miss Barred 4 tt l)
+        go (F.Operands w) e l = absurd (miss Barred 5 tt l)
+
     -- a call_indirect: its table, and its type
     module _ (e : f ≡ F.Calling) (u : Skip) (table : stops (optional s a) ≡ skip u) where
       pub table-not : (n : ℕ) → u ≡ S.Fault n → fault n ≡ x → stops (operator s at) ≡ x
@@ -72,6 +96,8 @@ module _ (s : Bytes) (at : ℕ) (x : Step (Unit {0})) (q : ByteAt) (told : byte 
         pub type-not : (n : ℕ) → r ≡ UA.Fault n → fault n ≡ x → stops (operator s at) ≡ x
         unfolding operator mayFold instruction
         type-not n h p = rw (told, d, says, e) (stops-then _ x (optional s a) u c table g (λ y. rw (type, h) p))
+
+pub ruleset skipped = (operator-none, barred, operator-calls, operator-plain, refl)
 
 pub ruleset operators = (operator-none, no-opcode, barred-opening, barred-elsing, barred-ending, operator-plain, table-not, type-past, type-not, refl)
 

@@ -2,4 +2,5 @@ pub mod Ways
 pub mod Folds
 pub mod Forms
 pub mod Heads
+pub mod Known
 pub mod Stretches

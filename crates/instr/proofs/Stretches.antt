@@ -1,7 +1,7 @@
--- A body that was read before, turn by turn; and how far the records of a stretch reach.
+-- A body that was read before, turn by turn; how far the records of a stretch reach; and what is known where all of it can be read.
 use mathlib.Core.Path.{_≡_, refl, sym, _∙_, ap}
 use Prim.Native.Nat.{ℕ, zero, suc, _+_, _-_, _≤_, _<_}
-use mathlib.Core.Bool.{Bool, true, false}
+use mathlib.Core.Bool.{Bool, true, false, _&&_, false≢true}
 use lib.Dec.{leb}
 use borrow.Author.Tests.{le-leb, lt-leb, leb-true, leb-false}
 use native.Mathlib.Omega.{arith}
@@ -11,6 +11,8 @@ use Rattle.definition.specs.Syntax as Syntax
 use Rattle.definition.specs.Syntax.{Bytes, Identifier, Rec, field, instr, folded, bodyEnd}
 use Rattle.definition.specs.Reader.{Step, got, fault}
 use Rattle.laws.specs.Depths.{depthAfter}
+use Rattle.token.specs.Known.{Gets}
+use Rattle.instr.specs.Known.{IsRead}
 use Rattle.instr.specs.Bodies.{Head, one, folding, ended, unread, headAt, onHead, Stretch, nothing, stopped, joined, before, operatorLast, onFold, foldHere, operandsBy, treeAt, bodyTurns, bodyFrom}
 
 -- ## Records of a folded record
@@ -153,3 +155,64 @@ module _ (s : Bytes) where
   pub body-reach : (k r here : ℕ) → Reaches r (bodyFrom k r s here)
   unfolding bodyFrom
   body-reach k r here = turns-reach (4096 - r) k r here
+
+-- by what stands there
+module _ (s : Bytes) (k r here : ℕ) (low : r < 4096) where
+  pub body-one : (x : Syntax.Instr Identifier) (next : ℕ) → headAt k s here ≡ one x next → bodyFrom k r s here ≡ before r x (bodyFrom (depthAfter x k) (r + 1) s next)
+  body-one x next e = body-turn s k r here low ∙ rw e refl
+
+  pub body-folded : headAt k s here ≡ folding → bodyFrom k r s here ≡ joined (treeAt 32 s r here) (bodyFrom k (treeAt 32 s r here .rec) s (treeAt 32 s r here .at))
+  body-folded e = body-turn s k r here low ∙ rw e refl
+
+  pub body-ended : (next : ℕ) → headAt k s here ≡ ended next → bodyFrom k r s here ≡ nothing (r + 1) next
+  body-ended next e = body-turn s k r here low ∙ rw e refl
+
+  pub body-cut : headAt k s here ≡ unread → bodyFrom k r s here ≡ stopped r here
+  body-cut e = body-turn s k r here low ∙ rw e refl
+
+-- ## Operands
+
+-- none is left; one, and the others
+pub operands-none : (f : ℕ → ℕ → Stretch) (n r here : ℕ) → n ≤ 0 → operandsBy f n r here ≡ nothing r here
+unfolding operandsBy
+operands-none f n r here h = let m : n ≡ 0 = omega arith in rw m refl
+
+pub operands-more : (f : ℕ → ℕ → Stretch) (n r here : ℕ) → 0 < n → operandsBy f n r here ≡ joined (f r here) (operandsBy f (n - 1) (f r here .rec) (f r here .at))
+unfolding operandsBy
+operands-more f zero r here h = absurd (omega arith)
+operands-more f (suc n) r here h = let m : suc n - 1 ≡ n = omega arith in rw m refl
+
+-- ## Where all of it can be read
+
+both : (a b : Bool) → (a && b) ≡ true → (a ≡ true) × (b ≡ true)
+both true b e = (refl, e)
+both false b e = absurd (false≢true e)
+
+-- one stretch and then another
+module _ (t u : Stretch) (h : joined t u .whole ≡ true) where
+  pub whole-first : t .whole ≡ true
+  whole-first = both (t .whole) (u .whole) h .0
+
+  pub whole-rest : u .whole ≡ true
+  whole-rest = both (t .whole) (u .whole) h .1
+
+-- a body
+module _ (s : Bytes) (k r here : ℕ) (low : r < 4096) (h : bodyFrom k r s here .whole ≡ true) where
+  pub whole-head : IsRead (headAt k s here)
+  whole-head = record { read = λ e. false≢true (sym (ap (λ (t : Stretch). t .whole) (body-cut s k r here low e)) ∙ h) }
+
+  -- a folded record stands there
+  pub whole-tree : headAt k s here ≡ folding → treeAt 32 s r here .whole ≡ true
+  whole-tree e =
+      whole-first (treeAt 32 s r here) (bodyFrom k (treeAt 32 s r here .rec) s (treeAt 32 s r here .at))
+      (ap (λ (t : Stretch). t .whole) (sym (body-folded s k r here low e)) ∙ h)
+
+-- a folded record
+pub whole-folded : (left : ℕ) (s : Bytes) (r here : ℕ) → 1 ≤ left → r < 4096 → treeAt left s r here .whole ≡ true → Gets (foldHere s here)
+whole-folded zero s r here l low h = absurd (omega arith)
+whole-folded (suc left) s r here l low h = go (foldHere s here) refl (ap (λ (t : Stretch). t .whole) (sym (tree-is left s r here low)) ∙ h)
+  where
+    go : (m : Step (Rec Identifier)) → foldHere s here ≡ m
+        → onFold m (λ x n next. operatorLast r x (operandsBy (treeAt left s) n (r + 1) next)) (stopped (r + 1) here) .whole ≡ true → Gets (foldHere s here)
+    go (got x next) e w = record { value = x; next = next; is = e }
+    go (fault n) e w = absurd (false≢true w)

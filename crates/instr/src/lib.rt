@@ -18,14 +18,18 @@ use syntax::TypeUse;
 use syntax::U32;
 use syntax::UseAt;
 ghost use mathlib.Core.Path.{_≡_};
+ghost use Rattle.definition.specs.Token as Token;
 ghost use Rattle.definition.specs.Instructions as Instructions;
 ghost use Rattle.laws.specs.Depths.{deep};
 ghost use Rattle.laws.specs.Steps.{stops};
+ghost use Rattle.token.specs.Known.{Gets};
 ghost use Rattle.syntax.specs.Numbers.{u32At};
 ghost use Rattle.syntax.specs.Tokens.{skip};
+ghost use Rattle.syntax.specs.Plain.{operandsIs};
 ghost use Rattle.syntax.specs.Instructions.{formIs, instrAt, foldAt};
 ghost use Rattle.instr.specs.Bodies.{deepInstr, headAt, foldHere};
-ghost use Rattle.instr.specs.Readers.{lowForm, middleForm, highForm, headIs, countOf, partsAt};
+ghost use Rattle.instr.specs.Known.{IsRead, ReadableAt, ReadableBody, ReadableFold};
+ghost use Rattle.instr.specs.Readers.{lowForm, middleForm, highForm, headIs, isIndex, countOf, partsAt};
 
 // Opcodes below 20: control, and drop and select.
 fn low_form(b: u8) -> Form
@@ -135,14 +139,16 @@ pub fn opcode_form(opcode: u8) -> Form
     high_form(opcode)
 }
 
+// Instructions that are known to be readable: of their names only the lengths are looked at.
 fn opens(s: &[u8], at: usize, opcode: u8, k: u32) -> InstrAt
-    ensures { λ r. ⌜ deepInstr k opcode Instructions.opening (now (s .entry)) at ≡ instrAt (now (s .entry)) r ⌝ }
+    requires { ⌜ Gets (deepInstr k opcode Instructions.opening (now s) at) ⌝ }
+    ensures { λ r. ⌜ (deepInstr k opcode Instructions.opening (now (s .entry)) at ≡ instrAt (now (s .entry)) r) × ReadableAt (now (s .entry)) r ⌝ }
 {
     if 128 <= k {
         return InstrAt::Fault(7);
     }
-    match token::read_identifier(s, at) {
-        PartAt::Got(label, a) => match typeuse::read_type_use(s, a) {
+    match token::known_identifier(s, at) {
+        PartAt::Got(label, a) => match typeuse::known_type_use(s, a) {
             UseAt::Got(t, b) => {
                 return InstrAt::Got(Instr::Opens(opcode, label, t), b);
             }
@@ -157,12 +163,13 @@ fn opens(s: &[u8], at: usize, opcode: u8, k: u32) -> InstrAt
 }
 
 fn elses(s: &[u8], at: usize, opcode: u8, k: u32) -> InstrAt
-    ensures { λ r. ⌜ deepInstr k opcode Instructions.elsing (now (s .entry)) at ≡ instrAt (now (s .entry)) r ⌝ }
+    requires { ⌜ Gets (deepInstr k opcode Instructions.elsing (now s) at) ⌝ }
+    ensures { λ r. ⌜ (deepInstr k opcode Instructions.elsing (now (s .entry)) at ≡ instrAt (now (s .entry)) r) × ReadableAt (now (s .entry)) r ⌝ }
 {
     if k < 1 {
         return InstrAt::Fault(8);
     }
-    match token::read_identifier(s, at) {
+    match token::known_identifier(s, at) {
         PartAt::Got(label, next) => {
             return InstrAt::Got(Instr::Elses(label), next);
         }
@@ -173,12 +180,13 @@ fn elses(s: &[u8], at: usize, opcode: u8, k: u32) -> InstrAt
 }
 
 fn ends(s: &[u8], at: usize, opcode: u8, k: u32) -> InstrAt
-    ensures { λ r. ⌜ deepInstr k opcode Instructions.ending (now (s .entry)) at ≡ instrAt (now (s .entry)) r ⌝ }
+    requires { ⌜ Gets (deepInstr k opcode Instructions.ending (now s) at) ⌝ }
+    ensures { λ r. ⌜ (deepInstr k opcode Instructions.ending (now (s .entry)) at ≡ instrAt (now (s .entry)) r) × ReadableAt (now (s .entry)) r ⌝ }
 {
     if k < 1 {
         return InstrAt::Fault(8);
     }
-    match token::read_identifier(s, at) {
+    match token::known_identifier(s, at) {
         PartAt::Got(label, next) => {
             return InstrAt::Got(Instr::Ends(label), next);
         }
@@ -189,10 +197,11 @@ fn ends(s: &[u8], at: usize, opcode: u8, k: u32) -> InstrAt
 }
 
 fn indirect(s: &[u8], at: usize, opcode: u8) -> InstrAt
-    ensures { λ r. ⌜ Instructions.instruction opcode Instructions.calling (now (s .entry)) at ≡ instrAt (now (s .entry)) r ⌝ }
+    requires { ⌜ Gets (Instructions.instruction opcode Instructions.calling (now s) at) ⌝ }
+    ensures { λ r. ⌜ (Instructions.instruction opcode Instructions.calling (now (s .entry)) at ≡ instrAt (now (s .entry)) r) × ReadableAt (now (s .entry)) r ⌝ }
 {
-    match token::read_optional(s, at) {
-        IndexAt::Got(x, a) => match typeuse::read_type_use(s, a) {
+    match token::known_optional(s, at) {
+        IndexAt::Got(x, a) => match typeuse::known_type_use(s, a) {
             UseAt::Got(t, b) => {
                 return InstrAt::Got(Instr::Indirect(x, t), b);
             }
@@ -208,7 +217,8 @@ fn indirect(s: &[u8], at: usize, opcode: u8) -> InstrAt
 
 // An instruction where k blocks are open: what stands after its opcode.
 fn formed(s: &[u8], at: usize, opcode: u8, k: u32) -> InstrAt
-    ensures { λ r. ⌜ Instructions.formed (deep k) opcode (Instructions.formOf opcode) (now (s .entry)) at ≡ instrAt (now (s .entry)) r ⌝ }
+    requires { ⌜ Gets (Instructions.formed (deep k) opcode (Instructions.formOf opcode) (now s) at) ⌝ }
+    ensures { λ r. ⌜ (Instructions.formed (deep k) opcode (Instructions.formOf opcode) (now (s .entry)) at ≡ instrAt (now (s .entry)) r) × ReadableAt (now (s .entry)) r ⌝ }
 {
     match opcode_form(opcode) {
         Form::NoOpcode => {
@@ -237,9 +247,10 @@ fn formed(s: &[u8], at: usize, opcode: u8, k: u32) -> InstrAt
     }
 }
 
-// A record of a body where k blocks are open. Of a folded one only that it is there.
-pub fn read_body(s: &[u8], at: usize, k: u32) -> BodyAt
-    ensures { λ r. ⌜ headIs (now (s .entry)) r ≡ headAt k (now (s .entry)) at ⌝ }
+// A record of a body that was read before, where k blocks are open. Of a folded one only that it is there.
+pub fn known_body(s: &[u8], at: usize, k: u32) -> BodyAt
+    requires { ⌜ IsRead (headAt k (now s) at) ⌝ }
+    ensures { λ r. ⌜ (headIs (now (s .entry)) r ≡ headAt k (now (s .entry)) at) × ReadableBody (now (s .entry)) r ⌝ }
 {
     match token::read_byte(s, at) {
         ByteAt::Got(b, a) => {
@@ -268,8 +279,9 @@ pub fn read_body(s: &[u8], at: usize, k: u32) -> BodyAt
 }
 
 // An instruction that may be folded.
-fn read_operator(s: &[u8], at: usize) -> InstrAt
-    ensures { λ r. ⌜ Instructions.operator (now (s .entry)) at ≡ instrAt (now (s .entry)) r ⌝ }
+fn known_operator(s: &[u8], at: usize) -> InstrAt
+    requires { ⌜ Gets (Instructions.operator (now s) at) ⌝ }
+    ensures { λ r. ⌜ (Instructions.operator (now (s .entry)) at ≡ instrAt (now (s .entry)) r) × ReadableAt (now (s .entry)) r ⌝ }
 {
     match token::read_byte(s, at) {
         ByteAt::Got(b, a) => match opcode_form(b) {
@@ -303,12 +315,13 @@ fn read_operator(s: &[u8], at: usize) -> InstrAt
     }
 }
 
-// A folded record: the byte F0, which was looked at before, its operator, and the count of its operands.
-pub fn read_folded(s: &[u8], at: usize) -> FoldAt
-    ensures { λ r. ⌜ foldHere (now (s .entry)) at ≡ foldAt (now (s .entry)) r ⌝ }
+// A folded record that was read before: the byte F0, its operator, and the count of its operands.
+pub fn known_folded(s: &[u8], at: usize) -> FoldAt
+    requires { ⌜ Gets (foldHere (now s) at) ⌝ }
+    ensures { λ r. ⌜ (foldHere (now (s .entry)) at ≡ foldAt (now (s .entry)) r) × ReadableFold (now (s .entry)) r ⌝ }
 {
     match token::read_byte(s, at) {
-        ByteAt::Got(_, a) => match read_operator(s, a) {
+        ByteAt::Got(_, a) => match known_operator(s, a) {
             InstrAt::Got(i, c) => match token::up_to(s, c, 7, 16) {
                 U32::Got(n, next) => {
                     return FoldAt::Got(i, n, next);
@@ -369,7 +382,7 @@ fn pass_operator(s: &[u8], at: usize) -> Skip
 }
 
 // What stands after F0, passed over: the count of operands, and where they begin.
-fn pass_fold(s: &[u8], at: usize) -> U32
+pub fn pass_fold(s: &[u8], at: usize) -> U32
     ensures { λ r. ⌜ countOf (Instructions.fold (now (s .entry)) at) ≡ u32At r ⌝ }
 {
     match pass_operator(s, at) {
@@ -382,12 +395,120 @@ fn pass_fold(s: &[u8], at: usize) -> U32
     }
 }
 
-// A folded record passed over: the byte F0, which was looked at before, and what stands after it.
-pub fn pass_folded(s: &[u8], at: usize) -> Folding
+// An index that was read before, passed over.
+fn skip_index(s: &[u8], at: usize) -> Skip
+    requires { ⌜ Gets (Token.present (now s) at) ⌝ }
+    ensures { λ r. ⌜ stops (Token.present (now (s .entry)) at) ≡ skip r ⌝ }
+{
+    match token::known_present(s, at) {
+        IndexAt::Got(_, next) => {
+            return Skip::Past(next);
+        }
+        IndexAt::Fault(e) => {
+            return Skip::Fault(e);
+        }
+    }
+}
+
+// Is what stands after an opcode one index?
+fn is_index(what: Operands) -> bool
+    ensures { λ r. ⌜ r ≡ isIndex what ⌝ }
+{
+    match what {
+        Operands::LabelIdx => {
+            return true;
+        }
+        Operands::LocalIdx => {
+            return true;
+        }
+        Operands::FuncIdx => {
+            return true;
+        }
+        Operands::GlobalIdx => {
+            return true;
+        }
+        _ => {
+            return false;
+        }
+    }
+}
+
+// Operands that were read before: most of those that can be long are one index.
+fn skip_plain(s: &[u8], at: usize, what: Operands) -> Skip
+    requires { ⌜ Gets (Instructions.plainOf 0 (operandsIs what) (now s) at) ⌝ }
+    ensures { λ r. ⌜ stops (Instructions.plainOf 0 (operandsIs what) (now (s .entry)) at) ≡ skip r ⌝ }
+{
+    if is_index(what) {
+        return skip_index(s, at);
+    }
+    expr::pass_plain(s, at, what)
+}
+
+// The table and the type of a call_indirect that was read before.
+fn skip_indirect(s: &[u8], at: usize, opcode: u8) -> Skip
+    requires { ⌜ Gets (Instructions.instruction opcode Instructions.calling (now s) at) ⌝ }
+    ensures { λ r. ⌜ stops (Instructions.instruction opcode Instructions.calling (now (s .entry)) at) ≡ skip r ⌝ }
+{
+    match token::known_optional(s, at) {
+        IndexAt::Got(_, a) => match typeuse::known_type_use(s, a) {
+            UseAt::Got(_, next) => {
+                return Skip::Past(next);
+            }
+            UseAt::Fault(e) => {
+                return Skip::Fault(e);
+            }
+        },
+        IndexAt::Fault(e) => {
+            return Skip::Fault(e);
+        }
+    }
+}
+
+// An operator that was read before.
+fn skip_operator(s: &[u8], at: usize) -> Skip
+    requires { ⌜ Gets (Instructions.operator (now s) at) ⌝ }
+    ensures { λ r. ⌜ stops (Instructions.operator (now (s .entry)) at) ≡ skip r ⌝ }
+{
+    match token::read_byte(s, at) {
+        ByteAt::Got(b, a) => match opcode_form(b) {
+            Form::Operands(what) => {
+                return skip_plain(s, a, what);
+            }
+            Form::Calling => {
+                return skip_indirect(s, a, b);
+            }
+            _ => {
+                return Skip::Fault(4);
+            }
+        },
+        ByteAt::Fault(e) => {
+            return Skip::Fault(e);
+        }
+    }
+}
+
+// What stands after F0, which was read before: the count of operands, and where they begin.
+fn skip_fold(s: &[u8], at: usize) -> U32
+    requires { ⌜ Gets (Instructions.fold (now s) at) ⌝ }
+    ensures { λ r. ⌜ countOf (Instructions.fold (now (s .entry)) at) ≡ u32At r ⌝ }
+{
+    match skip_operator(s, at) {
+        Skip::Past(a) => {
+            return token::up_to(s, a, 7, 16);
+        }
+        Skip::Fault(e) => {
+            return U32::Fault(e);
+        }
+    }
+}
+
+// A folded record that was read before, passed over: its operator stands after the byte F0, and its operands after their count.
+pub fn skip_folded(s: &[u8], at: usize) -> Folding
+    requires { ⌜ Gets (foldHere (now s) at) ⌝ }
     ensures { λ r. ⌜ r ≡ partsAt (now (s .entry)) at ⌝ }
 {
     match token::read_byte(s, at) {
-        ByteAt::Got(_, a) => match pass_fold(s, a) {
+        ByteAt::Got(_, a) => match skip_fold(s, a) {
             U32::Got(n, next) => {
                 return Folding::Parts(a, n, next);
             }

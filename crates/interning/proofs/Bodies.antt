@@ -28,9 +28,10 @@ use Rattle.syntax.specs.declared.FoldAt.the-variants as F
 use Rattle.walk.specs.Walk.{usesIn}
 use Rattle.walk.specs.declared.Stop.{Stop}
 use Rattle.instr.specs.Readers.{headIs}
+use Rattle.instr.specs.Known.{IsRead}
 use Rattle.instr.specs.Bodies.{Head, one, folding, ended, unread, onByte, oneOf, headAt, Stretch, nothing, stopped, joined, before, operatorLast, foldHere, operandsBy, treeAt, bodyFrom}
 use Rattle.instr.proofs.Stretches as Stretches
-use Rattle.instr.proofs.Stretches.{tree-is, tree-reach, tree-later, operands-reach, body-turn, body-reach}
+use Rattle.instr.proofs.Stretches.{tree-is, tree-reach, tree-later, operands-reach, body-one, body-folded, body-ended, body-cut, body-reach, operands-more, whole-first, whole-rest, whole-head, whole-tree}
 use Rattle.type_table.specs.Table.{Indexed}
 use Rattle.interning.specs.Uses.{nested, Nests, Skips, Handled, Handles, HandledTo, HandlesTo, Stopped}
 use Rattle.interning.specs.declared.body.UsedTo.{UsedTo}
@@ -168,6 +169,10 @@ module _ (left : ℕ) (s : Bytes) (w : List ℕ) (k at rec : ℕ) where
       made : treeAt left s rec at ≡ operatorLast rec (instrIs s i) operands
       made = ap (λ m. treeAt m s rec at) one-less ∙ tree-is (left - 1) s rec at g ∙ rw (told, d)
 
+      -- all of its operands can be read
+      pub tree-whole : treeAt left s rec at .whole ≡ true → operandsBy (treeAt (left - 1) s) n (rec + 1) next .whole ≡ true
+      tree-whole h = ap (λ (t : Stretch). t .whole) (sym made) ∙ h
+
       all-uses : bodyUses (treeAt left s rec at .body) ≡ bodyUses (operands .body) ++ here-uses
       all-uses = ap (λ (t : Stretch). bodyUses (t .body)) made ∙ uses-last (operands .body) rec (instrIs s i)
 
@@ -213,19 +218,15 @@ pub record Operating (left : ℕ) (s : Bytes) (w₀ : List ℕ) (k₀ n at rec :
   pub same : done ++ bodyUses (operandsBy (treeAt left s) due r here .body) ≡ bodyUses (operandsBy (treeAt left s) n rec at .body)
   pub stops-at : operandsBy (treeAt left s) due r here .at ≡ operandsBy (treeAt left s) n rec at .at
   pub stops-rec : operandsBy (treeAt left s) due r here .rec ≡ operandsBy (treeAt left s) n rec at .rec
+  pub whole : operandsBy (treeAt left s) due r here .whole ≡ true
   pub low : rec ≤ r
   pub most : r ≤ 4096
   pub indexed : Indexed s w k
   pub long : length w ≡ length w₀
 
-pub operands-begin : (left : ℕ) (s w : List ℕ) (k n at rec : ℕ) → rec ≤ 4096 → Indexed s w k → Operating left s w k n at rec w k n at rec
-operands-begin left s w k n at rec l h =
-    record { done = []; so-far = handled-none rec rec s w k h; same = refl; stops-at = refl; stops-rec = refl; low = omega arith; most = l; indexed = h; long = refl }
-
-one-more : (f : ℕ → ℕ → Stretch) (due r here : ℕ) → 0 < due → operandsBy f due r here ≡ joined (f r here) (operandsBy f (due - 1) (f r here .rec) (f r here .at))
-unfolding operandsBy
-one-more f zero r here h = absurd (omega arith)
-one-more f (suc m) r here h = let z : suc m - 1 ≡ m = omega arith in rw z
+pub operands-begin : (left : ℕ) (s w : List ℕ) (k n at rec : ℕ) → rec ≤ 4096 → Indexed s w k → operandsBy (treeAt left s) n rec at .whole ≡ true → Operating left s w k n at rec w k n at rec
+operands-begin left s w k n at rec l h g =
+    record { done = []; so-far = handled-none rec rec s w k h; same = refl; stops-at = refl; stops-rec = refl; whole = g; low = omega arith; most = l; indexed = h; long = refl }
 
 module _ (left : ℕ) (s : Bytes) (w₀ : List ℕ) (k₀ n at rec : ℕ) (w : List ℕ) (k due here r : ℕ) (v : Operating left s w₀ k₀ n at rec w k due here r) where
   pub operands-done : due ≤ 0 → HandlesTo rec s (operandsBy (treeAt left s) n rec at) w₀ k₀ (T.Types k (record { at = here; rec = r })) w
@@ -238,6 +239,12 @@ module _ (left : ℕ) (s : Bytes) (w₀ : List ℕ) (k₀ n at rec : ℕ) (w : L
           → HandlesTo rec s (operandsBy (treeAt left s) n rec at) w₀ k₀ (T.Types k (record { at = here; rec = r })) w
       over a b c = unfold HandlesTo operandsBy bodyUses in record { handled = rw (← c, ← a, append-nil (v .done)) (v .so-far); at = b; rec = c }
 
+  -- all of the next one can be read
+  pub operands-whole : 0 < due → treeAt left s r here .whole ≡ true
+  operands-whole h =
+      whole-first (treeAt left s r here) (operandsBy (treeAt left s) (due - 1) (treeAt left s r here .rec) (treeAt left s r here .at))
+      (ap (λ (t : Stretch). t .whole) (sym (operands-more (treeAt left s) due r here h)) ∙ v .whole)
+
   module _ (h : 0 < due) (u : UsedTo) (w′ : List ℕ) (used : HandlesTo r s (treeAt left s r here) w k u w′) where
     abbrev one-tree : Stretch
     one-tree = treeAt left s r here
@@ -246,7 +253,7 @@ module _ (left : ℕ) (s : Bytes) (w₀ : List ℕ) (k₀ n at rec : ℕ) (w : L
     others = operandsBy (treeAt left s) (due - 1) (one-tree .rec) (one-tree .at)
 
     split : operandsBy (treeAt left s) due r here ≡ joined one-tree others
-    split = one-more (treeAt left s) due r here h
+    split = operands-more (treeAt left s) due r here h
 
     every : v .done ++ bodyUses (one-tree .body) ++ bodyUses (others .body) ≡ bodyUses (operandsBy (treeAt left s) n rec at .body)
     every =
@@ -272,6 +279,7 @@ module _ (left : ℕ) (s : Bytes) (w₀ : List ℕ) (k₀ n at rec : ℕ) (w : L
           same = every;
           stops-at = sym (ap (λ (t : Stretch). t .at) split) ∙ v .stops-at;
           stops-rec = sym (ap (λ (t : Stretch). t .rec) split) ∙ v .stops-rec;
+          whole = whole-rest one-tree others (ap (λ (t : Stretch). t .whole) (sym split) ∙ v .whole);
           low = omega (arith, v .low, reach .least);
           most = reach .most (v .most);
           indexed = o .handled .indexed;
@@ -286,12 +294,13 @@ pub record Going (s : Bytes) (w₀ : List ℕ) (k₀ at rec : ℕ) (w : List ℕ
   pub so-far : Handled rec r s done w₀ k₀ w k
   pub same : done ++ bodyUses (bodyFrom depth r s here .body) ≡ bodyUses (bodyFrom 0 rec s at .body)
   pub ends : bodyFrom depth r s here .rec ≡ bodyFrom 0 rec s at .rec
+  pub whole : bodyFrom depth r s here .whole ≡ true
   pub low : rec ≤ r
   pub indexed : Indexed s w k
   pub long : length w ≡ length w₀
 
-pub body-begin : (s w : List ℕ) (k at rec : ℕ) → Indexed s w k → Going s w k at rec w k at rec 0
-body-begin s w k at rec h = record { done = []; so-far = handled-none rec rec s w k h; same = refl; ends = refl; low = omega arith; indexed = h; long = refl }
+pub body-begin : (s w : List ℕ) (k at rec : ℕ) → Indexed s w k → bodyFrom 0 rec s at .whole ≡ true → Going s w k at rec w k at rec 0
+body-begin s w k at rec h g = record { done = []; so-far = handled-none rec rec s w k h; same = refl; ends = refl; whole = g; low = omega arith; indexed = h; long = refl }
 
 module _ (s : Bytes) (w₀ : List ℕ) (k₀ at rec : ℕ) (w : List ℕ) (k here r depth : ℕ) (v : Going s w₀ k₀ at rec w k here r depth) where
   -- nothing is ahead
@@ -305,18 +314,20 @@ module _ (s : Bytes) (w₀ : List ℕ) (k₀ at rec : ℕ) (w : List ℕ) (k her
   pub body-full : 4096 ≤ r → Handles rec (bodyFrom 0 rec s at .rec) s (bodyUses (bodyFrom 0 rec s at .body)) w₀ k₀ (U.Types k) w
   body-full h = over (ap (λ (t : Stretch). t .body) (Stretches.body-full s depth r here h))
 
-  module _ (b : BodyAt) (h : r < 4096) (told : headIs s b ≡ headAt depth s here) where
-    ended-here : (next : ℕ) → b ≡ B.End next → bodyFrom depth r s here ≡ nothing (r + 1) next
-    ended-here next d = body-turn s depth r here h ∙ rw (← told, d)
+  -- what stands there can be read
+  pub body-read : r < 4096 → IsRead (headAt depth s here)
+  body-read h = whole-head s depth r here h (v .whole)
 
-    unread-here : b ≡ B.Unread → bodyFrom depth r s here ≡ stopped r here
-    unread-here d = body-turn s depth r here h ∙ rw (← told, d)
+  module _ (b : BodyAt) (h : r < 4096) (told : headIs s b ≡ headAt depth s here) where
+    -- and all of a folded record
+    pub body-tree : b ≡ B.Folded → treeAt 32 s r here .whole ≡ true
+    body-tree d = whole-tree s depth r here h (v .whole) (sym told ∙ ap (headIs s) d)
 
     pub body-ends : (next : ℕ) → b ≡ B.End next → Handles rec (bodyFrom 0 rec s at .rec) s (bodyUses (bodyFrom 0 rec s at .body)) w₀ k₀ (U.Types k) w
-    body-ends next d = over (ap (λ (t : Stretch). t .body) (ended-here next d))
+    body-ends next d = over (ap (λ (t : Stretch). t .body) (body-ended s depth r here h next (sym told ∙ ap (headIs s) d)))
 
     pub body-unread : b ≡ B.Unread → Handles rec (bodyFrom 0 rec s at .rec) s (bodyUses (bodyFrom 0 rec s at .body)) w₀ k₀ (U.Types k) w
-    body-unread d = over (ap (λ (t : Stretch). t .body) (unread-here d))
+    body-unread d = over (ap (λ (t : Stretch). t .body) (body-cut s depth r here h (sym told ∙ ap (headIs s) d)))
 
     -- an instruction, and the others
     module _ (i : Instr) (next : ℕ) (d : b ≡ B.Got i next) (q : Used) (w′ : List ℕ) (used : Handles r (r + 1) s (usedAt r (instrUses (instrIs s i))) w k q w′) where
@@ -327,7 +338,7 @@ module _ (s : Bytes) (w₀ : List ℕ) (k₀ at rec : ℕ) (w : List ℕ) (k her
       after = bodyFrom (depthAfter (instrIs s i) depth) (r + 1) s next
 
       split-one : bodyFrom depth r s here ≡ before r (instrIs s i) after
-      split-one = body-turn s depth r here h ∙ rw (← told, d)
+      split-one = body-one s depth r here h (instrIs s i) next (sym told ∙ ap (headIs s) d)
 
       every-use : v .done ++ one-use ++ bodyUses (after .body) ≡ bodyUses (bodyFrom 0 rec s at .body)
       unfolding bodyUses
@@ -349,6 +360,7 @@ module _ (s : Bytes) (w₀ : List ℕ) (k₀ at rec : ℕ) (w : List ℕ) (k her
             so-far = handled-then rec (r + 1) r r s (v .done) one-use w₀ k₀ w k (v .so-far) w′ m (omega arith) (v .low) (omega arith) u;
             same = rw (← o) every-use;
             ends = rw (← o) (sym (ap (λ (t : Stretch). t .rec) split-one) ∙ v .ends);
+            whole = rw (← o) (sym (ap (λ (t : Stretch). t .whole) split-one) ∙ v .whole);
             low = omega (arith, v .low);
             indexed = u .indexed;
             long = u .kept .long ∙ v .long;
@@ -363,7 +375,7 @@ module _ (s : Bytes) (w₀ : List ℕ) (k₀ at rec : ℕ) (w : List ℕ) (k her
       onwards = bodyFrom depth (tree .rec) s (tree .at)
 
       split-fold : bodyFrom depth r s here ≡ joined tree onwards
-      split-fold = body-turn s depth r here h ∙ rw (← told, d)
+      split-fold = body-folded s depth r here h (sym told ∙ ap (headIs s) d)
 
       whole-use : v .done ++ bodyUses (tree .body) ++ bodyUses (onwards .body) ≡ bodyUses (bodyFrom 0 rec s at .body)
       whole-use =
@@ -396,6 +408,7 @@ module _ (s : Bytes) (w₀ : List ℕ) (k₀ at rec : ℕ) (w : List ℕ) (k her
             so-far = handled-then rec (tree .rec) r r s (v .done) (bodyUses (tree .body)) w₀ k₀ w k (v .so-far) w′ m (omega arith) (v .low) (reach .least) (o .handled);
             same = whole-use;
             ends = sym (ap (λ (t : Stretch). t .rec) split-fold) ∙ v .ends;
+            whole = whole-rest tree onwards (sym (ap (λ (t : Stretch). t .whole) split-fold) ∙ v .whole);
             low = omega (arith, v .low, reach .least);
             indexed = o .handled .indexed;
             long = o .handled .kept .long ∙ v .long;

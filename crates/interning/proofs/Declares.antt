@@ -28,7 +28,7 @@ use Rattle.area.specs.Kept.{Kept}
 use Rattle.area.specs.Lent.{Lent}
 use Rattle.area.proofs.Kept.{kept-same, kept-then, kept-less, kept-word}
 use Rattle.type_table.specs.Table.{typesOf, signatureOf, typeTable, Indexed, Emptied, Adds}
-use Rattle.type_table.proofs.Chains.{index-none}
+use Rattle.type_table.proofs.Indexed.{index-none}
 use Rattle.type_table.proofs.Types.{table-length}
 use Rattle.walk.specs.Walk.{counting, seenWith, begin, cursorAfter, visitIn, visitOf, fieldsHere, fieldsAhead, fieldsIn, Ahead}
 use Rattle.walk.specs.declared.Cursor.{Cursor}

@@ -1,6 +1,7 @@
 -- Laws of the uses of a field.
 use Prim.Native.Nat.{ℕ, _+_}
-use mathlib.Core.Path.{_≡_, refl}
+use mathlib.Core.Path.{_≡_, refl, subst}
+use mathlib.Core.Bool.{true}
 use mathlib.Core.List.{List, [], _∷_, _++_, map, append-nil}
 use mathlib.Core.Option.{Option}
 use Rattle.definition.specs.Syntax as Syntax
@@ -22,7 +23,9 @@ use Rattle.syntax.specs.declared.Source.the-variants as S
 use Rattle.syntax.specs.Fields.{fieldOf}
 use Rattle.syntax.specs.declared.Field.{Field}
 use Rattle.syntax.specs.declared.Field.the-variants as F
-use Rattle.walk.specs.Walk.{bodyIn}
+use Rattle.typeuse.specs.Known.{Readable}
+use Rattle.reread.specs.Known.{ReadableExtern, ReadableOwn, ReadableSource, ReadableHead}
+use Rattle.walk.specs.Walk.{bodyIn, wholeField}
 use Rattle.instr.specs.Bodies.{bodyFrom}
 use Rattle.type_table.specs.Table.{Indexed}
 use Rattle.interning.specs.Uses.{Skips, usesOwn, usesSource, usesField, endAfter, Handles}
@@ -149,6 +152,41 @@ module _ (w : List ℕ) (own : ℕ) (s : Bytes) (at rec : ℕ) where
       → Skips w own (bodyUses (bodyIn (sourceBody (sourceOf s x)) (rec + 1) s at))
   unfolding fieldBody
   skips-field f i es x d h = rw d at h
+
+-- ## What is known of it
+
+module _ (s : Bytes) where
+  pub readable-extern : (x : Extern) (t : TypeUse) → x ≡ E.Func t → ReadableExtern s x → Readable s (t .params)
+  readable-extern x t d v = subst (ReadableExtern s) d v
+
+  pub readable-own : (o : Own) (t : TypeUse) (ls : _) → o ≡ O.Func t ls → ReadableOwn s o → Readable s (t .params)
+  readable-own o t ls d v = subst (ReadableOwn s) d v .0
+
+  pub readable-source : (x : Source) (o : Own) → x ≡ S.Own o → ReadableSource s x → ReadableOwn s o
+  readable-source x o d v = subst (ReadableSource s) d v
+
+  pub readable-imported : (x : Source) (n : _) (e : Extern) → x ≡ S.Imported n e → ReadableSource s x → ReadableExtern s e
+  readable-imported x n e d v = subst (ReadableSource s) d v
+
+  pub readable-import : (f : Field) (n : _) (i : _) (x : Extern) → f ≡ F.Import n i x → ReadableHead s f → ReadableExtern s x
+  readable-import f n i x d v = subst (ReadableHead s) d v
+
+  pub readable-item : (f : Field) (i : _) (es : _) (x : Source) → f ≡ F.Item i es x → ReadableHead s f → ReadableSource s x
+  readable-item f i es x d v = subst (ReadableHead s) d v
+
+  -- its body reads to its end
+  module _ (at rec : ℕ) where
+    pub whole-own : (o : Own) (t : TypeUse) (ls : _) → o ≡ O.Func t ls → wholeField (ownBody (ownOf s o)) (rec + 1) s at ≡ true → bodyFrom 0 (rec + 1) s at .whole ≡ true
+    unfolding ownBody
+    whole-own o t ls d h = rw d at h
+
+    pub whole-source : (x : Source) (o : Own) → x ≡ S.Own o → wholeField (sourceBody (sourceOf s x)) (rec + 1) s at ≡ true → wholeField (ownBody (ownOf s o)) (rec + 1) s at ≡ true
+    unfolding sourceBody
+    whole-source x o d h = rw d at h
+
+    pub whole-field : (f : Field) (i : _) (es : _) (x : Source) → f ≡ F.Item i es x → wholeField (fieldBody (fieldOf s f)) (rec + 1) s at ≡ true → wholeField (sourceBody (sourceOf s x)) (rec + 1) s at ≡ true
+    unfolding fieldBody
+    whole-field f i es x d h = rw d at h
 
 pub ruleset externs = (extern-func, extern-table, extern-mem, extern-global)
 

@@ -23,7 +23,7 @@ use Rattle.area.proofs.Kept.{kept-same, kept-set, kept-then, kept-less}
 use Rattle.type_table.specs.Table.{typeTable, Indexed, Taken, Denied, Interns}
 use Rattle.type_table.specs.declared.table.Interned.{Interned}
 use Rattle.type_table.specs.declared.table.Interned.the-variants as I
-use Rattle.type_table.proofs.Chains.{index-kept}
+use Rattle.type_table.proofs.Indexed.{index-kept}
 use Rattle.type_table.proofs.Entries.{inside-above}
 use Rattle.type_table.proofs.Types.{table-kept}
 use Rattle.interning.specs.Uses.{Known, From, Handles}

@@ -9,11 +9,13 @@ use syntax::Refusal;
 use syntax::TypeUse;
 use walk::Stop;
 ghost use mathlib.Core.Path.{_≡_};
+ghost use mathlib.Core.Bool.{true};
 ghost use mathlib.Core.List.{_++_};
 ghost use Prim.Native.Nat.{_+_, _≤_, _<_};
 ghost use Rattle.area.specs.Lent.{Lent};
 ghost use Rattle.definition.specs.Types as Types;
 ghost use Rattle.syntax.specs.TypeUses.{useOf};
+ghost use Rattle.typeuse.specs.Known.{Readable};
 ghost use Rattle.instr.specs.Bodies.{operandsBy, treeAt, bodyFrom};
 ghost use Rattle.type_table.specs.Table.{Indexed};
 ghost use Rattle.interning.specs.Uses.{Handles, HandlesTo, Nests, nested, Skips};
@@ -40,7 +42,7 @@ fn depth_after(i: Instr, depth: u32) -> u32
 
 // A folded record in which so many are nested at most, itself included: the uses of its operands, and then that of its operator.
 fn use_folded(s: &[u8], work: &mut [u32], count: u32, at: usize, rec: u32, left: u32) -> UsedTo
-    requires { ⌜ Lent (now s) (now work) × Indexed (now s) (now work) count × (rec ≤ 4096) ⌝ }
+    requires { ⌜ Lent (now s) (now work) × Indexed (now s) (now work) count × (rec ≤ 4096) × (treeAt left (now s) rec at .whole ≡ true) ⌝ }
     ensures { λ r. ⌜ HandlesTo rec (now (s .entry)) (treeAt left (now (s .entry)) rec at) (now (work .entry)) count r (now (work .exit)) ⌝ }
 {
     if left < 1 {
@@ -49,7 +51,7 @@ fn use_folded(s: &[u8], work: &mut [u32], count: u32, at: usize, rec: u32, left:
     if 4096 <= rec {
         return UsedTo::Types(count, Stop { at, rec });
     }
-    match instr::read_folded(s, at) {
+    match instr::known_folded(s, at) {
         FoldAt::Got(i, n, next) => match use_operands(s, work, count, n, next, rec + 1, left - 1) {
             UsedTo::Types(k, stop) => match use_instr(s, work, k, i, rec) {
                 Used::Types(m) => UsedTo::Types(m, stop),
@@ -71,7 +73,7 @@ fn use_operands(
     rec: u32,
     left: u32,
 ) -> UsedTo
-    requires { ⌜ Lent (now s) (now work) × Indexed (now s) (now work) count × (rec ≤ 4096) ⌝ }
+    requires { ⌜ Lent (now s) (now work) × Indexed (now s) (now work) count × (rec ≤ 4096) × (operandsBy (treeAt left (now s)) n rec at .whole ≡ true) ⌝ }
     ensures { λ r. ⌜ HandlesTo rec (now (s .entry)) (operandsBy (treeAt left (now (s .entry))) n rec at) (now (work .entry)) count r (now (work .exit)) ⌝ }
 {
     let mut k = count;
@@ -96,7 +98,7 @@ fn use_operands(
 
 // The uses of a body, whose first instruction has the record `rec`.
 fn use_body(s: &[u8], work: &mut [u32], count: u32, at: usize, rec: u32) -> Used
-    requires { ⌜ Lent (now s) (now work) × Indexed (now s) (now work) count × (rec ≤ 4096) ⌝ }
+    requires { ⌜ Lent (now s) (now work) × Indexed (now s) (now work) count × (rec ≤ 4096) × (bodyFrom 0 rec (now s) at .whole ≡ true) ⌝ }
     ensures { λ r. ⌜ Handles rec (bodyFrom 0 rec (now (s .entry)) at .rec) (now (s .entry)) (Types.bodyUses (bodyFrom 0 rec (now (s .entry)) at .body)) (now (work .entry)) count r (now (work .exit)) ⌝ }
 {
     let mut k = count;
@@ -104,7 +106,7 @@ fn use_body(s: &[u8], work: &mut [u32], count: u32, at: usize, rec: u32) -> Used
     let mut r = rec;
     let mut depth: u32 = 0;
     while r < 4096 {
-        match instr::read_body(s, here, depth) {
+        match instr::known_body(s, here, depth) {
             BodyAt::Got(i, next) => {
                 match use_instr(s, work, k, i, r) {
                     Used::Types(m) => {
@@ -149,7 +151,7 @@ pub fn use_func(
     at: usize,
     rec: u32,
 ) -> Used
-    requires { ⌜ Lent (now s) (now work) × Indexed (now s) (now work) count × (rec < 4096) × Skips (now work) own (Types.bodyUses (bodyFrom 0 (rec + 1) (now s) at .body)) ⌝ }
+    requires { ⌜ Lent (now s) (now work) × Indexed (now s) (now work) count × (rec < 4096) × Skips (now work) own (Types.bodyUses (bodyFrom 0 (rec + 1) (now s) at .body)) × (bodyFrom 0 (rec + 1) (now s) at .whole ≡ true) × Readable (now s) (t .params) ⌝ }
     ensures { λ r. ⌜ Handles rec (bodyFrom 0 (rec + 1) (now (s .entry)) at .rec) (now (s .entry)) (Types.usedAt rec (Types.useOf (useOf (now (s .entry)) t)) ++ Types.bodyUses (bodyFrom 0 (rec + 1) (now (s .entry)) at .body)) (now (work .entry)) count r (now (work .exit)) ⌝ }
 {
     let looks = walk::body_uses(work, own);

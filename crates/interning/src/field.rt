@@ -6,19 +6,22 @@ use syntax::Extern;
 use syntax::Field;
 use syntax::Own;
 use syntax::Source;
+ghost use mathlib.Core.Path.{_≡_};
+ghost use mathlib.Core.Bool.{true};
 ghost use Prim.Native.Nat.{_+_, _≤_, _<_};
 ghost use Rattle.area.specs.Lent.{Lent};
 ghost use Rattle.definition.specs.Types as Types;
 ghost use Rattle.definition.specs.Read as Read;
 ghost use Rattle.syntax.specs.Items.{externIs, ownOf, sourceOf};
 ghost use Rattle.syntax.specs.Fields.{fieldOf};
-ghost use Rattle.walk.specs.Walk.{bodyIn};
+ghost use Rattle.reread.specs.Known.{ReadableExtern, ReadableOwn, ReadableSource, ReadableHead};
+ghost use Rattle.walk.specs.Walk.{bodyIn, wholeField};
 ghost use Rattle.type_table.specs.Table.{Indexed};
 ghost use Rattle.interning.specs.Uses.{Handles, Skips, usesOwn, usesSource, usesField, endAfter};
 
 // What is imported.
 fn use_extern(s: &[u8], work: &mut [u32], count: u32, x: Extern, rec: u32) -> Used
-    requires { ⌜ Lent (now s) (now work) × Indexed (now s) (now work) count × (rec < 4096) ⌝ }
+    requires { ⌜ Lent (now s) (now work) × Indexed (now s) (now work) count × (rec < 4096) × ReadableExtern (now s) x ⌝ }
     ensures { λ r. ⌜ Handles rec (rec + 1) (now (s .entry)) (Types.usedAt rec (Types.externUses (externIs (now (s .entry)) x))) (now (work .entry)) count r (now (work .exit)) ⌝ }
 {
     match x {
@@ -31,7 +34,7 @@ fn use_extern(s: &[u8], work: &mut [u32], count: u32, x: Extern, rec: u32) -> Us
 
 // The module's own item; the body of a function begins at `at`, and `own` functions came before it.
 fn use_own(s: &[u8], work: &mut [u32], count: u32, o: Own, own: u32, at: usize, rec: u32) -> Used
-    requires { ⌜ Lent (now s) (now work) × Indexed (now s) (now work) count × (rec < 4096) × Skips (now work) own (Types.bodyUses (bodyIn (Read.ownBody (ownOf (now s) o)) (rec + 1) (now s) at)) ⌝ }
+    requires { ⌜ Lent (now s) (now work) × Indexed (now s) (now work) count × (rec < 4096) × Skips (now work) own (Types.bodyUses (bodyIn (Read.ownBody (ownOf (now s) o)) (rec + 1) (now s) at)) × (wholeField (Read.ownBody (ownOf (now s) o)) (rec + 1) (now s) at ≡ true) × ReadableOwn (now s) o ⌝ }
     ensures { λ r. ⌜ Handles rec (endAfter (Read.ownBody (ownOf (now (s .entry)) o)) rec (now (s .entry)) at) (now (s .entry)) (usesOwn rec (ownOf (now (s .entry)) o) (now (s .entry)) at) (now (work .entry)) count r (now (work .exit)) ⌝ }
 {
     match o {
@@ -52,7 +55,7 @@ fn use_source(
     at: usize,
     rec: u32,
 ) -> Used
-    requires { ⌜ Lent (now s) (now work) × Indexed (now s) (now work) count × (rec < 4096) × Skips (now work) own (Types.bodyUses (bodyIn (Read.sourceBody (sourceOf (now s) x)) (rec + 1) (now s) at)) ⌝ }
+    requires { ⌜ Lent (now s) (now work) × Indexed (now s) (now work) count × (rec < 4096) × Skips (now work) own (Types.bodyUses (bodyIn (Read.sourceBody (sourceOf (now s) x)) (rec + 1) (now s) at)) × (wholeField (Read.sourceBody (sourceOf (now s) x)) (rec + 1) (now s) at ≡ true) × ReadableSource (now s) x ⌝ }
     ensures { λ r. ⌜ Handles rec (endAfter (Read.sourceBody (sourceOf (now (s .entry)) x)) rec (now (s .entry)) at) (now (s .entry)) (usesSource rec (sourceOf (now (s .entry)) x) (now (s .entry)) at) (now (work .entry)) count r (now (work .exit)) ⌝ }
 {
     match x {
@@ -73,7 +76,7 @@ pub fn use_field(
     at: usize,
     rec: u32,
 ) -> Used
-    requires { ⌜ Lent (now s) (now work) × Indexed (now s) (now work) count × (rec < 4096) × Skips (now work) own (Types.bodyUses (bodyIn (Read.fieldBody (fieldOf (now s) f)) (rec + 1) (now s) at)) ⌝ }
+    requires { ⌜ Lent (now s) (now work) × Indexed (now s) (now work) count × (rec < 4096) × Skips (now work) own (Types.bodyUses (bodyIn (Read.fieldBody (fieldOf (now s) f)) (rec + 1) (now s) at)) × (wholeField (Read.fieldBody (fieldOf (now s) f)) (rec + 1) (now s) at ≡ true) × ReadableHead (now s) f ⌝ }
     ensures { λ r. ⌜ Handles rec (endAfter (Read.fieldBody (fieldOf (now (s .entry)) f)) rec (now (s .entry)) at) (now (s .entry)) (usesField rec (fieldOf (now (s .entry)) f) (now (s .entry)) at) (now (work .entry)) count r (now (work .exit)) ⌝ }
 {
     match f {

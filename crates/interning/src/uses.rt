@@ -13,6 +13,8 @@ ghost use Rattle.area.specs.Lent.{Lent};
 ghost use Rattle.definition.specs.Types as Types;
 ghost use Rattle.syntax.specs.TypeUses.{useOf};
 ghost use Rattle.syntax.specs.Instructions.{instrIs};
+ghost use Rattle.typeuse.specs.Known.{Readable};
+ghost use Rattle.instr.specs.Known.{ReadableInstr};
 ghost use Rattle.interning.specs.Uses.{Handles};
 ghost use Rattle.type_table.specs.Table.{Indexed};
 ghost use Rattle.type_table.specs.Uses.{blockUses};
@@ -34,7 +36,7 @@ fn put_number(work: &mut [u32], rec: u32, n: u32)
 
 // A use without an index takes the first equal signature, or adds one at the end.
 fn take_type(s: &[u8], work: &mut [u32], count: u32, t: TypeUse, rec: u32) -> Used
-    requires { ⌜ Lent (now s) (now work) × Indexed (now s) (now work) count × (rec < 4096) ⌝ }
+    requires { ⌜ Lent (now s) (now work) × Indexed (now s) (now work) count × (rec < 4096) × Readable (now s) (t .params) ⌝ }
     ensures { λ r. ⌜ Handles rec (rec + 1) (now (s .entry)) (Types.usedAt rec (Types.signature (useOf (now (s .entry)) t) ∷ [])) (now (work .entry)) count r (now (work .exit)) ⌝ }
 {
     match type_table::intern_use(s, work, count, t, rec) {
@@ -48,7 +50,7 @@ fn take_type(s: &[u8], work: &mut [u32], count: u32, t: TypeUse, rec: u32) -> Us
 
 // A use with an index adds nothing.
 pub fn use_type(s: &[u8], work: &mut [u32], count: u32, t: TypeUse, rec: u32) -> Used
-    requires { ⌜ Lent (now s) (now work) × Indexed (now s) (now work) count × (rec < 4096) ⌝ }
+    requires { ⌜ Lent (now s) (now work) × Indexed (now s) (now work) count × (rec < 4096) × Readable (now s) (t .params) ⌝ }
     ensures { λ r. ⌜ Handles rec (rec + 1) (now (s .entry)) (Types.usedAt rec (Types.useOf (useOf (now (s .entry)) t))) (now (work .entry)) count r (now (work .exit)) ⌝ }
 {
     let x = t.index;
@@ -61,7 +63,7 @@ pub fn use_type(s: &[u8], work: &mut [u32], count: u32, t: TypeUse, rec: u32) ->
 
 // A block that has a short form adds nothing.
 fn use_block(s: &[u8], work: &mut [u32], count: u32, t: TypeUse, rec: u32) -> Used
-    requires { ⌜ Lent (now s) (now work) × Indexed (now s) (now work) count × (rec < 4096) ⌝ }
+    requires { ⌜ Lent (now s) (now work) × Indexed (now s) (now work) count × (rec < 4096) × Readable (now s) (t .params) ⌝ }
     ensures { λ r. ⌜ Handles rec (rec + 1) (now (s .entry)) (Types.usedAt rec (blockUses (useOf (now (s .entry)) t))) (now (work .entry)) count r (now (work .exit)) ⌝ }
 {
     if type_table::is_short(s, t) {
@@ -72,7 +74,7 @@ fn use_block(s: &[u8], work: &mut [u32], count: u32, t: TypeUse, rec: u32) -> Us
 
 // The use of an instruction, if it has one.
 pub fn use_instr(s: &[u8], work: &mut [u32], count: u32, i: Instr, rec: u32) -> Used
-    requires { ⌜ Lent (now s) (now work) × Indexed (now s) (now work) count × (rec < 4096) ⌝ }
+    requires { ⌜ Lent (now s) (now work) × Indexed (now s) (now work) count × (rec < 4096) × ReadableInstr (now s) i ⌝ }
     ensures { λ r. ⌜ Handles rec (rec + 1) (now (s .entry)) (Types.usedAt rec (Types.instrUses (instrIs (now (s .entry)) i))) (now (work .entry)) count r (now (work .exit)) ⌝ }
 {
     match i {

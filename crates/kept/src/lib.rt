@@ -3,19 +3,6 @@ pub mod entry;
 pub mod parts;
 pub mod tally;
 
-// Numbers of sections.
-pub const TYPE: u8 = 1;
-
-pub const IMPORT: u8 = 2;
-
-pub const START: u8 = 8;
-
-pub const CODE: u8 = 10;
-
-pub const DATAS: u8 = 11;
-
-pub const DATA_COUNT: u8 = 12;
-
 // Entries go to sections 0 to 11: each has its slot in the tally, and its part of the kept bytes. The data count has none: its number is the tally's
 // count of data segments.
 pub const SECTIONS: usize = 12;

@@ -1,4 +1,5 @@
 // The kept bytes: what resolving emits, each section's in a part of its own, so that the writer has only to copy it.
+use deinline::section;
 use entries::EndsAt;
 use syntax::Entry;
 ghost use mathlib.Core.Path.{_≡_};
@@ -11,13 +12,13 @@ ghost use Rattle.kept.specs.Emit.{EmitsKept};
 fn units_of(k: u8) -> usize
     ensures { λ r. ⌜ r ≡ unitsOf k ⌝ }
 {
-    if k <= 7 {
+    if k <= section::EXPORT {
         return k as usize;
     }
-    if k <= 10 {
+    if k <= section::CODE {
         return k as usize + 1;
     }
-    if k == 11 {
+    if k == section::DATA {
         return 18;
     }
     32

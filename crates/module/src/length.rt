@@ -1,4 +1,5 @@
 // How long the module is, by the size beside the types and by the tally of the other sections' entries. Lengths saturate, as places do.
+use deinline::section;
 use kept::Tally;
 ghost use mathlib.Core.Path.{_≡_};
 ghost use Prim.Native.Nat.{_-_, _≤_, _<_};
@@ -12,7 +13,7 @@ ghost use Rattle.kept.specs.Sections.{SECTIONS};
 pub fn content_len(k: u8, size: usize, count: u64) -> usize
     ensures { λ r. ⌜ r ≡ contentLen k size count ⌝ }
 {
-    if k == kept::START {
+    if k == section::START {
         return size;
     }
     emit::tally(leb::group_count(count), size)
@@ -61,7 +62,7 @@ fn count_len(t: Tally, work: &[u32]) -> usize
 {
     if area::flag(work, area::DATA_NAMED) {
         let counts = t.counts;
-        return sized_len(leb::group_count(counts[kept::DATAS as usize]));
+        return sized_len(leb::group_count(counts[section::DATA as usize]));
     }
     0
 }
@@ -82,7 +83,7 @@ pub fn module_len(t: Tally, work: &[u32]) -> usize
 {
     let size = area::word(work, area::SIZE) as usize;
     let a = emit::tally(8, types_len(size));
-    let b = sections_len(t, kept::IMPORT, kept::CODE, a);
+    let b = sections_len(t, section::IMPORT, section::CODE, a);
     let c = emit::tally(b, count_len(t, work));
-    sections_len(t, kept::CODE, kept::DATA_COUNT, c)
+    sections_len(t, section::CODE, section::DATA_COUNT, c)
 }

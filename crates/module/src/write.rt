@@ -1,5 +1,6 @@
 // The bytes of the module. `t` is the tally of the entries of all sections but the first, whose size stands beside the types.
 use crate::length::content_len;
+use deinline::section;
 use kept::Tally;
 use sections::emit_fields;
 use sections::put_types;
@@ -65,7 +66,7 @@ fn put_content(
     requires { ⌜ (k < SECTIONS) × Writable (now s) (now work) × Held (now kept) (allEntries (now s) (now work)) × (size ≡ past 0 (length (Binary.joined (Binary.inSection k (allEntries (now s) (now work)))))) × Counts count k (allEntries (now s) (now work)) ⌝ }
     ensures { λ r. ⌜ Writes (Binary.content k (Binary.inSection k (allEntries (now (s .entry)) (now (work .entry))))) (now (out .entry)) at r (now (out .exit)) (now (work .entry)) (now (work .exit)) ⌝ }
 {
-    if k == kept::START {
+    if k == section::START {
         return put_entries(k, size, kept, s, work, out, at);
     }
     let a = leb::put_u(out, at, count);
@@ -115,7 +116,7 @@ fn put_type_section(s: &[u8], work: &[u32], out: &mut [u8], at: usize) -> usize
     if size == 0 {
         return at;
     }
-    let a = put_head(kept::TYPE, size, out, at);
+    let a = put_head(section::TYPE, size, out, at);
     let b = leb::put_u(out, a, type_table::total(work) as u64);
     put_types(s, work, out, b)
 }
@@ -149,8 +150,8 @@ fn put_count(t: Tally, work: &[u32], out: &mut [u8], at: usize) -> usize
 {
     if area::flag(work, area::DATA_NAMED) {
         let counts = t.counts;
-        let n = counts[kept::DATAS as usize];
-        let a = put_head(kept::DATA_COUNT, leb::group_count(n), out, at);
+        let n = counts[section::DATA as usize];
+        let a = put_head(section::DATA_COUNT, leb::group_count(n), out, at);
         return leb::put_u(out, a, n);
     }
     at
@@ -161,9 +162,9 @@ fn put_all(t: Tally, kept: &[u8], s: &[u8], work: &mut [u32], out: &mut [u8], at
     requires { ⌜ Supplied t (now kept) (now s) (now work) ⌝ }
     ensures { λ r. ⌜ Writes (allSections (dataNamedIn (now (work .entry))) (allEntries (now (s .entry)) (now (work .entry)))) (now (out .entry)) at r (now (out .exit)) (now (work .entry)) (now (work .exit)) ⌝ }
 {
-    let a = put_sections(kept::IMPORT, kept::CODE, t, kept, s, work, out, at);
+    let a = put_sections(section::IMPORT, section::CODE, t, kept, s, work, out, at);
     let b = put_count(t, work, out, a);
-    put_sections(kept::CODE, kept::DATA_COUNT, t, kept, s, work, out, b)
+    put_sections(section::CODE, section::DATA_COUNT, t, kept, s, work, out, b)
 }
 
 // The module, from the first byte on.

@@ -3,6 +3,7 @@ use mathlib.Core.Path.{_≡_, refl, ap, sym, _∙_}
 use Prim.Native.Nat.{ℕ, zero, suc, _+_, _-_, _≤_, _<_}
 use mathlib.Core.Bool.{Bool, true, false, _||_}
 use mathlib.Core.List.{List, [], _∷_}
+use mathlib.Core.Option.{Option, none, some}
 use lib.Dec.{eqb, leb}
 use lib.ListN.{getD}
 use types.Run.{OneOf, miss}
@@ -11,43 +12,33 @@ use borrow.Author.Tests.{eq-eqb, ne-eqb, le-leb, lt-leb, leb-false}
 use native.Mathlib.Omega.{arith}
 use Rattle.definition.specs.Basic.{if_then_else_}
 use Rattle.definition.specs.Syntax as Syntax
-use Rattle.definition.specs.Syntax.{Bytes, Identifier, folded}
+use Rattle.definition.specs.Syntax.{Bytes, Identifier, Rec, field, folded, bodyEnd}
 use Rattle.definition.specs.Reader.{Step, got, fault, onward, byte}
 use Rattle.definition.specs.Token.{upTo, optional, typeUse}
-use Rattle.definition.specs.Instructions.{Operands, calling, formOf, plainOf, instruction, mayFold, operator, fold}
-use Rattle.laws.specs.Steps.{stops}
+use Rattle.definition.specs.Instructions as Instructions
+use Rattle.definition.specs.Instructions.{Operands, opening, elsing, ending, calling, operands, formOf, plainOf, instruction, mayFold, operatorOf, operator, fold}
 use Rattle.syntax.specs.Numbers.{u32At}
 use Rattle.syntax.specs.declared.U32.{U32}
 use Rattle.syntax.specs.declared.U32.the-variants as U32
-use Rattle.syntax.specs.Tokens.{byteAt, skip}
+use Rattle.syntax.specs.Tokens.{byteAt}
 use Rattle.syntax.specs.declared.ByteAt.{ByteAt}
 use Rattle.syntax.specs.declared.ByteAt.the-variants as B
-use Rattle.syntax.specs.declared.Skip.{Skip}
-use Rattle.syntax.specs.declared.Skip.the-variants as S
-use Rattle.token.proofs.Skips.{gave, gave-not}
-use Rattle.syntax.specs.TypeUses.{useAt}
-use Rattle.syntax.specs.declared.TypeUse.{TypeUse}
-use Rattle.syntax.specs.declared.UseAt.{UseAt}
-use Rattle.syntax.specs.declared.UseAt.the-variants as UA
 use Rattle.syntax.specs.Plain.{operandsIs}
 use Rattle.syntax.specs.declared.Operands as Code
-use Rattle.syntax.specs.declared.Operands.the-variants as W
-use Rattle.syntax.proofs.Operands as OperandsOf
-use Rattle.expr.proofs.Skips.{any-opcode}
 use Rattle.syntax.specs.Instructions.{formIs}
 use Rattle.syntax.specs.declared.Form.{Form}
 use Rattle.syntax.specs.declared.Form.the-variants as FM
+use Rattle.syntax.proofs.Form as FormOf
+use Rattle.instr.specs.Readers.{countOf}
 use Rattle.syntax.specs.declared.Place.{Place}
 use Rattle.next_record.specs.Uses.{mayUse, namesData, sortNames}
 use Rattle.next_record.specs.Places.{recordPast}
-use Rattle.next_record.specs.Folds.{doesOf, bothDo, plainDoes, operatorDoes, headOf, headAt, onHead, onFold, onByte, operandsBy, afterF0, foldedAt}
+use Rattle.next_record.specs.Folds.{doesOf, noneDo, bothDo, formDoes, byteDoes, doesAt, headOf, headAt, onHead, onFold, onByte, operandsBy, afterF0, foldedAt}
 use Rattle.next_record.specs.declared.record.Does.{Does}
 use Rattle.next_record.specs.declared.fold.Fold.{Fold}
 use Rattle.next_record.specs.declared.fold.Fold.the-variants as L
 use Rattle.next_record.specs.declared.fold.HeadAt.{HeadAt}
 use Rattle.next_record.specs.declared.fold.HeadAt.the-variants as H
-use Rattle.next_record.specs.declared.fold.OperatorAt.{OperatorAt}
-use Rattle.next_record.specs.declared.fold.OperatorAt.the-variants as O
 use Rattle.next_record.proofs.Naming.{read-names}
 
 -- ## What instructions do
@@ -56,134 +47,109 @@ pub both-do : (a b : Does) (u n : Bool) → u ≡ (a .uses || b .uses) → n ≡
 unfolding bothDo
 both-do a b u n e d = rw (e, d)
 
--- after FC, by the second byte
-module _ (w : Code.Operands) (s : Bytes) (at b : ℕ) (is : w ≡ W.Bulk) (e : b ≡ getD s at 0) where
-  pub does-init : b ≡ 0x08 → _≡_ {A = Does} (record { uses = false; names = true }) (plainDoes (operandsIs w) (getD s at 0))
-  unfolding plainDoes
-  does-init h = rw (is, ← e, h)
-
-  pub does-drop : b ≡ 0x09 → _≡_ {A = Does} (record { uses = false; names = true }) (plainDoes (operandsIs w) (getD s at 0))
-  unfolding plainDoes
-  does-drop h = rw (is, ← e, h)
-
-  pub does-no-more : (b ≡ 0x08 → ⊥) → (b ≡ 0x09 → ⊥) → _≡_ {A = Does} (record { uses = false; names = false }) (plainDoes (operandsIs w) (getD s at 0))
-  unfolding plainDoes
-  does-no-more h g = rw (is, ← e, ne-eqb b 0x08 h, ne-eqb b 0x09 g)
-
-abbrev Others : List ℕ
-Others = 0 ∷ 1 ∷ 2 ∷ 3 ∷ 4 ∷ 5 ∷ 6 ∷ 7 ∷ 8 ∷ 9 ∷ 10 ∷ 11 ∷ 12 ∷ []
-
--- no other operands name a data segment
-pub does-none : (w : Code.Operands) (n : ℕ) → OneOf Others (tagOf OperandsOf.the-type w) → _≡_ {A = Does} (record { uses = false; names = false }) (plainDoes (operandsIs w) n)
-unfolding plainDoes
-does-none W.Bare n h = refl
-does-none W.LabelIdx n h = refl
-does-none W.LabelIdxs n h = refl
-does-none W.LocalIdx n h = refl
-does-none W.FuncIdx n h = refl
-does-none W.GlobalIdx n h = refl
-does-none W.MemIdx n h = refl
-does-none W.MemArg n h = refl
-does-none W.I32 n h = refl
-does-none W.I64 n h = refl
-does-none W.F32 n h = refl
-does-none W.F64 n h = refl
-does-none W.HeapType n h = refl
-does-none W.Bulk n h = absurd (miss Others 13 tt h)
-
-pub ruleset plains-do = (does-init, does-drop, does-no-more, does-none)
-
 -- ## The operator
 
-module _ (s : Bytes) (at : ℕ) (x : OperatorAt) (u : Skip) (told : stops (optional s at) ≡ skip u) where
-  pub calling-not : (n : ℕ) → u ≡ S.Fault n → x ≡ O.Fault n → x ≡ operatorDoes (instruction 0x11 calling s at)
-  unfolding instruction
-  calling-not n d p = rw (gave-not (optional s at) u n told d) p
+abbrev Barred : List ℕ
+Barred = 0 ∷ 1 ∷ 2 ∷ 3 ∷ []
 
-  module _ (b : ℕ) (d : u ≡ S.Past b) (r : UseAt) (e : typeUse s b ≡ useAt s r) where
-    pub calling-past : (t : TypeUse) (n : ℕ) → r ≡ UA.Got t n → x ≡ O.Past (record { uses = true; names = false }) n → x ≡ operatorDoes (instruction 0x11 calling s at)
-    unfolding instruction doesOf mayUse namesData
-    calling-past t n g p = let l = gave (optional s at) u b told d in rw (l .is, e, g) p
-
-    pub calling-no-use : (n : ℕ) → r ≡ UA.Fault n → x ≡ O.Fault n → x ≡ operatorDoes (instruction 0x11 calling s at)
-    unfolding instruction
-    calling-no-use n g p = let l = gave (optional s at) u b told d in rw (l .is, e, g) p
-
-pub ruleset callings = (calling-not, calling-past, calling-no-use, refl)
-
-module _ (s : Bytes) (at : ℕ) (x : OperatorAt) (q : ByteAt) (told : byte s at ≡ byteAt q) where
-  pub operator-none : (n : ℕ) → q ≡ B.Fault n → x ≡ O.Fault n → x ≡ operatorDoes (operator s at)
-  unfolding operator
-  operator-none n d p = rw (told, d) p
+-- by its opcode and the byte after it
+module _ (s : Bytes) (at : ℕ) (q : ByteAt) (told : byte s at ≡ byteAt q) where
+  pub does-no-byte : (n : ℕ) → q ≡ B.Fault n → noneDo ≡ doesAt s at
+  unfolding doesAt
+  does-no-byte n d = rw (told, d)
 
   module _ (b a : ℕ) (d : q ≡ B.Got b a) (f : Form) (says : formOf b ≡ formIs f) where
-    pub no-opcode : f ≡ FM.NoOpcode → x ≡ O.Fault 4 → x ≡ operatorDoes (operator s at)
-    unfolding operator
-    no-opcode e p = rw (told, d, says, e) p
+    by-form : doesAt s at ≡ formDoes (formIs f) (getD s a 0)
+    unfolding doesAt
+    by-form = rw (told, d, says) refl
 
-    pub barred-opening : f ≡ FM.Opening → x ≡ O.Fault 4 → x ≡ operatorDoes (operator s at)
-    unfolding operator mayFold
-    barred-opening e p = rw (told, d, says, e) p
+    pub does-calling : f ≡ FM.Calling → _≡_ {A = Does} (record { uses = true; names = false }) (doesAt s at)
+    does-calling e = sym (by-form ∙ rw e refl)
 
-    pub barred-elsing : f ≡ FM.Elsing → x ≡ O.Fault 4 → x ≡ operatorDoes (operator s at)
-    unfolding operator mayFold
-    barred-elsing e p = rw (told, d, says, e) p
+    pub does-plain : (w : Code.Operands) (n : Bool) → f ≡ FM.Operands w → n ≡ sortNames (operandsIs w) (getD s a 0) → _≡_ {A = Does} (record { uses = false; names = n }) (doesAt s at)
+    does-plain w n e i = sym (by-form ∙ rw (e, i) refl)
 
-    pub barred-ending : f ≡ FM.Ending → x ≡ O.Fault 4 → x ≡ operatorDoes (operator s at)
-    unfolding operator mayFold
-    barred-ending e p = rw (told, d, says, e) p
+    pub does-barred : OneOf Barred (tagOf FormOf.the-type f) → noneDo ≡ doesAt s at
+    does-barred h = sym (by-form ∙ go f h)
+      where
+        go : (g : Form) → OneOf Barred (tagOf FormOf.the-type g) → formDoes (formIs g) (getD s a 0) ≡ noneDo
+        go FM.NoOpcode l = refl
+        go FM.Opening l = refl
+        go FM.Elsing l = refl
+        go FM.Ending l = refl
+        go FM.Calling l = absurd (miss Barred 4 tt l)
+        go (FM.Operands w) l = absurd (miss Barred 5 tt l)
 
-    pub operator-calls : f ≡ FM.Calling → x ≡ operatorDoes (instruction 0x11 calling s a) → x ≡ operatorDoes (operator s at)
-    unfolding operator mayFold instruction
-    operator-calls e p = rw (told, d, says, e) p
+pub ruleset operators = (does-no-byte, does-calling, does-plain, does-barred)
 
-    module _ (w : Code.Operands) (e : f ≡ FM.Operands w) (k : Skip) (stop : stops (plainOf 0 (operandsIs w) s a) ≡ skip k) where
-      pub operator-plain : (next : ℕ) (does : Does) → k ≡ S.Past next → does ≡ plainDoes (operandsIs w) (getD s a 0) → x ≡ O.Past does next → x ≡ operatorDoes (operator s at)
-      unfolding operator mayFold instruction doesOf mayUse namesData plainDoes
-      operator-plain next does g i p =
-          let y = gave (plainOf b (operandsIs w) s a) k next (any-opcode b (operandsIs w) s a ∙ stop) g in
-          let n = read-names b (operandsIs w) s a (y .value) next (y .is) in
-          rw (told, d, says, e, y .is, n, ← i) p
+-- one that was read does what its first bytes say
+module _ (s : Bytes) (x : Syntax.Instr Identifier) (next : ℕ) where
+  calls : (b a : ℕ) → instruction b calling s a ≡ got x next → doesOf x ≡ formDoes (some calling) (getD s a 0)
+  unfolding instruction doesOf mayUse namesData
+  calls b a e = table (optional s a) e
+    where
+      type : (i : Syntax.Index Identifier) (m : Step (Syntax.TypeUse Identifier)) → onward (λ t n. got (Syntax.indirect i t) n) m ≡ got x next → doesOf x ≡ formDoes (some calling) (getD s a 0)
+      type i (got t n) e = let d : Syntax.indirect i t ≡ x = cc in rw (← d) refl
+      type i (fault n) e = let z : _≡_ {A = ℕ} 0 1 = cc in absurd (omega arith)
 
-      pub operator-no-plain : (n : ℕ) → k ≡ S.Fault n → x ≡ O.Fault n → x ≡ operatorDoes (operator s at)
-      unfolding operator mayFold instruction
-      operator-no-plain n g p = rw (told, d, says, e, gave-not (plainOf b (operandsIs w) s a) k n (any-opcode b (operandsIs w) s a ∙ stop) g) p
+      table : (m : Step (Syntax.Index Identifier)) → onward (λ i c. onward (λ t n. got (Syntax.indirect i t) n) (typeUse s c)) m ≡ got x next → doesOf x ≡ formDoes (some calling) (getD s a 0)
+      table (got i c) e = type i (typeUse s c) e
+      table (fault n) e = let z : _≡_ {A = ℕ} 0 1 = cc in absurd (omega arith)
 
-pub ruleset operators = (operator-none, no-opcode, barred-opening, barred-elsing, barred-ending, operator-calls, operator-plain, operator-no-plain, refl)
+  is-plain : (b a : ℕ) (w : Operands) → instruction b (operands w) s a ≡ got x next → doesOf x ≡ formDoes (some (operands w)) (getD s a 0)
+  unfolding instruction doesOf mayUse namesData
+  is-plain b a w e = go (plainOf b w s a) refl e
+    where
+      go : (m : Step (Syntax.Plain Identifier)) → plainOf b w s a ≡ m → onward (λ p n. got (Syntax.plain p) n) m ≡ got x next → doesOf x ≡ formDoes (some (operands w)) (getD s a 0)
+      go (got p n) r e = let d : Syntax.plain p ≡ x = cc in rw (← d, read-names b w s a p n r) refl
+      go (fault n) r e = let z : _≡_ {A = ℕ} 0 1 = cc in absurd (omega arith)
+
+  by-opcode : (b a : ℕ) (f : Option Instructions.Form) → operatorOf b f s a ≡ got x next → doesOf x ≡ formDoes f (getD s a 0)
+  unfolding mayFold
+  by-opcode b a none e = let z : _≡_ {A = ℕ} 0 1 = cc in absurd (omega arith)
+  by-opcode b a (some opening) e = let z : _≡_ {A = ℕ} 0 1 = cc in absurd (omega arith)
+  by-opcode b a (some elsing) e = let z : _≡_ {A = ℕ} 0 1 = cc in absurd (omega arith)
+  by-opcode b a (some ending) e = let z : _≡_ {A = ℕ} 0 1 = cc in absurd (omega arith)
+  by-opcode b a (some calling) e = calls b a e
+  by-opcode b a (some (operands w)) e = is-plain b a w e
+
+  operator-does : (at : ℕ) → operator s at ≡ got x next → doesOf x ≡ doesAt s at
+  unfolding operator doesAt
+  operator-does at e = go (byte s at) e
+    where
+      go : (m : Step ℕ) → onward (λ b a. operatorOf b (formOf b) s a) m ≡ got x next → doesOf x ≡ byteDoes s m
+      go (got b a) e = by-opcode b a (formOf b) e
+      go (fault n) e = let z : _≡_ {A = ℕ} 0 1 = cc in absurd (omega arith)
 
 -- ## What stands after F0
 
-module _ (s : Bytes) (at : ℕ) (x : HeadAt) (q : OperatorAt) (told : q ≡ operatorDoes (operator s at)) where
-  made : (m : Step (Syntax.Instr Identifier)) → operator s at ≡ m → headAt s at ≡ headOf (onward (λ y a. onward (λ n next. got (folded y n) next) (upTo 7 16 s a)) m)
+-- nothing: both say so
+head-fault : (m : Step (Rec Identifier)) (n : ℕ) → countOf m ≡ fault n → H.Fault n ≡ headOf m
+head-fault (got (field f) next) n e = let d : 0 ≡ n = cc in rw (← d) refl
+head-fault (got (Syntax.instr x) next) n e = let d : 0 ≡ n = cc in rw (← d) refl
+head-fault (got (folded x k) next) n e = let z : _≡_ {A = ℕ} 0 1 = cc in absurd (omega arith)
+head-fault (got bodyEnd next) n e = let d : 0 ≡ n = cc in rw (← d) refl
+head-fault (fault k) n e = let d : k ≡ n = cc in rw d refl
+
+module _ (s : Bytes) (at : ℕ) (x : HeadAt) (r : U32) (told : countOf (fold s at) ≡ u32At r) where
+  pub head-not : (n : ℕ) → r ≡ U32.Fault n → x ≡ H.Fault n → x ≡ headAt s at
+  unfolding headAt
+  head-not n d p = p ∙ head-fault (fold s at) n (told ∙ ap u32At d)
+
+  pub head-got : (n next : ℕ) (does : Does) → r ≡ U32.Got n next → does ≡ doesAt s at → x ≡ H.Got does n next → x ≡ headAt s at
   unfolding headAt fold
-  made m e = rw e
-
-  pub head-none : (n : ℕ) → q ≡ O.Fault n → x ≡ H.Fault n → x ≡ headAt s at
-  head-none n d p = go (operator s at) refl
+  head-got n next does d i p = p ∙ go (operator s at) refl (told ∙ ap u32At d)
     where
-      go : (m : Step (Syntax.Instr Identifier)) → operator s at ≡ m → x ≡ headAt s at
-      go (got y a) e = let z = sym d ∙ told ∙ ap operatorDoes e in let o : _≡_ {A = ℕ} 0 1 = cc in absurd (omega arith)
-      go (fault k) e = let z = sym d ∙ told ∙ ap operatorDoes e in let i : n ≡ k = cc in p ∙ ap H.Fault i ∙ sym (made (fault k) e)
+      count : (y : Syntax.Instr Identifier) → doesOf y ≡ doesAt s at → (m : Step ℕ) → countOf (onward (λ k b. got (folded y k) b) m) ≡ got n next → H.Got does n next ≡ headOf (onward (λ k b. got (folded y k) b) m)
+      count y o (got k b) e = let f : k ≡ n = cc in let g : b ≡ next = cc in rw (f, g, i, o) refl
+      count y o (fault k) e = let z : _≡_ {A = ℕ} 0 1 = cc in absurd (omega arith)
 
-  module _ (does : Does) (a : ℕ) (d : q ≡ O.Past does a) (r : U32) (count : upTo 7 16 s a ≡ u32At r) where
-    came : (y : HeadAt) → ((z : Syntax.Instr Identifier) → doesOf z ≡ does → y ≡ headOf (onward (λ n next. got (folded z n) next) (upTo 7 16 s a))) → y ≡ headAt s at
-    came y f = go (operator s at) refl
-      where
-        go : (m : Step (Syntax.Instr Identifier)) → operator s at ≡ m → y ≡ headAt s at
-        go (got z c) e =
-            let w = sym d ∙ told ∙ ap operatorDoes e in
-            let i : does ≡ doesOf z = cc in
-            let j : a ≡ c = cc in
-            f z (sym i) ∙ ap (λ b. headOf (onward (λ n next. got (folded z n) next) (upTo 7 16 s b))) j ∙ sym (made (got z c) e)
-        go (fault k) e = let w = sym d ∙ told ∙ ap operatorDoes e in let o : _≡_ {A = ℕ} 0 1 = cc in absurd (omega arith)
+      go : (m : Step (Syntax.Instr Identifier)) → operator s at ≡ m → countOf (onward (λ y a. onward (λ k b. got (folded y k) b) (upTo 7 16 s a)) m) ≡ got n next
+          → H.Got does n next ≡ headOf (onward (λ y a. onward (λ k b. got (folded y k) b) (upTo 7 16 s a)) m)
+      go (got y a) o e = count y (operator-does s y a at o) (upTo 7 16 s a) e
+      go (fault k) o e = let z : _≡_ {A = ℕ} 0 1 = cc in absurd (omega arith)
 
-    pub head-got : (n next : ℕ) → r ≡ U32.Got n next → x ≡ H.Got does n next → x ≡ headAt s at
-    head-got n next g p = came x (λ z i. rw (count, g, i) p)
-
-    pub head-no-count : (n : ℕ) → r ≡ U32.Fault n → x ≡ H.Fault n → x ≡ headAt s at
-    head-no-count n g p = came x (λ z i. rw (count, g) p)
-
-pub ruleset heads = (head-none, head-got, head-no-count, refl)
+pub ruleset heads = (head-got, head-not, refl)
 
 -- ## A folded record
 

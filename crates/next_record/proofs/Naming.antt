@@ -73,33 +73,40 @@ read-names op w s at p next e = plain-names op w s at .holds p next e
 -- ## The code
 
 module _ (w : Code.Operands) (s : Bytes) (at b : ℕ) (is : w ≡ W.Bulk) (e : b ≡ getD s at 0) where
-  pub bulk-init : b ≡ 0x08 → N.Data ≡ plainInside (operandsIs w) (getD s at 0)
+  pub bulk-init : b ≡ 0x08 → true ≡ sortNames (operandsIs w) (getD s at 0)
   bulk-init h = rw (is, ← e, h)
 
-  pub bulk-drop : b ≡ 0x09 → N.Data ≡ plainInside (operandsIs w) (getD s at 0)
+  pub bulk-drop : b ≡ 0x09 → true ≡ sortNames (operandsIs w) (getD s at 0)
   bulk-drop h = rw (is, ← e, h)
 
-  pub bulk-on : (b ≡ 0x08 → ⊥) → (b ≡ 0x09 → ⊥) → N.On false ≡ plainInside (operandsIs w) (getD s at 0)
-  bulk-on h g = rw (is, ← e, ne-eqb b 0x08 h, ne-eqb b 0x09 g)
+  pub bulk-not : (b ≡ 0x08 → ⊥) → (b ≡ 0x09 → ⊥) → false ≡ sortNames (operandsIs w) (getD s at 0)
+  bulk-not h g = rw (is, ← e, ne-eqb b 0x08 h, ne-eqb b 0x09 g)
 
 abbrev Others : List ℕ
 Others = 0 ∷ 1 ∷ 2 ∷ 3 ∷ 4 ∷ 5 ∷ 6 ∷ 7 ∷ 8 ∷ 9 ∷ 10 ∷ 11 ∷ 12 ∷ []
 
 -- no other operands name a data segment
-pub plain-on : (w : Code.Operands) (n : ℕ) → OneOf Others (tagOf OperandsOf.the-type w) → N.On false ≡ plainInside (operandsIs w) n
-plain-on W.Bare n h = refl
-plain-on W.LabelIdx n h = refl
-plain-on W.LabelIdxs n h = refl
-plain-on W.LocalIdx n h = refl
-plain-on W.FuncIdx n h = refl
-plain-on W.GlobalIdx n h = refl
-plain-on W.MemIdx n h = refl
-plain-on W.MemArg n h = refl
-plain-on W.I32 n h = refl
-plain-on W.I64 n h = refl
-plain-on W.F32 n h = refl
-plain-on W.F64 n h = refl
-plain-on W.HeapType n h = refl
-plain-on W.Bulk n h = absurd (miss Others 13 tt h)
+pub others-not : (w : Code.Operands) (n : ℕ) → OneOf Others (tagOf OperandsOf.the-type w) → false ≡ sortNames (operandsIs w) n
+others-not W.Bare n h = refl
+others-not W.LabelIdx n h = refl
+others-not W.LabelIdxs n h = refl
+others-not W.LocalIdx n h = refl
+others-not W.FuncIdx n h = refl
+others-not W.GlobalIdx n h = refl
+others-not W.MemIdx n h = refl
+others-not W.MemArg n h = refl
+others-not W.I32 n h = refl
+others-not W.I64 n h = refl
+others-not W.F32 n h = refl
+others-not W.F64 n h = refl
+others-not W.HeapType n h = refl
+others-not W.Bulk n h = absurd (miss Others 13 tt h)
 
-pub ruleset plains-on = (bulk-init, bulk-drop, bulk-on, plain-on)
+pub ruleset names-told = (bulk-init, bulk-drop, bulk-not, others-not)
+
+module _ (w : Code.Operands) (n : ℕ) (b : Bool) (told : b ≡ sortNames (operandsIs w) n) where
+  pub plain-data : b ≡ true → N.Data ≡ plainInside (operandsIs w) n
+  plain-data d = rw (← told, d)
+
+  pub plain-on : b ≡ false → N.On false ≡ plainInside (operandsIs w) n
+  plain-on d = rw (← told, d)

@@ -1,12 +1,13 @@
 -- Folded records in the reading pass: one is read with all its operands.
 use Prim.Native.Nat.{ℕ, zero, suc, _-_}
 use mathlib.Core.Bool.{Bool, true, false, _||_}
+use mathlib.Core.Option.{Option, none, some}
 use lib.Dec.{eqb, leb}
 use lib.ListN.{getD}
 use Rattle.definition.specs.Basic.{if_then_else_, Answer, ok, refused}
 use Rattle.definition.specs.Syntax.{Bytes, Identifier, Instr, Rec, field, instr, folded, bodyEnd}
 use Rattle.definition.specs.Reader.{Step, got, fault, byte}
-use Rattle.definition.specs.Instructions.{Operands, formOf, formed, fold}
+use Rattle.definition.specs.Instructions.{Operands, Form, opening, elsing, ending, calling, operands, formOf, formed, fold}
 use Rattle.syntax.specs.Marks.{insideOf}
 use Rattle.syntax.specs.declared.Marks.{Marks}
 use Rattle.syntax.specs.declared.Place.{Place}
@@ -18,8 +19,6 @@ use Rattle.next_record.specs.declared.fold.Fold.{Fold}
 use Rattle.next_record.specs.declared.fold.Fold.the-variants as L
 use Rattle.next_record.specs.declared.fold.HeadAt.{HeadAt}
 use Rattle.next_record.specs.declared.fold.HeadAt.the-variants as H
-use Rattle.next_record.specs.declared.fold.OperatorAt.{OperatorAt}
-use Rattle.next_record.specs.declared.fold.OperatorAt.the-variants as O
 
 -- ## What instructions do
 
@@ -32,13 +31,22 @@ noneDo = record { uses = false; names = false }
 unfoldable pub bothDo : Does → Does → Does
 bothDo a b = record { uses = a .uses || b .uses; names = a .names || b .names }
 
--- by the sort of the operands and the byte after the opcode
-unfoldable pub plainDoes : Operands → ℕ → Does
-plainDoes w b = record { uses = false; names = sortNames w b }
+-- by what stands after an opcode, and the byte there
+abbrev pub formDoes : Option Form → ℕ → Does
+formDoes none b = noneDo
+formDoes (some opening) b = noneDo
+formDoes (some elsing) b = noneDo
+formDoes (some ending) b = noneDo
+formDoes (some calling) b = record { uses = true; names = false }
+formDoes (some (operands w)) b = record { uses = false; names = sortNames w b }
 
-abbrev pub operatorDoes : Step (Instr Identifier) → OperatorAt
-operatorDoes (got x next) = O.Past (doesOf x) next
-operatorDoes (fault n) = O.Fault n
+abbrev pub byteDoes : Bytes → Step ℕ → Does
+byteDoes s (got b a) = formDoes (formOf b) (getD s a 0)
+byteDoes s (fault n) = noneDo
+
+-- an operator, by its opcode and the byte after it
+unfoldable pub doesAt : Bytes → ℕ → Does
+doesAt s at = byteDoes s (byte s at)
 
 -- what stands after F0
 abbrev pub headOf : Step (Rec Identifier) → HeadAt

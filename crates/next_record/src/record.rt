@@ -4,6 +4,7 @@ use syntax::ByteAt;
 use syntax::Field;
 use syntax::FieldAt;
 use syntax::Form;
+use syntax::Operands;
 use syntax::Own;
 use syntax::Place;
 use syntax::Seen;
@@ -15,7 +16,9 @@ ghost use Rattle.definition.specs.Basic.{if_then_else_};
 ghost use Rattle.definition.specs.Read as Read;
 ghost use Rattle.syntax.specs.Items.{roomOf};
 ghost use Rattle.syntax.specs.Marks.{noMarks};
+ghost use Rattle.syntax.specs.Plain.{operandsIs};
 ghost use Rattle.next_record.specs.Marks.{markOf};
+ghost use Rattle.next_record.specs.Uses.{sortNames};
 ghost use Rattle.next_record.specs.Places.{bodyOf, recordPast, fieldRecordAt};
 ghost use Rattle.next_record.specs.Answers.{outsideAnswer, insideAnswer, onPast, refusedHere, fieldDepth};
 ghost use Rattle.next_record.specs.Folds.{turnAt};
@@ -119,6 +122,27 @@ pub fn byte_or_zero(s: &[u8], at: usize) -> u8
         return s[at];
     }
     0
+}
+
+// Does an instruction with operands name a data segment? After FC, memory.init and data.drop do.
+pub fn names_data(s: &[u8], at: usize, what: Operands) -> bool
+    ensures { λ r. ⌜ r ≡ sortNames (operandsIs what) (getD (now (s .entry)) at 0) ⌝ }
+{
+    match what {
+        Operands::Bulk => {
+            let b = byte_or_zero(s, at);
+            if b == 0x08 {
+                return true;
+            }
+            if b == 0x09 {
+                return true;
+            }
+            return false;
+        }
+        _ => {
+            return false;
+        }
+    }
 }
 
 // The refusal of a record that is one too many: 7, and 4 where no record may begin so.

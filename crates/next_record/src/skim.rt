@@ -7,7 +7,7 @@ use crate::marks::may_else;
 use crate::record::Does;
 use crate::record::Inside;
 use crate::record::InsideAt;
-use crate::record::byte_or_zero;
+use crate::record::names_data;
 use crate::record::on;
 use crate::record::refused;
 use syntax::Form;
@@ -104,25 +104,14 @@ fn indirect(s: &[u8], p: Place, at: usize) -> InsideAt
     }
 }
 
-// An instruction with operands: after FC, memory.init and data.drop name a data segment.
+// An instruction with operands.
 fn plain_inside(s: &[u8], at: usize, what: Operands) -> Inside
     ensures { λ r. ⌜ r ≡ plainInside (operandsIs what) (getD (now (s .entry)) at 0) ⌝ }
 {
-    match what {
-        Operands::Bulk => {
-            let b = byte_or_zero(s, at);
-            if b == 0x08 {
-                return Inside::Data;
-            }
-            if b == 0x09 {
-                return Inside::Data;
-            }
-            return Inside::On(false);
-        }
-        _ => {
-            return Inside::On(false);
-        }
+    if names_data(s, at, what) {
+        return Inside::Data;
     }
+    Inside::On(false)
 }
 
 // A byte that is no opcode: with F0 a folded record begins.

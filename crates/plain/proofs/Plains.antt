@@ -30,7 +30,9 @@ use Rattle.binary.specs.Emits.{Emits}
 use Rattle.binary.specs.declared.Emitted.{Emitted}
 use Rattle.binary.specs.declared.Emitted.the-variants as E
 use Rattle.binary.proofs.Emitting.{wrote}
-use Rattle.plain.specs.Turns.{InBody, past, turnOf, plainRecord, operandTo, indexed, Turned}
+use Rattle.plain.specs.Turns.{InBody, past, turnOf, plainRecord, operandTo, indexed, IsIndex, StandsAfter, Turned}
+use Rattle.plain.specs.declared.record.After.{After}
+use Rattle.plain.specs.declared.record.After.the-variants as A
 use Rattle.plain.specs.declared.record.Target.{Target}
 use Rattle.plain.specs.declared.record.Target.the-variants as G
 use Rattle.plain.specs.declared.turn.Turn.{Turn}
@@ -92,21 +94,8 @@ module _ (s w : List ℕ) (l : Locals) (k rec op here : ℕ) (v : Operands) (old
   abbrev Indexed : Target → Type 0
   Indexed to = Turned s w (localsIn s w l) k rec (plainRecord (indexed op (operandTo to) s here)) old at r w new
 
-  pub is-label : v ≡ W.LabelIdx → Indexed G.Label → Plainly
-  unfolding Instructions.plainOf indexed
-  is-label d e = rw d e
-
-  pub is-local : v ≡ W.LocalIdx → Indexed G.Local → Plainly
-  unfolding Instructions.plainOf indexed
-  is-local d e = rw d e
-
-  pub is-func : v ≡ W.FuncIdx → Indexed (G.Item S.Funcs) → Plainly
-  unfolding Instructions.plainOf indexed
-  is-func d e = rw d e
-
-  pub is-global : v ≡ W.GlobalIdx → Indexed (G.Item S.Globals) → Plainly
-  unfolding Instructions.plainOf indexed
-  is-global d e = rw d e
+  pub is-index : (to : Target) → IsIndex v to → Indexed to → Plainly
+  is-index to u e = rw (u .is op) e
 
 -- nothing stands after the opcode
 pub is-bare : (s w : List ℕ) (l : Locals) (p : Place) (op : ℕ) (v : Operands) (old : List ℕ) (at o : ℕ) (r : Turn) (new : List ℕ) → v ≡ W.Bare → InBody p → Put old at (op ∷ []) o new
@@ -118,25 +107,48 @@ is-bare s w l p op v old at o r new d f e t =
     (plain-got s w (localsIn s w l) p (Instructions.plainOf op Instructions.bare s (p .at)) old at (record { opcode = op; operand = Syntax.nothing }) (p .at) (E.To o) r new refl f
     (wrote instruction (plainOp (scopeIn s w) (localsIn s w l) (labelsIn s w (p .depth - 1)) (p .rec) (record { opcode = op; operand = Syntax.nothing })) old at new (record { opcode = op; imm = Syntax.noImm }) o e refl) t)
 
-pub ruleset kinds = (is-bare, is-label, is-local, is-func, is-global)
+pub ruleset kinds = (is-bare, is-index)
+
+-- ## What stands after an opcode
+
+module _ (v : Operands) where
+  pub after-label : v ≡ W.LabelIdx → StandsAfter v (A.Index G.Label)
+  unfolding StandsAfter Instructions.plainOf indexed
+  after-label d = record { is = λ op. rw d refl }
+
+  pub after-local : v ≡ W.LocalIdx → StandsAfter v (A.Index G.Local)
+  unfolding StandsAfter Instructions.plainOf indexed
+  after-local d = record { is = λ op. rw d refl }
+
+  pub after-func : v ≡ W.FuncIdx → StandsAfter v (A.Index (G.Item S.Funcs))
+  unfolding StandsAfter Instructions.plainOf indexed
+  after-func d = record { is = λ op. rw d refl }
+
+  pub after-global : v ≡ W.GlobalIdx → StandsAfter v (A.Index (G.Item S.Globals))
+  unfolding StandsAfter Instructions.plainOf indexed
+  after-global d = record { is = λ op. rw d refl }
+
+  pub after-bare : v ≡ W.Bare → StandsAfter v A.Nothing
+  unfolding StandsAfter
+  after-bare d = d
+
+  pub after-other : StandsAfter v A.Other
+  unfolding StandsAfter
+  after-other = tt
+
+  -- what was told
+  module _ (a : After) (told : StandsAfter v a) where
+    pub told-index : (to : Target) → a ≡ A.Index to → IsIndex v to
+    unfolding StandsAfter
+    told-index to d = rw d at told
+
+    pub told-bare : a ≡ A.Nothing → v ≡ W.Bare
+    unfolding StandsAfter
+    told-bare d = rw d at told
 
 -- the index after an opcode can be read where the whole can
-module _ (s : List ℕ) (op here : ℕ) (v : Operands) (g : Gets (Instructions.plainOf op (operandsIs v) s here)) where
-  known : (x : Instructions.Operands) → operandsIs v ≡ x → Gets (Instructions.plainOf op x s here)
-  known x d = rw d at g
+pub index-known : (s : List ℕ) (op here : ℕ) (v : Operands) → Gets (Instructions.plainOf op (operandsIs v) s here) → (a : After) → StandsAfter v a → (to : Target) → a ≡ A.Index to → Gets (Token.present s here)
+unfolding indexed
+index-known s op here v g a told to d = gets-first _ (Token.present s here) (rw (told-index v a told to d .is op) at g)
 
-  pub label-known : v ≡ W.LabelIdx → Gets (Token.present s here)
-  unfolding Instructions.plainOf
-  label-known d = gets-first _ (Token.present s here) (known Instructions.labelidx (ap operandsIs d))
-
-  pub local-known : v ≡ W.LocalIdx → Gets (Token.present s here)
-  unfolding Instructions.plainOf
-  local-known d = gets-first _ (Token.present s here) (known Instructions.localidx (ap operandsIs d))
-
-  pub func-known : v ≡ W.FuncIdx → Gets (Token.present s here)
-  unfolding Instructions.plainOf
-  func-known d = gets-first _ (Token.present s here) (known Instructions.funcidx (ap operandsIs d))
-
-  pub global-known : v ≡ W.GlobalIdx → Gets (Token.present s here)
-  unfolding Instructions.plainOf
-  global-known d = gets-first _ (Token.present s here) (known Instructions.globalidx (ap operandsIs d))
+pub ruleset afters = (after-label, after-local, after-func, after-global, after-bare, after-other)

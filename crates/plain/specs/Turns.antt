@@ -7,12 +7,15 @@ use Rattle.definition.specs.Syntax as Syntax
 use Rattle.definition.specs.Syntax.{Identifier, Op, Rec, instr, plain}
 use Rattle.definition.specs.Reader.{Step, got, fault, Reader, onward, _>>=_}
 use Rattle.definition.specs.Token as Token
-use Rattle.definition.specs.Instructions.{done}
+use Rattle.definition.specs.Instructions.{done, plainOf}
 use Rattle.laws.specs.Depths.{depthAfter}
 use Rattle.definition.specs.Types.{Uses, usedAt, instrUses}
 use Rattle.definition.specs.Names.{Namespace, blocksAfter, instrOp}
 use Rattle.definition.specs.Binary.{instruction}
 use Rattle.syntax.specs.Tokens.{spaceOf}
+use Rattle.syntax.specs.Plain.{operandsIs}
+use Rattle.syntax.specs.declared.Operands.{Operands}
+use Rattle.syntax.specs.declared.Operands.the-variants as W
 use Rattle.syntax.specs.Refusals.{refusedBy}
 use Rattle.syntax.specs.declared.Place.{Place}
 use Rattle.syntax.specs.declared.Refusal.{Refusal}
@@ -22,6 +25,8 @@ use Rattle.area.specs.Kept.{Kept}
 use Rattle.scope.specs.Scope.{scopeIn, labelsIn}
 use Rattle.binary.specs.declared.Emitted.{Emitted}
 use Rattle.binary.specs.declared.Emitted.the-variants as E
+use Rattle.plain.specs.declared.record.After.{After}
+use Rattle.plain.specs.declared.record.After.the-variants as A
 use Rattle.plain.specs.declared.record.Target.{Target}
 use Rattle.plain.specs.declared.record.Target.the-variants as G
 use Rattle.plain.specs.declared.turn.Turn.{Turn}
@@ -62,6 +67,16 @@ operandTo (G.Item j) = Syntax.item (spaceOf j)
 -- an instruction that has one
 unfoldable pub indexed : ℕ → (Syntax.Index Identifier → Syntax.Operand Identifier) → Reader (Syntax.Plain Identifier)
 indexed op f = Token.present >>= λ x. done op (f x)
+
+-- the operands of an opcode are one index
+pub record IsIndex (w : Operands) (to : Target) : Type 0 where
+  pub is : (op : ℕ) → plainOf op (operandsIs w) ≡ indexed op (operandTo to)
+
+-- what stands after an opcode
+unfoldable pub StandsAfter : Operands → After → Type 0
+StandsAfter w (A.Index to) = IsIndex w to
+StandsAfter w A.Nothing = w ≡ W.Bare
+StandsAfter w A.Other = Unit {0}
 
 -- the type that it uses
 abbrev pub readUses : ℕ → Step (Syntax.Instr Identifier) → Uses

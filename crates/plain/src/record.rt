@@ -21,13 +21,45 @@ ghost use Rattle.token.specs.Known.{Gets};
 ghost use Rattle.syntax.specs.Plain.{operandsIs};
 ghost use Rattle.scope.specs.Scope.{scopeIn, localsIn, FewLocals, labelsIn};
 ghost use Rattle.binary.specs.Emits.{Emits};
-ghost use Rattle.plain.specs.Turns.{InBody, plainRecord, operandTo, indexed, Turned};
+ghost use Rattle.plain.specs.Turns.{InBody, plainRecord, operandTo, indexed, StandsAfter, Turned};
 
 // What an index refers to.
 pub enum Target {
     Label,
     Local,
     Item(Space),
+}
+
+// What stands after an opcode: one index, nothing, or something else.
+pub enum After {
+    Index(Target),
+    Nothing,
+    Other,
+}
+
+fn after_opcode(what: Operands) -> After
+    ensures { λ r. ⌜ StandsAfter what r ⌝ }
+{
+    match what {
+        Operands::Bare => {
+            return After::Nothing;
+        }
+        Operands::LabelIdx => {
+            return After::Index(Target::Label);
+        }
+        Operands::LocalIdx => {
+            return After::Index(Target::Local);
+        }
+        Operands::FuncIdx => {
+            return After::Index(Target::Item(Space::Funcs));
+        }
+        Operands::GlobalIdx => {
+            return After::Index(Target::Item(Space::Globals));
+        }
+        _ => {
+            return After::Other;
+        }
+    }
 }
 
 fn emit_index(
@@ -109,19 +141,16 @@ pub fn plain_record(
     requires { ⌜ (WORDS ≤ length (now work)) × FewLocals l × InBody p × Gets (Instructions.plainOf opcode (operandsIs what) (now s) (p .at)) ⌝ }
     ensures { λ r. ⌜ Turned (now (s .entry)) (now (work .entry)) (localsIn (now (s .entry)) (now (work .entry)) l) (p .depth - 1) (p .rec) (plainRecord (Instructions.plainOf opcode (operandsIs what) (now (s .entry)) (p .at))) (now (out .entry)) at r (now (work .entry)) (now (out .exit)) ⌝ }
 {
-    match what {
-        Operands::Bare => {
+    match after_opcode(what) {
+        After::Index(to) => {
+            return index_record(s, work, out, at, p, l, opcode, to);
+        }
+        After::Nothing => {
             let o = emit::put(out, at, opcode);
-            crate::turn::go_on(Emitted::To(o), p, p.at, p.depth)
+            return crate::turn::go_on(Emitted::To(o), p, p.at, p.depth);
         }
-        Operands::LabelIdx => { index_record(s, work, out, at, p, l, opcode, Target::Label) }
-        Operands::LocalIdx => { index_record(s, work, out, at, p, l, opcode, Target::Local) }
-        Operands::FuncIdx => {
-            index_record(s, work, out, at, p, l, opcode, Target::Item(Space::Funcs))
+        After::Other => {
+            return other_record(s, work, out, at, p, l, opcode, what);
         }
-        Operands::GlobalIdx => {
-            index_record(s, work, out, at, p, l, opcode, Target::Item(Space::Globals))
-        }
-        _ => other_record(s, work, out, at, p, l, opcode, what),
     }
 }

@@ -1,14 +1,17 @@
 -- What the record of a function, or of its import, tells when it is known to be readable.
 use mathlib.Core.Path.{_≡_, refl, ap, _∙_}
-use mathlib.Core.Bool.{true}
-use mathlib.Core.List.{List}
+use mathlib.Core.Bool.{Bool, true, false}
+use mathlib.Core.List.{List, []}
 use mathlib.Core.Option.{Option}
 use Prim.Native.Nat.{ℕ}
+use lib.Dec.{eqb}
+use borrow.Author.Tests.{ne-eqb, eqb-true}
 use native.Mathlib.Omega.{arith}
-use Rattle.definition.specs.Syntax.{Bytes, Identifier, Local, FieldRec, ImportName, func, funcs, importR, itemR, own, ownFunc}
+use Rattle.definition.specs.Basic.{if_then_else_}
+use Rattle.definition.specs.Syntax.{Bytes, Identifier, Local, FieldRec, ImportName, func, funcs, importR, itemR, imported, own, ownFunc}
 use Rattle.definition.specs.Reader.{Step, got, fault, onward, byte, choose}
 use Rattle.definition.specs.Token.{identifier, string, counted, param, typeUse}
-use Rattle.definition.specs.Records.{Room, importName, funcExtern, importOf, importRec, ownFuncForm, itemRec, funcRec, fieldRecs, fieldRec}
+use Rattle.definition.specs.Records.{Room, importName, funcExtern, importOf, importRec, importForm, ownFuncForm, itemRec, funcRec, fieldRecs, fieldRec}
 use Rattle.token.specs.Known.{Gets}
 use Rattle.syntax.specs.Tokens.{byteAt, partAt, idOf, idAt}
 use Rattle.syntax.specs.declared.ByteAt.{ByteAt}
@@ -29,11 +32,11 @@ use Rattle.sources.specs.Readers.{funcForms}
 use Rattle.syntax.specs.declared.ImportName as Import
 use Rattle.syntax.specs.declared.NameAt.{NameAt}
 use Rattle.syntax.specs.declared.NameAt.the-variants as NA
-use Rattle.reread.specs.Known.{ReadableField}
+use Rattle.reread.specs.Known.{importedItem, ReadableField}
 use Rattle.syntax.specs.Fields.{fieldAt}
 use Rattle.item_records.specs.Readers.{ownItem, importedFunc}
 use Rattle.syntax.specs.declared.FieldAt.{FieldAt}
-use Rattle.reread.proofs.Gives.{func-record, func-form}
+use Rattle.reread.proofs.Gives.{other-record, other-import}
 use Rattle.reread.proofs.Heads.{other-field}
 
 -- ## The form: a type use, and the locals
@@ -98,14 +101,51 @@ module _ (room : Room) (s : Bytes) (at : ℕ) (g : Gets (funcRec room s at)) whe
         unfolding funcRec itemRec ownItem
         func-is z x p = rw (func-room, e, d, f, c, h, j, z) p
 
-        -- another form is none
-        pub func-other : (form ≡ 0 → ⊥) → (y : FieldAt) → itemRec room funcs funcForms s at ≡ fieldAt s y → ReadableField s y
-        unfolding itemRec
-        func-other z y p =
-            other-field s y (itemRec room funcs funcForms s at) p (λ i′ es′ t′ ls q′ k.
-            z (func-form room s i′ es′ t′ ls n form q′ (idOf s i) (listOf string s es) (rw (func-room, e, d, f, c, h, j) at k)))
+        -- no other but form 1 can be read: an imported function
+        module _ (z : form ≡ 0 → ⊥) where
+          form-one : form ≡ 1
+          form-one = go (eqb form 1) refl (rw (ne-eqb form 0 z) at (gets-rest _ (byte s b) formed form n (h ∙ ap byteAt j)))
+            where
+              go : (u : Bool) → eqb form 1 ≡ u
+                  → Gets (onward (λ x m. got (itemR (idOf s i) (listOf string s es) x) m) ((if u then importForm funcExtern else choose form []) s n)) → form ≡ 1
+              go true e g = eqb-true form 1 e
+              go false e g = absurd (let d = g .is in let z : _≡_ {A = ℕ} 0 1 = cc in omega arith)
 
-pub ruleset known-funcs = (func-id, func-exports, func-own, func-is)
+          pub func-imported : Gets (importForm funcExtern s n)
+          func-imported = gets-first _ (importForm funcExtern s n) (rw form-one at (gets-rest _ (byte s b) formed form n (h ∙ ap byteAt j)))
+
+          pub func-other : (x : Step (FieldRec Identifier)) → importedItem (idOf s i) (listOf string s es) s n ≡ x → funcRec room s at ≡ x
+          unfolding funcRec itemRec importedItem
+          func-other x p = rw (func-room, e, d, f, c, h, j, form-one) p
+
+pub ruleset known-funcs = (func-id, func-exports, func-own, func-is, func-imported, func-other)
+
+-- ## One that is imported where it stands: two strings, a type use
+
+module _ (s : Bytes) (at : ℕ) (g : Gets (importForm funcExtern s at)) where
+  pub inline-name : Gets (importName s at)
+  unfolding importForm
+  inline-name = gets-first _ (importName s at) g
+
+  pub inline-use : (r : NameAt) (m : Import.ImportName) (a : ℕ) → importName s at ≡ nameAt s r → r ≡ NA.Got m a → Gets (typeUse s a)
+  unfolding importForm funcExtern
+  inline-use r m a e d = gets-first _ (typeUse s a) (gets-first _ (funcExtern s a) (gets-rest _ (importName s at) g _ a (e ∙ ap (nameAt s) d)))
+
+module _ (i : Option Identifier) (es : List Bytes) (s : Bytes) (at : ℕ) (r : NameAt) (e : importName s at ≡ nameAt s r) where
+  module _ (m : Import.ImportName) (a : ℕ) (d : r ≡ NA.Got m a) (q : UseAt) (f : typeUse s a ≡ useAt s q) where
+    pub inline-is : (t : TypeUse) (b : ℕ) (x : Step (FieldRec Identifier)) → q ≡ UA.Got t b → got (itemR i es (imported (nameOf s m) (func (useOf s t)))) b ≡ x → importedItem i es s at ≡ x
+    unfolding importedItem importForm funcExtern
+    inline-is t b x c p = rw (e, d, f, c) p
+
+    pub inline-not : (k : ℕ) → q ≡ UA.Fault k → importedItem i es s at ≡ fault k
+    unfolding importedItem importForm funcExtern
+    inline-not k c = rw (e, d, f, c)
+
+  pub inline-unnamed : (k : ℕ) → r ≡ NA.Fault k → importedItem i es s at ≡ fault k
+  unfolding importedItem importForm
+  inline-unnamed k d = rw (e, d)
+
+pub ruleset known-inlines = (refl, inline-name, inline-use, inline-is, inline-not, inline-unnamed)
 
 -- ## An imported function: an identifier, a type use
 
@@ -155,6 +195,12 @@ module _ (room : Room) (s : Bytes) (at : ℕ) (g : Gets (importRec room s at)) w
   import-name = gets-first _ (importName s at) g
 
   module _ (r : NameAt) (m : Import.ImportName) (a : ℕ) (e : importName s at ≡ nameAt s r) (d : r ≡ NA.Got m a) where
+    -- one that is not of kind 0 is of no function
+    pub import-other : (t : ByteAt) (kind n : ℕ) → byte s a ≡ byteAt t → t ≡ B.Got kind n → (kind ≡ 0 → ⊥) → (y : FieldAt) → importRec room s at ≡ fieldAt s y → ReadableField s y
+    unfolding importRec
+    import-other t kind n h j z y p =
+        other-field s y (importRec room s at) p (λ x q k. other-import room s x (nameOf s m) kind n q z (rw (e, d, h, j) at k))
+
     module _ (t : ByteAt) (kind n : ℕ) (h : byte s a ≡ byteAt t) (j : t ≡ B.Got kind n) (z : kind ≡ 0) where
       -- kind 0 is a function
       of-func : Gets (importOf room (nameOf s m) funcs funcExtern s n)
@@ -173,7 +219,7 @@ module _ (room : Room) (s : Bytes) (at : ℕ) (g : Gets (importRec room s at)) w
       unfolding importRec importOf importedFunc
       import-is x p = rw (e, d, h, j, z, import-room) p
 
-pub ruleset known-imports = (import-module, import-item, import-name, import-func, import-is)
+pub ruleset known-imports = (import-module, import-item, import-name, import-func, import-is, import-other)
 
 -- ## A field record: 02 is an import, 03 is a function
 
@@ -201,11 +247,8 @@ module _ (room : Room) (s : Bytes) (at : ℕ) (r : ByteAt) (b n : ℕ) (e : byte
     field-func-is z p = rw (e, d, z) p
 
   module _ (y : FieldAt) where
-    -- after another byte there is no own function
-    pub field-other : (b ≡ 0x03 → ⊥) → fieldRec room s at ≡ fieldAt s y → ReadableField s y
-    field-other h p = other-field s y (fieldRec room s at) p (λ i es t ls q k. h (func-record room s i es t ls at b n q (e ∙ ap byteAt d) k))
+    -- after another byte there is no function
+    pub field-other : (b ≡ 0x02 → ⊥) → (b ≡ 0x03 → ⊥) → fieldRec room s at ≡ fieldAt s y → ReadableField s y
+    field-other h g p = other-field s y (fieldRec room s at) p (λ f q k. other-record room s f at b n q (e ∙ ap byteAt d) h g k)
 
-    pub field-imported : b ≡ 0x02 → importRec room s n ≡ fieldAt s y → ReadableField s y
-    field-imported z p = field-other (λ h. absurd (omega arith)) (field-import-is (fieldAt s y) z p)
-
-pub ruleset known-fields = (field-import, field-func, field-import-is, field-func-is, field-other, field-imported)
+pub ruleset known-fields = (field-import, field-func, field-import-is, field-func-is, field-other)

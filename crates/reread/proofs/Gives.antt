@@ -9,9 +9,9 @@ use lib.ListN.{length}
 use borrow.Author.Tests.{eqb-true, leb-true}
 use native.Mathlib.Omega.{arith}
 use Rattle.definition.specs.Basic.{if_then_else_}
-use Rattle.definition.specs.Syntax.{Bytes, Identifier, Space, funcs, tables, mems, globals, types, elems, datas, code, TypeUse, Local, ExternType}
+use Rattle.definition.specs.Syntax.{Bytes, Identifier, Space, funcs, tables, mems, globals, types, elems, datas, code, TypeUse, Local, ExternType, ImportName}
 use Rattle.definition.specs.Syntax.{ownFunc, ownTable, ownMem, ownGlobal, Source, own, imported, tableOf, memOf, FieldRec, typeR, importR, itemR, exportR, startR, elemR, dataR}
-use Rattle.definition.specs.Reader.{got, Reader, onward, require, give, byte, many, choose, _>>=_, _>>_}
+use Rattle.definition.specs.Reader.{got, Reader, require, give, byte, many, choose, _>>=_, _>>_}
 use Rattle.definition.specs.Token.{u32, upTo, counted, identifier, string, bytes, valType, flag64, limits, tableType, globalType, present, optional, param, typeUse}
 use Rattle.definition.specs.Instructions.{constant}
 use Rattle.definition.specs.Records.{Room, Extern, Forms, importName, funcExtern, tableExtern, memExtern, globalExtern, importOf, importRec, itemRec, importForm, ownFuncForm, ownTableForm, inlineTableForm, ownMemForm, inlineMemForm, ownGlobalForm}
@@ -197,6 +197,30 @@ record Field-of (room : Room) (b : ℕ) (f : FieldRec Identifier) : Type 0 where
   roomy : RoomyField room f
   first : recordByte f ≡ b
 
+-- the byte of what an import's record imports
+abbrev kindByte : FieldRec Identifier → ℕ
+kindByte (typeR i t) = 0
+kindByte (importR n i d) = code (externSpace d)
+kindByte (itemR i es x) = 0
+kindByte (exportR n k x) = 0
+kindByte (startR x) = 0
+kindByte (elemR i m xs) = 0
+kindByte (dataR i m d) = 0
+
+record Import-of (room : Room) (b : ℕ) (f : FieldRec Identifier) : Type 0 where
+  field : Field-of room 0x02 f
+  kind : kindByte f ≡ b
+
+-- it brings no function, neither imported nor own
+abbrev pub NoFunc : FieldRec Identifier → Type 0
+NoFunc (typeR i t) = Unit {0}
+NoFunc (importR n i d) = externSpace d ≡ funcs → ⊥
+NoFunc (itemR i es x) = sourceSpace x ≡ funcs → ⊥
+NoFunc (exportR n k x) = Unit {0}
+NoFunc (startR x) = Unit {0}
+NoFunc (elemR i m xs) = Unit {0}
+NoFunc (dataR i m d) = Unit {0}
+
 module _ (room : Room) where
   item-roomy : (k : Space) (forms : Forms) → Each (Source-of room k) forms → Gives (Field-of room (0x03 + code k)) (itemRec room k forms)
   unfolding itemRec
@@ -233,26 +257,31 @@ module _ (room : Room) where
       gives-after (counted 64 valType) _ (λ ps.
       gives-after (counted 16 valType) _ (λ rs. gives-give (typeR i (record { params = ps; results = rs })) (record { roomy = free; first = refl })))))
 
-  import-of : (n : _) (k : Space) (extern : Reader Extern) → Gives (λ d. externSpace d ≡ k) extern → Gives (Field-of room 0x02) (importOf room n k extern)
+  import-of : (n : ImportName) (k : Space) (extern : Reader Extern) → Gives (λ d. externSpace d ≡ k) extern → Gives (Import-of room (code k)) (importOf room n k extern)
   unfolding importOf
   import-of n k extern g =
       gives-require 7 (room .item k) _ (λ free.
-      gives-after identifier _ (λ i. gives-then extern _ g (λ d e. gives-give (importR n i d) (record { roomy = ap (room .item) e ∙ free; first = refl }))))
+      gives-after identifier _ (λ i. gives-then extern _ g (λ d e. gives-give (importR n i d) (record { field = record { roomy = ap (room .item) e ∙ free; first = refl }; kind = ap code e }))))
 
-  import-roomy : Gives (Field-of room 0x02) (importRec room)
-  unfolding importRec
-  import-roomy =
-      gives-after importName _ (λ n.
-      gives-after byte _ (λ b.
-      gives-choose (λ _. Field-of room 0x02) b
-      ((0, importOf room n funcs funcExtern)
+  -- what the byte of its kind chooses
+  abbrev pub imports : ImportName → List (ℕ × Reader (FieldRec Identifier))
+  imports n =
+      (0, importOf room n funcs funcExtern)
       ∷ (1, importOf room n tables tableExtern)
       ∷ (2, importOf room n mems memExtern)
       ∷ (3, importOf room n globals globalExtern)
-      ∷ []) (
+      ∷ []
+
+  import-by : (n : ImportName) (b : ℕ) → Gives (Import-of room b) (choose b (imports n))
+  import-by n b =
+      gives-choose (Import-of room) b (imports n) (
         import-of n funcs funcExtern extern-func,
         (import-of n tables tableExtern extern-table, (import-of n mems memExtern extern-mem, (import-of n globals globalExtern extern-global, tt))),
-      )))
+      )
+
+  import-roomy : Gives (Field-of room 0x02) (importRec room)
+  unfolding importRec
+  import-roomy = gives-after importName _ (λ n. gives-after byte _ (λ b. record { all = λ s at f q e. import-by n b .all s at f q e .field }))
 
   export-roomy : Gives (Field-of room 0x07) exportRec
   unfolding exportRec
@@ -290,20 +319,32 @@ module _ (room : Room) where
       → fieldRec room s at ≡ got (itemR i es (own (ownFunc t ls))) next → (length (t .params) ≤ 64) × (length ls ≤ 64)
   func-few s at next i es t ls e = roomy s at _ next e .few
 
-  -- ## The bytes of an own function
+  -- ## The bytes of functions
 
-  module _ (s : Bytes) (i : Option Identifier) (es : List Bytes) (t : TypeUse Identifier) (ls : List (Local Identifier)) where
-    -- its record begins with 03
-    pub func-record : (at b n q : ℕ) → byte s at ≡ got b n → fieldRec room s at ≡ got (itemR i es (own (ownFunc t ls))) q → b ≡ 0x03
-    unfolding fieldRec sourceSpace ownSpace
-    func-record at b n q d e = sym (field-of b .all s n (itemR i es (own (ownFunc t ls))) q (rw d at e) .first)
+  module _ (s : Bytes) (f : FieldRec Identifier) where
+    -- the record of an import begins with 02, and that of a function with 03
+    pub other-record : (at b n q : ℕ) → byte s at ≡ got b n → (b ≡ 0x02 → ⊥) → (b ≡ 0x03 → ⊥) → fieldRec room s at ≡ got f q → NoFunc f
+    unfolding fieldRec
+    other-record at b n q d h g e = go f (field-of b .all s n f q (rw d at e) .first)
+      where
+        go : (f : FieldRec Identifier) → recordByte f ≡ b → NoFunc f
+        go (typeR i t) e = tt
+        go (importR n i d) e = λ z. h (sym e)
+        go (itemR i es x) e = λ z. g (sym e ∙ ap (λ k. 0x03 + code k) z)
+        go (exportR n k x) e = tt
+        go (startR x) e = tt
+        go (elemR i m xs) e = tt
+        go (dataR i m d) e = tt
 
-    -- and its form is 0
-    pub func-form : (at b q : ℕ) (j : Option Identifier) (xs : List Bytes)
-        → onward (λ x m. got (itemR j xs x) m) (choose b ((0, ownFuncForm) ∷ (1, importForm funcExtern) ∷ []) s at) ≡ got (itemR i es (own (ownFunc t ls))) q → b ≡ 0
-    func-form at b q j xs e =
-        let c = came (choose b ((0, ownFuncForm) ∷ (1, importForm funcExtern) ∷ []) s at) e in
-        let o = gives-choose (Source-of room funcs) b ((0, ownFuncForm) ∷ (1, importForm funcExtern) ∷ []) (own-func room, (import-form room funcs funcExtern extern-func, tt)) .all s at (c .value) (c .next) (c .first) in
-        let z : _≡_ {A = FieldRec Identifier} (itemR j xs (c .value)) (itemR i es (own (ownFunc t ls))) = cc (c .rest) in
-        let y : c .value ≡ own (ownFunc t ls) = cc z in
-        sym (o .form) ∙ ap formByte y
+    -- an imported function is of kind 0
+    pub other-import : (n : ImportName) (b at q : ℕ) → (b ≡ 0 → ⊥) → choose b (imports n) s at ≡ got f q → NoFunc f
+    other-import n b at q h e = let o = import-by n b .all s at f q e in go f (o .kind) (o .field .first)
+      where
+        go : (f : FieldRec Identifier) → kindByte f ≡ b → recordByte f ≡ 0x02 → NoFunc f
+        go (typeR i t) k r = tt
+        go (importR n i d) k r = λ z. h (sym k ∙ ap code z)
+        go (itemR i es x) k r = absurd (omega arith)
+        go (exportR n k x) j r = tt
+        go (startR x) k r = tt
+        go (elemR i m xs) k r = tt
+        go (dataR i m d) k r = tt

@@ -1,10 +1,9 @@
-// Field records that are known to be readable: of an own function's head and of a function's import only the lengths are looked at.
+// Field records that are known to be readable: of an own function's head and of an imported function only the lengths are looked at.
 use syntax::ByteAt;
 use syntax::Extern;
 use syntax::Field;
 use syntax::FieldAt;
 use syntax::ImportName;
-use syntax::Kind;
 use syntax::List;
 use syntax::ListAt;
 use syntax::NameAt;
@@ -21,7 +20,7 @@ ghost use Rattle.token.specs.Known.{Gets};
 ghost use Rattle.syntax.specs.Tokens.{idOf};
 ghost use Rattle.syntax.specs.TypeUses.{listOf};
 ghost use Rattle.syntax.specs.Items.{roomOf, nameOf, nameAt};
-ghost use Rattle.reread.specs.Known.{ReadableField};
+ghost use Rattle.reread.specs.Known.{importedItem, ReadableField};
 ghost use Rattle.syntax.specs.Fields.{fieldAt};
 ghost use Rattle.item_records.specs.Readers.{ownItem, importedFunc};
 
@@ -46,7 +45,28 @@ fn known_own(s: &[u8], at: usize, id: Part, exports: List) -> FieldAt
     }
 }
 
-// A function; one that is imported is read as always.
+// What follows the form byte of a function that is imported where it stands.
+fn known_imported(s: &[u8], at: usize, id: Part, exports: List) -> FieldAt
+    requires { ⌜ Gets (Records.importForm Records.funcExtern (now s) at) ⌝ }
+    ensures { λ r. ⌜ (importedItem (idOf (now (s .entry)) id) (listOf Token.string (now (s .entry)) exports) (now (s .entry)) at ≡ fieldAt (now (s .entry)) r) × ReadableField (now (s .entry)) r ⌝ }
+{
+    match known_import_name(s, at) {
+        NameAt::Got(name, a) => match typeuse::known_type_use(s, a) {
+            UseAt::Got(t, b) => FieldAt::Got(
+                Field::Item {
+                    id,
+                    exports,
+                    source: Source::Imported(name, Extern::Func(t)),
+                },
+                b,
+            ),
+            UseAt::Fault(e) => FieldAt::Fault(e),
+        },
+        NameAt::Fault(e) => FieldAt::Fault(e),
+    }
+}
+
+// A function: form 0 is the module's own, and no other form but 1 can be read.
 fn known_func(s: &[u8], at: usize, seen: Seen) -> FieldAt
     requires { ⌜ Gets (Records.funcRec (roomOf seen) (now s) at) ⌝ }
     ensures { λ r. ⌜ (Records.funcRec (roomOf seen) (now (s .entry)) at ≡ fieldAt (now (s .entry)) r) × ReadableField (now (s .entry)) r ⌝ }
@@ -58,7 +78,7 @@ fn known_func(s: &[u8], at: usize, seen: Seen) -> FieldAt
                     if form == 0 {
                         return known_own(s, c, id, exports);
                     }
-                    item_records::item::read_item(s, at, seen, Kind::Func)
+                    known_imported(s, c, id, exports)
                 }
                 ByteAt::Fault(e) => FieldAt::Fault(e),
             },
@@ -71,7 +91,7 @@ fn known_func(s: &[u8], at: usize, seen: Seen) -> FieldAt
 // What follows the kind byte of an imported function.
 fn known_extern_func(s: &[u8], at: usize, name: ImportName) -> FieldAt
     requires { ⌜ Gets (importedFunc (nameOf (now s) name) (now s) at) ⌝ }
-    ensures { λ r. ⌜ importedFunc (nameOf (now (s .entry)) name) (now (s .entry)) at ≡ fieldAt (now (s .entry)) r ⌝ }
+    ensures { λ r. ⌜ (importedFunc (nameOf (now (s .entry)) name) (now (s .entry)) at ≡ fieldAt (now (s .entry)) r) × ReadableField (now (s .entry)) r ⌝ }
 {
     match token::known_identifier(s, at) {
         PartAt::Got(id, a) => match typeuse::known_type_use(s, a) {
@@ -106,7 +126,7 @@ fn known_import_name(s: &[u8], at: usize) -> NameAt
 // An import; one that is not of a function is read as always.
 fn known_import(s: &[u8], at: usize, seen: Seen) -> FieldAt
     requires { ⌜ Gets (Records.importRec (roomOf seen) (now s) at) ⌝ }
-    ensures { λ r. ⌜ Records.importRec (roomOf seen) (now (s .entry)) at ≡ fieldAt (now (s .entry)) r ⌝ }
+    ensures { λ r. ⌜ (Records.importRec (roomOf seen) (now (s .entry)) at ≡ fieldAt (now (s .entry)) r) × ReadableField (now (s .entry)) r ⌝ }
 {
     match known_import_name(s, at) {
         NameAt::Got(name, a) => match token::read_byte(s, a) {

@@ -1,5 +1,6 @@
 // An own function: its type is resolved once, for its entry in the function section and for its code.
 use binary::Emitted;
+use deinline::section;
 use kept::Verdict;
 use scope::TypeAt;
 use syntax::List;
@@ -47,11 +48,11 @@ fn keep_type_no(kept: &mut [u8], sizes: &mut [u64], counts: &mut [u64], n: TypeN
     requires { ⌜ Slots (tallyOf (now sizes) (now counts)) ⌝ }
     ensures { λ r. ⌜ Tallied (typeEntry (typeNoOf n)) (tallyOf (now (sizes .entry)) (now (counts .entry))) (now (kept .entry)) (tallyOf (now (sizes .exit)) (now (counts .exit))) (now (kept .exit)) ⌝ }
 {
-    let from = sizes[3] as usize;
-    let a = kept::start_of(kept.len(), 3);
-    let b = kept::start_of(kept.len(), 4);
+    let from = sizes[section::FUNC as usize] as usize;
+    let a = kept::start_of(kept.len(), section::FUNC);
+    let b = kept::start_of(kept.len(), section::TABLE);
     let to = binary::put_type_no(&mut kept[a..b], from, n);
-    kept::reach_in(sizes, counts, 3, to, 1);
+    kept::reach_in(sizes, counts, section::FUNC, to, 1);
 }
 
 // Its code, in the code section's part, after the bytes that are there; the number of its type is known.
@@ -66,8 +67,8 @@ fn keep_code(
     requires { ⌜ At (now s) (now work) (f .rec) × Ready (now s) (now work) (f .rec) (E.Code (f .ty) (f .locals) (f .body)) ⌝ }
     ensures { λ r. ⌜ KeepsCode (now (s .entry)) (now (work .entry)) (f .rec) (typeNoOf n) (f .ty) (f .locals) (f .body) (now (kept .entry)) from r (now (work .exit)) (now (kept .exit)) ⌝ }
 {
-    let a = kept::start_of(kept.len(), 10);
-    let b = kept::start_of(kept.len(), 11);
+    let a = kept::start_of(kept.len(), section::CODE);
+    let b = kept::start_of(kept.len(), section::DATA);
     let ty = f.ty;
     let locals = f.locals;
     function::emit_typed(s, work, &mut kept[a..b], from, n, ty, locals, f.body, f.rec)
@@ -86,10 +87,10 @@ fn check_code(
     requires { ⌜ At (now s) (now work) (f .rec) × Ready (now s) (now work) (f .rec) (E.Code (f .ty) (f .locals) (f .body)) × Slots (tallyOf (now sizes) (now counts)) ⌝ }
     ensures { λ r. ⌜ ChecksIn (codeEntry (now (s .entry)) (now (work .entry)) (f .rec) (typeNoOf n) (f .ty) (f .locals) (f .body)) (tallyOf (now (sizes .entry)) (now (counts .entry))) (now (work .entry)) (now (kept .entry)) (checkedOf (now (sizes .exit)) (now (counts .exit)) r) (now (work .exit)) (now (kept .exit)) ⌝ }
 {
-    let from = sizes[10] as usize;
+    let from = sizes[section::CODE as usize] as usize;
     match keep_code(s, work, kept, from, n, f) {
         Emitted::To(to) => {
-            kept::reach_in(sizes, counts, 10, to, 1);
+            kept::reach_in(sizes, counts, section::CODE, to, 1);
             Verdict::Fine
         }
         Emitted::Refused(q) => Verdict::Refused(q),

@@ -23,13 +23,13 @@ use Rattle.syntax.specs.declared.Field.{Field}
 use Rattle.area.specs.Kept.{Kept}
 use Rattle.area.proofs.Kept.{kept-same, kept-set, kept-then, kept-less, kept-word}
 use Rattle.type_table.specs.Table.{typeTable, typesIn, Indexed}
-use Rattle.type_table.proofs.Chains.{index-kept}
+use Rattle.type_table.proofs.Indexed.{index-kept}
 use Rattle.type_table.proofs.Types.{table-kept}
-use Rattle.walk.specs.Walk.{bodyIn, begin, visitIn, visitOf, fieldsAhead, fieldsIn, Ahead}
+use Rattle.walk.specs.Walk.{bodyIn, wholeField, begin, visitIn, visitOf, fieldsAhead, fieldsIn, Ahead}
 use Rattle.walk.specs.declared.Cursor.{Cursor}
 use Rattle.walk.specs.declared.Met.{Met}
 use Rattle.walk.specs.declared.What.the-variants as W
-use Rattle.walk.proofs.Steps.{visit-ahead, ahead-kept}
+use Rattle.walk.proofs.Steps.{visit-ahead, visit-whole, ahead-kept}
 use Rattle.import_order.specs.Order.{standing, isLate, lateAfter}
 use Rattle.import_order.specs.declared.Standing.{Standing}
 use Rattle.survey.proofs.Ordering.{Ordering, ordering-begin, ordering-done, ordering-late, ordering-again}
@@ -154,6 +154,9 @@ module _ (s w₀ w : List ℕ) (c : Cursor) (k : ℕ) (v : Using s w₀ w c k) (
     pub using-skips : Skips w (c .own) (bodyUses (bodyIn (fieldBody (fieldOf s f)) (c .rec + 1) s here))
     using-skips = field-skips s c m told f here is w (v .ahead)
 
+    pub using-whole : wholeField (fieldBody (fieldOf s f)) (c .rec + 1) s here ≡ true
+    using-whole = visit-whole s c m told f here is w (v .ahead)
+
     module _ (q : Used) (w′ : List ℕ) (used : Handles (c .rec) (endAfter (fieldBody (fieldOf s f)) (c .rec) s here) s (usesField (c .rec) (fieldOf s f) s here) w k q w′) where
       pub using-refused : (p : Refusal) → q ≡ U.Refused p → Interns s w₀ (U.Refused p) w′
       using-refused p e = record { says = interning-refused s c m told f here is w k q w′ used (v .interning) p e; kept = kept-then (v .kept) (refused-kept s c m told f here is w k q w′ used p e) }
@@ -276,6 +279,9 @@ module _ (s w₀ w : List ℕ) (c : Cursor) (late : Bool) (k : ℕ) (v : Surveyi
   module _ (f : Field) (here : ℕ) (is : m .what ≡ W.Field f here) where
     pub surveying-skips : Skips w (c .own) (bodyUses (bodyIn (fieldBody (fieldOf s f)) (c .rec + 1) s here))
     surveying-skips = field-skips s c m told f here is w (v .ahead)
+
+    pub surveying-whole : wholeField (fieldBody (fieldOf s f)) (c .rec + 1) s here ≡ true
+    surveying-whole = visit-whole s c m told f here is w (v .ahead)
 
     module _ (t : Lateness) (e : lateness late (standing f) ≡ fineOf t) where
       pub surveying-late : (c′ : Cursor) (u : Bool) → t ≡ L.Late → Reaches s w₀ (T.Late (c .rec)) c′ u w

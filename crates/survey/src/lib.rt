@@ -13,6 +13,7 @@ use syntax::Refusal;
 use walk::Cursor;
 use walk::What;
 ghost use mathlib.Core.Path.{_≡_};
+ghost use mathlib.Core.Bool.{true};
 ghost use Prim.Native.Nat.{_+_, _≤_, _<_};
 ghost use lib.ListN.{length, set};
 ghost use Rattle.area.specs.Layout.{TOTAL, TYPES, WORDS};
@@ -21,7 +22,8 @@ ghost use Rattle.definition.specs.Read as Read;
 ghost use Rattle.definition.specs.Types as Types;
 ghost use Rattle.syntax.specs.Fields.{fieldOf};
 ghost use Rattle.type_table.specs.Table.{typeTable, Indexed};
-ghost use Rattle.walk.specs.Walk.{bodyIn, Ahead, begin, fieldsIn};
+ghost use Rattle.reread.specs.Known.{ReadableHead};
+ghost use Rattle.walk.specs.Walk.{bodyIn, wholeField, Ahead, begin, fieldsIn};
 ghost use Rattle.interning.specs.Uses.{Skips};
 ghost use Rattle.registration.specs.Register.{brought, Fit};
 ghost use Rattle.survey.specs.Survey.{Takes, Ends, Reaches, Surveys};
@@ -50,7 +52,7 @@ struct Ended {
 
 // The uses of a field, and then its items.
 fn take_field(s: &[u8], work: &mut [u32], c: Cursor, f: Field, here: usize, count: u32) -> Took
-    requires { ⌜ Lent (now s) (now work) × Indexed (now s) (now work) count × (c .rec < 4096) × Skips (now work) (c .own) (Types.bodyUses (bodyIn (Read.fieldBody (fieldOf (now s) f)) (c .rec + 1) (now s) here)) × Fit (c .seen) (brought f) ⌝ }
+    requires { ⌜ Lent (now s) (now work) × Indexed (now s) (now work) count × (c .rec < 4096) × Skips (now work) (c .own) (Types.bodyUses (bodyIn (Read.fieldBody (fieldOf (now s) f)) (c .rec + 1) (now s) here)) × (wholeField (Read.fieldBody (fieldOf (now s) f)) (c .rec + 1) (now s) here ≡ true) × ReadableHead (now s) f × Fit (c .seen) (brought f) ⌝ }
     ensures { λ r. ⌜ Takes (now (s .entry)) (now (work .entry)) c f here count r (now (work .exit)) ⌝ }
 {
     match interning::use_field(s, work, count, f, c.own, here, c.rec) {

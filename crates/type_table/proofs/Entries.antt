@@ -52,7 +52,7 @@ module _ (s : Bytes) (x y : Signature) (f : Bool) (e : f ≡ sameBytes (typesOf 
 -- ## Places past the stream's end
 
 -- nothing is read there
-typed-out : (named : Bool) (s : Bytes) (at : ℕ) → length s ≤ at → typed named s at ≡ fault 2
+pub typed-out : (named : Bool) (s : Bytes) (at : ℕ) → length s ≤ at → typed named s at ≡ fault 2
 unfolding param identifier upTo u32 groups valType
 typed-out true s at h = rw (byte-out s at h)
 typed-out false s at h = rw (byte-out s at h)
@@ -63,8 +63,14 @@ elements-out named s zero at h = refl
 elements-out named s (suc n) at h = rw (typed-out named s at h)
 
 -- a place past it is as good as its end
-types-clip : (named : Bool) (s : Bytes) (l : Code.List) → typesOf named s (record { at = min (l .at) (length s); count = l .count }) ≡ typesOf named s l
-types-clip named s l = types-are named s (record { at = min (l .at) (length s); count = l .count }) ∙ go (decLe (length s) (l .at)) ∙ sym (types-are named s l)
+abbrev pub clip : Bytes → Code.List → Code.List
+clip s l = record { at = min (l .at) (length s); count = l .count }
+
+abbrev pub clipped : Bytes → Signature → Signature
+clipped s x = record { named = x .named; params = clip s (x .params); results = clip s (x .results) }
+
+types-clip : (named : Bool) (s : Bytes) (l : Code.List) → typesOf named s (clip s l) ≡ typesOf named s l
+types-clip named s l = types-are named s (clip s l) ∙ go (decLe (length s) (l .at)) ∙ sym (types-are named s l)
   where
     go : Dec (length s ≤ l .at) → elements (typed named) s (min (l .at) (length s)) (l .count) ≡ elements (typed named) s (l .at) (l .count)
     go (yes h) =
@@ -163,10 +169,10 @@ module _ (s w : List ℕ) (at : ℕ) (x : Signature) where
       (inside-then (list-inside s w1 (at + 1) (x .params) low high (omega arith) (omega arith))
       (list-inside s w2 (at + 3) (x .results) low high (omega arith) (omega arith)))
 
-  -- the entry that was written says what was meant
-  pub type-written : at + 4 < length w → signatureOf s (entryIn (typeWords s w at x) at) ≡ signatureOf s x
-  unfolding typeWords entryIn signatureOf
-  type-written h =
+  -- the entry that was written, its places within the stream
+  pub entry-written : at + 4 < length w → entryIn (typeWords s w at x) at ≡ clipped s x
+  unfolding typeWords entryIn
+  entry-written h =
       let l1 : length w1 ≡ length w = length-set w at (flagOf (x .named)) in
       let l2 : length w2 ≡ length w = list-length s w1 (at + 1) (x .params) ∙ l1 in
       let e0 : getD (listWords s w2 (at + 3) (x .results)) at 0 ≡ flagOf (x .named) =
@@ -177,4 +183,9 @@ module _ (s w : List ℕ) (at : ℕ) (x : Signature) where
       list-below s w2 (at + 3) (x .results) (at + 1 + 1) (omega arith) ∙ list-count s w1 (at + 1) (x .params) (at + 1 + 1) (omega arith) (omega arith) in
       let e3 : getD (listWords s w2 (at + 3) (x .results)) (at + 3) 0 ≡ min (x .results .at) (length s) = list-place s w2 (at + 3) (x .results) (omega arith) in
       let e4 : getD (listWords s w2 (at + 3) (x .results)) (at + 3 + 1) 0 ≡ x .results .count = list-count s w2 (at + 3) (x .results) (at + 3 + 1) (omega arith) (omega arith) in
-      rw (e0, e1, e2, e3, e4, flag-named (x .named), types-clip (x .named) s (x .params), types-clip false s (x .results))
+      rw (e0, e1, e2, e3, e4, flag-named (x .named))
+
+  -- it says what was meant
+  pub type-written : at + 4 < length w → signatureOf s (entryIn (typeWords s w at x) at) ≡ signatureOf s x
+  unfolding signatureOf
+  type-written h = ap (signatureOf s) (entry-written h) ∙ rw (types-clip (x .named) s (x .params), types-clip false s (x .results))

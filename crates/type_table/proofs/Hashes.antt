@@ -12,6 +12,7 @@ use Rattle.definition.specs.Syntax.{Bytes, ValType, FuncType}
 use Rattle.syntax.specs.TypeUses.{elements}
 use Rattle.syntax.specs.declared.List as Code
 use Rattle.type_table.specs.Hash.{HALF, START, crossed, mixed, hashFrom, hashedList, hashOf}
+use Rattle.type_table.specs.Known.{Passable, Rest}
 use Rattle.type_table.specs.Size.{hashed}
 use Rattle.type_table.specs.declared.index.Hashed.{Hashed}
 use Rattle.type_table.specs.declared.index.HashedList.{HashedList}
@@ -45,21 +46,27 @@ pub record Hashing (s : Bytes) (named : Bool) (start a c at left h : ℕ) : Type
   pub same : hashFrom start (elements (typed named) s a c) ≡ hashFrom h (elements (typed named) s at left)
   pub low : left ≤ c
   pub count : (c - left) + length (elements (typed named) s at left) ≡ length (elements (typed named) s a c)
+  pub known : Passable named s at left
 
-pub hash-begin : (s : Bytes) (named : Bool) (start a c : ℕ) → Hashing s named start a c a c start
-hash-begin s named start a c = record { same = refl; low = omega arith; count = omega arith }
+pub hash-begin : (s : Bytes) (named : Bool) (start a c : ℕ) → Passable named s a c → Hashing s named start a c a c start
+hash-begin s named start a c k = record { same = refl; low = omega arith; count = omega arith; known = k }
 
 module _ (s : Bytes) (named : Bool) (start a c at left h : ℕ) (v : Hashing s named start a c at left h) where
   pub hash-low : left ≤ c
   hash-low = v .low
 
   module _ (r : NextType) (told : elements (typed named) s at left ≡ typesNext named left s r) where
-    pub hash-again : (t q h′ : ℕ) → r ≡ N.Type t q → h′ ≡ mixed h t → Hashing s named start a c q (left - 1) h′
+    pub hash-again : Rest named left s r → (t q h′ : ℕ) → r ≡ N.Type t q → h′ ≡ mixed h t → Hashing s named start a c q (left - 1) h′
     unfolding hashFrom
-    hash-again t q h′ d e =
+    hash-again k t q h′ d e =
         let some = next-some s at left named r told t q d in
         let one : length (elements (typed named) s at left) ≡ suc (length (elements (typed named) s q (left - 1))) = ap length (told ∙ ap (typesNext named left s) d) in
-        record { same = v .same ∙ ap (hashFrom h) (told ∙ ap (typesNext named left s) d) ∙ rw e; low = omega (arith, v .low); count = omega (arith, v .low, v .count) }
+        record {
+          same = v .same ∙ ap (hashFrom h) (told ∙ ap (typesNext named left s) d) ∙ rw e;
+          low = omega (arith, v .low);
+          count = omega (arith, v .low, v .count);
+          known = k .rest t q d;
+        }
 
     hash-end : r ≡ N.End → h ≡ hashFrom start (elements (typed named) s a c)
     unfolding hashFrom

@@ -1,7 +1,9 @@
 pub mod Bounds
-pub mod Chains
 pub mod Entries
 pub mod Hashes
+pub mod Indexed
+pub mod Known
 pub mod Lists
 pub mod Sizes
+pub mod Trees
 pub mod Types

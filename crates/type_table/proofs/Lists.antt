@@ -1,15 +1,15 @@
 -- Plain mathematics of lists of value types.
 use Prim.Native.Nat.{ℕ, zero, suc, _+_, _-_, _≤_, _<_}
 use mathlib.Core.Path.{_≡_, refl, sym, _∙_, ap}
-use mathlib.Core.Bool.{Bool, true, false}
+use mathlib.Core.Bool.{Bool, true, false, _&&_}
 use mathlib.Core.List.{List, [], _∷_, map}
 use lib.ListN.{length}
-use lib.Dec.{leb, ltb}
+use lib.Dec.{eqb, leb, ltb}
 use borrow.Author.Tests.{eq-eqb, ne-eqb, lt-ltb, ltb-true, ltb-false}
 use mir.Syntax.{w32}
 use mir.Val.{Fits}
 use native.Mathlib.Omega.{arith}
-use Rattle.definition.specs.Basic.{same, sameBytes}
+use Rattle.definition.specs.Basic.{if_then_else_, same, sameBytes}
 use Rattle.definition.specs.Syntax as Syntax
 use Rattle.definition.specs.Syntax.{Bytes, Identifier, ValType}
 use Rattle.definition.specs.Reader.{Step, got, fault, Reader, onward}
@@ -24,7 +24,7 @@ use Rattle.syntax.specs.declared.LocalAt.{LocalAt}
 use Rattle.syntax.specs.declared.LocalAt.the-variants as OA
 use Rattle.syntax.specs.declared.List as Code
 use Rattle.syntax.specs.declared.TypeUse.{TypeUse}
-use Rattle.type_table.specs.Table.{typesOf, typed, typesNext, Both}
+use Rattle.type_table.specs.Table.{typesOf, typed, typesNext, Left, bothNext, Both}
 use Rattle.type_table.specs.declared.list.NextType.{NextType}
 use Rattle.type_table.specs.declared.list.NextType.the-variants as N
 use Rattle.type_table.specs.declared.list.NextBoth.{NextBoth}
@@ -89,43 +89,64 @@ types-are false s l = refl
 
 -- ## Two lists
 
-module _ (s : Bytes) (named : Bool) (a : Code.List) (other : Bool) (b : Code.List)
-    (m : NextType) (p : elements (typed named) s (a .at) (a .count) ≡ typesNext named (a .count) s m)
-    (n : NextType) (q : elements (typed other) s (b .at) (b .count) ≡ typesNext other (b .count) s n) where
-  lists : sameBytes (typesOf named s a) (typesOf other s b) ≡ sameBytes (typesNext named (a .count) s m) (typesNext other (b .count) s n)
-  lists = rw (types-are named s a, types-are other s b, p, q)
+-- a type that was read was left
+pub next-left : (s : Bytes) (named : Bool) (l : Code.List) (m : NextType) → elements (typed named) s (l .at) (l .count) ≡ typesNext named (l .count) s m → Left l m
+next-left s named l m told = record { some = next-some s (l .at) (l .count) named m told }
 
+pub left-some : (l : Code.List) (m : NextType) → Left l m → (t q : ℕ) → m ≡ N.Type t q → 1 ≤ l .count
+left-some l m v t q d = v .some t q d
+
+module _ (a : Code.List) (m : NextType) (b : Code.List) (n : NextType) where
   -- both have ended
-  pub both-end : m ≡ N.End → n ≡ N.End → Both s named a other b B.End
-  unfolding sameBytes same
-  both-end d e = record { same = lists ∙ rw (d, e); fewer = tt }
+  pub step-end : m ≡ N.End → n ≡ N.End → B.End ≡ bothNext a m b n
+  unfolding bothNext
+  step-end d e = rw (d, e)
 
   -- only the first has
-  pub both-long : (y h : ℕ) → m ≡ N.End → n ≡ N.Type y h → Both s named a other b B.Differ
-  unfolding sameBytes same
-  both-long y h d e = record { same = lists ∙ rw (d, e); fewer = tt }
+  pub step-long : (y h : ℕ) → m ≡ N.End → n ≡ N.Type y h → B.Differ ≡ bothNext a m b n
+  unfolding bothNext
+  step-long y h d e = rw (d, e)
 
   module _ (x k : ℕ) (d : m ≡ N.Type x k) where
     -- only the other has
-    pub both-short : n ≡ N.End → Both s named a other b B.Differ
-    unfolding sameBytes same
-    both-short e = record { same = lists ∙ rw (d, e); fewer = tt }
+    pub step-short : n ≡ N.End → B.Differ ≡ bothNext a m b n
+    unfolding bothNext
+    step-short e = rw (d, e)
 
     module _ (y h : ℕ) (e : n ≡ N.Type y h) where
       -- a type that differs
-      pub both-differ : (x ≡ y → ⊥) → Both s named a other b B.Differ
-      unfolding sameBytes same
-      both-differ f = record { same = lists ∙ rw (d, e, ne-eqb _ _ f); fewer = tt }
+      pub step-differ : (x ≡ y → ⊥) → B.Differ ≡ bothNext a m b n
+      unfolding bothNext
+      step-differ f = rw (d, e, ne-eqb _ _ f)
 
       -- a type that agrees
-      pub both-same : x ≡ y → Both s named a other b (B.Same (record { at = k; count = a .count - 1 }) (record { at = h; count = b .count - 1 }))
-      unfolding sameBytes same
-      both-same f = record {
-        same = lists ∙ rw (d, e, eq-eqb _ _ f, types-are named s (record { at = k; count = a .count - 1 }), types-are other s (record { at = h; count = b .count - 1 }));
-        fewer = next-less s (a .at) (a .count) named m p x k d;
-      }
+      pub step-same : x ≡ y → B.Same (record { at = k; count = a .count - 1 }) (record { at = h; count = b .count - 1 }) ≡ bothNext a m b n
+      unfolding bothNext
+      step-same f = rw (d, e, eq-eqb _ _ f)
 
-pub ruleset boths = (both-end, both-long, both-short, both-differ, both-same)
+pub ruleset steps = (step-end, step-long, step-short, step-differ, step-same)
+
+-- what the comparison tells
+module _ (s : Bytes) (named : Bool) (a : Code.List) (other : Bool) (b : Code.List) where
+  both-of : (m n : NextType) → elements (typed named) s (a .at) (a .count) ≡ typesNext named (a .count) s m
+      → elements (typed other) s (b .at) (b .count) ≡ typesNext other (b .count) s n → Both s named a other b (bothNext a m b n)
+  unfolding bothNext sameBytes same
+  both-of (N.Type x k) (N.Type y h) p q = go (eqb x y) (rw (types-are named s a, types-are other s b, p, q))
+    where
+      go : (t : Bool) → sameBytes (typesOf named s a) (typesOf other s b) ≡ (t && sameBytes (elements (typed named) s k (a .count - 1)) (elements (typed other) s h (b .count - 1)))
+          → Both s named a other b (if t then B.Same (record { at = k; count = a .count - 1 }) (record { at = h; count = b .count - 1 }) else B.Differ)
+      go true e = record {
+        same = e ∙ rw (types-are named s (record { at = k; count = a .count - 1 }), types-are other s (record { at = h; count = b .count - 1 }));
+        fewer = next-less s (a .at) (a .count) named (N.Type x k) p x k refl;
+      }
+      go false e = record { same = e; fewer = tt }
+  both-of (N.Type x k) N.End p q = record { same = rw (types-are named s a, types-are other s b, p, q); fewer = tt }
+  both-of N.End (N.Type y h) p q = record { same = rw (types-are named s a, types-are other s b, p, q); fewer = tt }
+  both-of N.End N.End p q = record { same = rw (types-are named s a, types-are other s b, p, q); fewer = tt }
+
+  pub both-told : (m n : NextType) (r : NextBoth) → elements (typed named) s (a .at) (a .count) ≡ typesNext named (a .count) s m
+      → elements (typed other) s (b .at) (b .count) ≡ typesNext other (b .count) s n → r ≡ bothNext a m b n → Both s named a other b r
+  both-told m n r p q e = rw e (both-of m n p q)
 
 -- two lists are as equal as what is left of them
 pub record InStep (s : Bytes) (named : Bool) (a : Code.List) (other : Bool) (b x y : Code.List) : Type 0 where

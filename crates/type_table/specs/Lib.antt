@@ -1,4 +1,5 @@
 pub mod Hash
+pub mod Known
 pub mod Size
 pub mod Table
 pub mod Uses

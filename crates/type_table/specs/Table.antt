@@ -5,7 +5,7 @@ use mathlib.Core.List.{List, [], _∷_, _++_, map}
 use mathlib.Core.Bool.{Bool, true, false, _&&_}
 use mathlib.Core.Option.{Option, none, some}
 use lib.ListN.{length, getD, set, drop}
-use lib.Dec.{eqb}
+use lib.Dec.{eqb, ltb}
 use Rattle.definition.specs.Basic.{if_then_else_, Answer, ok, refused, sameBytes}
 use Rattle.definition.specs.Syntax.{Bytes, ValType, FuncType}
 use Rattle.definition.specs.Reader.{Reader, _>>=_, give}
@@ -20,6 +20,7 @@ use Rattle.syntax.specs.declared.List as Code
 use Rattle.syntax.specs.declared.TypeUse.{TypeUse}
 use Rattle.area.specs.Kept.{Kept}
 use Rattle.type_table.specs.Hash.{BUCKETS, HALF, bucketOf, hashOf}
+use Rattle.type_table.specs.Known.{BothPassable, ReadableSignature}
 use Rattle.type_table.specs.Size.{hashed}
 use Rattle.type_table.specs.declared.index.Hashed.{Hashed}
 use Rattle.type_table.specs.declared.list.NextType.{NextType}
@@ -57,6 +58,17 @@ bothSame s named other (B.Same a b) = sameBytes (typesOf named s a) (typesOf oth
 bothSame s named other B.Differ = false
 bothSame s named other B.End = true
 
+-- a list whose next type was read has one left
+pub record Left (l : Code.List) (m : NextType) : Type 0 where
+  pub some : (t q : ℕ) → m ≡ N.Type t q → 1 ≤ l .count
+
+-- two lists, one type further, by the next type of each
+unfoldable pub bothNext : Code.List → NextType → Code.List → NextType → NextBoth
+bothNext a (N.Type x p) b (N.Type y q) = if eqb x y then B.Same (record { at = p; count = a .count - 1 }) (record { at = q; count = b .count - 1 }) else B.Differ
+bothNext a (N.Type x p) b N.End = B.Differ
+bothNext a N.End b (N.Type y q) = B.Differ
+bothNext a N.End b N.End = B.End
+
 -- fewer types are left than so many
 abbrev pub BothFewer : NextBoth → ℕ → Type 0
 BothFewer (B.Same a b) n = a .count < n
@@ -67,6 +79,11 @@ BothFewer B.End n = Unit {0}
 pub record Both (s : Bytes) (named : Bool) (a : Code.List) (other : Bool) (b : Code.List) (r : NextBoth) : Type 0 where
   pub same : sameBytes (typesOf named s a) (typesOf other s b) ≡ bothSame s named other r
   pub fewer : BothFewer r (a .count)
+
+-- and what is left of both can be read
+pub record KnownBoth (s : Bytes) (named : Bool) (a : Code.List) (other : Bool) (b : Code.List) (r : NextBoth) : Type 0 where
+  pub both : Both s named a other b r
+  pub rest : BothPassable s named other r
 
 -- ## Signatures
 
@@ -105,12 +122,25 @@ agreeing t (some u) = if sameType t u then A.Same else A.Differs
 
 -- ## The index over the table
 
--- A link is the number of a type and one more, or 0. The chain of a bucket begins with the link at its head; of equal types only the
--- first stands in a chain.
+-- A link is the number of a type and one more, or 0. The tree of a bucket begins with the link at its head, and each type there has two
+-- branches; of equal types only the first stands in a tree. The way through a tree goes by the bits of the hash, the lowest first.
 
--- how a chain goes on after a type: with an earlier one, whatever the word says
-abbrev pub linkAfter : List ℕ → ℕ → ℕ
-linkAfter w n = min (getD w (LINKS + n) 0) n
+-- where the tree of a hash begins
+abbrev pub headOf : ℕ → ℕ
+headOf h = HEADS + bucketOf h
+
+-- the place of a type's branch, by the lowest of the bits
+abbrev pub branchOf : ℕ → ℕ → ℕ
+branchOf n bits = LINKS + 2 * n + bits % 2
+
+-- the link at a place: to a type whose branches stand after it, whatever the word says
+unfoldable pub linkAt : List ℕ → ℕ → ℕ
+linkAt w place = if ltb 256 (getD w place 0) then 0 else if ltb (place + 2) (LINKS + 2 * getD w place 0) then getD w place 0 else 0
+
+-- no type, or one by its number
+abbrev pub onLink : {A : Type 0} → ℕ → A → (ℕ → A) → A
+onLink zero a f = a
+onLink (suc n) a f = f n
 
 -- a type has a hash, by its two words
 unfoldable pub hashIs : List ℕ → ℕ → ℕ → Bool
@@ -120,19 +150,33 @@ hashIs w n h = eqb (getD w (HASHES + 2 * n) 0) (h % HALF) && eqb (getD w (HASHES
 unfoldable pub isType : Bytes → List ℕ → FuncType → ℕ → Bool
 isType s w x n = hashIs w n (hashOf x) && sameType x (signatureOf s (entryIn w (TYPES + 5 * n)))
 
--- the type that is found on a chain of the first `k` types, which begins with a link
-unfoldable pub onChain : ℕ → Bytes → List ℕ → FuncType → ℕ → Option ℕ
-onChain zero s w x link = none
-onChain (suc k) s w x link =
-    if eqb link (suc k) then (if isType s w x k then some k else onChain k s w x (linkAfter w k)) else onChain k s w x link
+-- the type that is found from a place on, at the next `k` places of the way; they rise, so no way has more than the index has words
+unfoldable pub inTree : ℕ → Bytes → List ℕ → FuncType → ℕ → ℕ → Option ℕ
+inTree zero s w x place bits = none
+inTree (suc k) s w x place bits =
+    onLink (linkAt w place) none (λ n. if isType s w x n then some n else inTree k s w x (branchOf n bits) (bits / 2))
 
--- the index is true of `count` types: what is found on a signature's chain is the first equal type. So is the size beside them: it is what
--- the section that is written of them has as its content
+-- the type that is found in the tree of a signature's hash
+unfoldable pub foundIn : Bytes → List ℕ → FuncType → Option ℕ
+foundIn s w x = inTree (HASHES - HEADS) s w x (headOf (hashOf x)) (hashOf x)
+
+-- the first place without a type, from a place on
+unfoldable pub freeFrom : ℕ → List ℕ → ℕ → ℕ → ℕ
+freeFrom zero w place bits = place
+freeFrom (suc k) w place bits = onLink (linkAt w place) place (λ n. freeFrom k w (branchOf n bits) (bits / 2))
+
+-- the one on the way of a hash
+unfoldable pub freePlace : List ℕ → ℕ → ℕ
+freePlace w h = freeFrom (HASHES - HEADS) w (headOf h) h
+
+-- the index is true of `count` types: what is found in the tree of a signature's hash is the first equal type, and no link is to a later
+-- one. So is the size beside them: it is what the section that is written of them has as its content. And the types can be read
 pub record Indexed (s : Bytes) (w : List ℕ) (count : ℕ) : Type 0 where
   pub few : count ≤ 256
-  pub low : (b : ℕ) → b < BUCKETS → getD w (HEADS + b) 0 ≤ count
-  pub each : (x : FuncType) → typeAt x (typeTable count s w TYPES) ≡ onChain count s w x (getD w (HEADS + bucketOf (hashOf x)) 0)
+  pub low : (i : ℕ) → HEADS ≤ i → i < LINKS + 2 * count → getD w i 0 ≤ count
+  pub each : (x : FuncType) → typeAt x (typeTable count s w TYPES) ≡ foundIn s w x
   pub size : getD w SIZE 0 ≡ typesSize (typeTable count s w TYPES)
+  pub readable : (n : ℕ) → n < count → ReadableSignature s (entryIn w (TYPES + 5 * n))
 
 -- ## One more type
 
@@ -149,9 +193,13 @@ typeWords s w at x = listWords s (listWords s (set w at (flagOf (x .named))) (at
 unfoldable pub hashWords : List ℕ → ℕ → ℕ → List ℕ
 hashWords w n h = set (set w (HASHES + 2 * n) (h % HALF)) (HASHES + 2 * n + 1) (h / HALF)
 
--- a type stands before the others of its bucket
-unfoldable pub chainWords : List ℕ → ℕ → ℕ → List ℕ
-chainWords w n h = set (set w (LINKS + n) (getD w (HEADS + bucketOf h) 0)) (HEADS + bucketOf h) (n + 1)
+-- nothing is on a type's branches
+unfoldable pub bareWords : List ℕ → ℕ → List ℕ
+bareWords w n = set (set w (LINKS + 2 * n) 0) (LINKS + 2 * n + 1) 0
+
+-- a type stands at the end of its hash's way
+unfoldable pub treeWords : List ℕ → ℕ → ℕ → List ℕ
+treeWords w n h = set w (freePlace w h) (n + 1)
 
 -- of `w` was made `w′`, and only the words from `low` up to `high` may differ
 pub record Inside (low high : ℕ) (w w′ : List ℕ) : Type 0 where
@@ -173,6 +221,7 @@ pub record Fresh (s : Bytes) (w : List ℕ) (count : ℕ) (x : Signature) (h : H
   pub indexed : Indexed s w count
   pub walked : h ≡ hashed (signatureOf s x)
   pub missing : typeAt (signatureOf s x) (typeTable count s w TYPES) ≡ none
+  pub readable : ReadableSignature s x
 
 -- one that is equal to one of them
 pub record Again (s : Bytes) (w : List ℕ) (count : ℕ) (x : Signature) (h : Hashed) : Type 0 where
@@ -180,6 +229,7 @@ pub record Again (s : Bytes) (w : List ℕ) (count : ℕ) (x : Signature) (h : H
   pub walked : h ≡ hashed (signatureOf s x)
   pub number : ℕ
   pub found : typeAt (signatureOf s x) (typeTable count s w TYPES) ≡ some number
+  pub readable : ReadableSignature s x
 
 -- a signature was added to `count` types
 pub record Adds (s : Bytes) (w : List ℕ) (count : ℕ) (x : Signature) (w′ : List ℕ) : Type 0 where

@@ -1,16 +1,18 @@
-// The index over the types: for each bucket of hashes a chain of the types that have such a hash, the last one first. A link is the number
-// of a type and one more, or 0. Of equal types only the first stands in a chain, so what is found there is the first.
+// The index over the types: for each bucket of hashes a tree of the types that have such a hash. Each type there has two branches, and the
+// way through a tree goes by the bits of the hash, the lowest first. A link is the number of a type and one more, or 0. Of equal types only
+// the first stands in a tree, so what is found there is the first.
 use crate::entry::Signature;
 use crate::list::NextType;
-use crate::list::next_type;
+use crate::list::known_type;
 use syntax::List;
 ghost use mathlib.Core.Path.{_≡_};
 ghost use Prim.Native.Nat.{_+_, _/_, _%_, _≤_, _<_};
-ghost use lib.ListN.{length, getD, set};
-ghost use Rattle.area.specs.Layout.{HEADS, USES};
-ghost use Rattle.type_table.specs.Hash.{HALF, bucketOf, hashedList, mixed};
+ghost use lib.ListN.{length, set};
+ghost use Rattle.area.specs.Layout.{HASHES, USES};
+ghost use Rattle.type_table.specs.Hash.{HALF, hashedList, mixed};
+ghost use Rattle.type_table.specs.Known.{Passable, ReadableSignature};
 ghost use Rattle.type_table.specs.Size.{hashed};
-ghost use Rattle.type_table.specs.Table.{typesOf, signatureOf, linkAfter, hashIs, hashWords, chainWords, HeadsEmptied, Emptied};
+ghost use Rattle.type_table.specs.Table.{typesOf, signatureOf, headOf, branchOf, linkAt, hashIs, hashWords, bareWords, freePlace, treeWords, HeadsEmptied, Emptied};
 
 const BUCKETS: u64 = 256;
 
@@ -41,13 +43,14 @@ pub struct HashedList {
 
 // The value types of a list, after a hash.
 fn hash_list(s: &[u8], named: bool, l: List, start: u64) -> HashedList
+    requires { ⌜ Passable named (now s) (l .at) (l .count) ⌝ }
     ensures { λ r. ⌜ r ≡ hashedList start (typesOf named (now (s .entry)) l) ⌝ }
 {
     let mut at = l.at;
     let mut left = l.count;
     let mut h = start;
     loop {
-        match next_type(s, at, left, named) {
+        match known_type(s, at, left, named) {
             NextType::Type(t, next) => {
                 h = mix(h, t);
                 at = next;
@@ -71,6 +74,7 @@ pub struct Hashed {
 }
 
 pub fn hash_of(s: &[u8], x: Signature) -> Hashed
+    requires { ⌜ ReadableSignature (now s) x ⌝ }
     ensures { λ r. ⌜ r ≡ hashed (signatureOf (now (s .entry)) x) ⌝ }
 {
     let p = hash_list(s, x.named, x.params, START);
@@ -82,31 +86,33 @@ pub fn hash_of(s: &[u8], x: Signature) -> Hashed
     }
 }
 
-// Where the chain of a hash begins.
-fn head_place(h: u64) -> usize
-    ensures { λ r. ⌜ r ≡ HEADS + bucketOf h ⌝ }
+// Where the tree of a hash begins.
+pub fn head_place(h: u64) -> usize
+    ensures { λ r. ⌜ r ≡ headOf h ⌝ }
 {
     area::HEADS + ((h / HALF % BUCKETS) as usize)
 }
 
-// The first link of a hash's chain.
-pub fn first_link(work: &[u32], h: u64) -> u32
-    requires { ⌜ USES ≤ length (now work) ⌝ }
-    ensures { λ r. ⌜ r ≡ getD (now (work .entry)) (HEADS + bucketOf h) 0 ⌝ }
+// The place of a type's branch, by the lowest of the bits.
+pub fn branch_place(n: u32, bits: u64) -> usize
+    ensures { λ r. ⌜ r ≡ branchOf n bits ⌝ }
 {
-    work[head_place(h)]
+    area::LINKS + 2 * (n as usize) + ((bits % 2) as usize)
 }
 
-// The link after a type: to an earlier one, whatever the word says.
-pub fn link_after(work: &[u32], n: u32) -> u32
-    requires { ⌜ (n < 256) × (USES ≤ length (now work)) ⌝ }
-    ensures { λ r. ⌜ r ≡ linkAfter (now (work .entry)) n ⌝ }
+// The link at a place: to a type whose branches, from `LINKS + 2 * link - 2` on, stand after it, whatever the word says.
+pub fn link_at(work: &[u32], place: usize) -> u32
+    requires { ⌜ (place < HASHES) × (USES ≤ length (now work)) ⌝ }
+    ensures { λ r. ⌜ r ≡ linkAt (now (work .entry)) place ⌝ }
 {
-    let link = work[area::LINKS + (n as usize)];
-    if link < n {
+    let link = work[place];
+    if 256 < link {
+        return 0;
+    }
+    if place + 2 < area::LINKS + 2 * (link as usize) {
         return link;
     }
-    n
+    0
 }
 
 // The two halves of a hash, a word each.
@@ -153,14 +159,38 @@ pub fn put_hash(work: &mut [u32], n: u32, h: u64)
     put_words(work, area::HASHES + 2 * (n as usize), low, high);
 }
 
-// A type is put before the others of its bucket.
+// Nothing is on a type's branches.
+pub fn put_branches(work: &mut [u32], n: u32)
+    requires { ⌜ (n < 256) × (USES ≤ length (now work)) ⌝ }
+    ensures { λ _. ⌜ now (work .exit) ≡ bareWords (now (work .entry)) n ⌝ }
+{
+    put_words(work, area::LINKS + 2 * (n as usize), 0, 0);
+}
+
+// The first place without a type on the way of a hash.
+fn free_place(work: &[u32], h: u64) -> usize
+    requires { ⌜ USES ≤ length (now work) ⌝ }
+    ensures { λ r. ⌜ r ≡ freePlace (now (work .entry)) h ⌝ }
+{
+    let mut place = head_place(h);
+    let mut bits = h;
+    loop {
+        let link = link_at(work, place);
+        if link == 0 {
+            return place;
+        }
+        place = branch_place(link - 1, bits);
+        bits = bits / 2;
+    }
+}
+
+// A type is put at the end of its hash's way.
 pub fn put_link(work: &mut [u32], n: u32, h: u64)
     requires { ⌜ (n < 256) × (USES ≤ length (now work)) ⌝ }
-    ensures { λ _. ⌜ now (work .exit) ≡ chainWords (now (work .entry)) n h ⌝ }
+    ensures { λ _. ⌜ now (work .exit) ≡ treeWords (now (work .entry)) n h ⌝ }
 {
-    let head = head_place(h);
-    work[area::LINKS + (n as usize)] = work[head];
-    work[head] = n + 1;
+    let place = free_place(work, h);
+    work[place] = n + 1;
 }
 
 // No bucket has a type.

@@ -9,7 +9,8 @@ ghost use lib.ListN.{length};
 ghost use Rattle.definition.specs.Basic.{sameBytes};
 ghost use Rattle.definition.specs.Types as Types;
 ghost use Rattle.syntax.specs.TypeUses.{elements, useOf};
-ghost use Rattle.type_table.specs.Table.{typed, typesNext, typesOf, Both};
+ghost use Rattle.type_table.specs.Known.{Passable, Rest};
+ghost use Rattle.type_table.specs.Table.{typed, typesNext, typesOf, bothNext, Left, KnownBoth};
 
 // A value type and the place after it.
 pub enum NextType {
@@ -36,6 +37,23 @@ pub fn next_type(s: &[u8], at: usize, left: u32, named: bool) -> NextType
     }
 }
 
+// The same of types that are known to be readable: an identifier was checked, and is passed by its length.
+pub fn known_type(s: &[u8], at: usize, left: u32, named: bool) -> NextType
+    requires { ⌜ Passable named (now s) at left ⌝ }
+    ensures { λ r. ⌜ (elements (typed named) (now (s .entry)) at left ≡ typesNext named left (now (s .entry)) r) × Rest named left (now (s .entry)) r ⌝ }
+{
+    if left == 0 {
+        return NextType::End;
+    }
+    if named {
+        return match typeuse::known_local(s, at) {
+            LocalAt::Got(l, next) => NextType::Type(l.value, next),
+            LocalAt::Fault(_) => NextType::End,
+        };
+    }
+    next_type(s, at, left, named)
+}
+
 // What is left of two lists after their next types, where these are the same.
 pub enum NextBoth {
     Same(List, List),
@@ -43,12 +61,13 @@ pub enum NextBoth {
     End,
 }
 
-// Two lists, one type further in step.
-pub fn next_both(s: &[u8], named: bool, a: List, other: bool, b: List) -> NextBoth
-    ensures { λ r. ⌜ Both (now (s .entry)) named a other b r ⌝ }
+// Two lists, one type further in step, by the next type of each.
+fn step(a: List, m: NextType, b: List, n: NextType) -> NextBoth
+    requires { ⌜ Left a m × Left b n ⌝ }
+    ensures { λ r. ⌜ r ≡ bothNext a m b n ⌝ }
 {
-    match next_type(s, a.at, a.count, named) {
-        NextType::Type(x, p) => match next_type(s, b.at, b.count, other) {
+    match m {
+        NextType::Type(x, p) => match n {
             NextType::Type(y, q) => {
                 if x != y {
                     return NextBoth::Differ;
@@ -65,11 +84,21 @@ pub fn next_both(s: &[u8], named: bool, a: List, other: bool, b: List) -> NextBo
             }
             NextType::End => NextBoth::Differ,
         },
-        NextType::End => match next_type(s, b.at, b.count, other) {
+        NextType::End => match n {
             NextType::Type(_, _) => NextBoth::Differ,
             NextType::End => NextBoth::End,
         },
     }
+}
+
+// The same of two lists that are known to be readable.
+pub fn next_both(s: &[u8], named: bool, a: List, other: bool, b: List) -> NextBoth
+    requires { ⌜ Passable named (now s) (a .at) (a .count) × Passable other (now s) (b .at) (b .count) ⌝ }
+    ensures { λ r. ⌜ KnownBoth (now (s .entry)) named a other b r ⌝ }
+{
+    let m = known_type(s, a.at, a.count, named);
+    let n = known_type(s, b.at, b.count, other);
+    step(a, m, b, n)
 }
 
 // Equal lists: walked in step, and left at the first difference.
@@ -79,7 +108,9 @@ pub fn same_list(s: &[u8], named: bool, a: List, other: bool, b: List) -> bool
     let mut x = a;
     let mut y = b;
     loop {
-        match next_both(s, named, x, other, y) {
+        let m = next_type(s, x.at, x.count, named);
+        let n = next_type(s, y.at, y.count, other);
+        match step(x, m, y, n) {
             NextBoth::Same(p, q) => {
                 x = p;
                 y = q;

@@ -5,10 +5,12 @@ use crate::entry::put_type;
 use crate::entry::same_type;
 use crate::entry::type_at;
 use crate::index::Hashed;
-use crate::index::first_link;
+use crate::index::branch_place;
 use crate::index::has_hash;
 use crate::index::hash_of;
-use crate::index::link_after;
+use crate::index::head_place;
+use crate::index::link_at;
+use crate::index::put_branches;
 use crate::index::put_hash;
 use crate::index::put_link;
 use crate::list::NextBoth;
@@ -25,24 +27,32 @@ ghost use Rattle.definition.specs.Basic as Basic;
 ghost use Rattle.definition.specs.Types as Types;
 ghost use Rattle.definition.specs.Names as Names;
 ghost use Rattle.syntax.specs.TypeUses.{useOf};
+ghost use Rattle.typeuse.specs.Known.{Readable};
 ghost use Rattle.type_table.specs.Hash.{hashOf};
-ghost use Rattle.type_table.specs.Table.{ofUse, signatureOf, typeTable, typesIn, numberOf, agreeing, typeWords, Indexed, Fresh, Again, Adds, Interns};
+ghost use Rattle.type_table.specs.Known.{ReadableSignature};
+ghost use Rattle.type_table.specs.Table.{ofUse, signatureOf, typeTable, typesIn, numberOf, agreeing, typeWords, bareWords, Indexed, Fresh, Again, Adds, Interns};
 
 pub enum TypeFound {
     Number(u32),
     Nothing,
 }
 
-// The first of count types that is equal to a signature with this hash: each on the hash's chain that has the hash is walked in step with
+// The first of count types that is equal to a signature with this hash: each on the hash's way that has the hash is walked in step with
 // the signature, over the parameters and then over the results, and left at the first difference.
 pub fn find_type(s: &[u8], work: &[u32], count: u32, x: Signature, h: u64) -> TypeFound
-    requires { ⌜ (USES ≤ length (now work)) × Indexed (now s) (now work) count × (h ≡ hashOf (signatureOf (now s) x)) ⌝ }
+    requires { ⌜ (USES ≤ length (now work)) × Indexed (now s) (now work) count × ReadableSignature (now s) x × (h ≡ hashOf (signatureOf (now s) x)) ⌝ }
     ensures { λ r. ⌜ Types.typeAt (signatureOf (now (s .entry)) x) (typeTable count (now (s .entry)) (now (work .entry)) TYPES) ≡ numberOf r ⌝ }
 {
-    let mut link = first_link(work, h);
-    'types: while 0 < link {
+    let mut place = head_place(h);
+    let mut bits = h;
+    'types: loop {
+        let link = link_at(work, place);
+        if link == 0 {
+            return TypeFound::Nothing;
+        }
         let this = link - 1;
-        link = link_after(work, this);
+        place = branch_place(this, bits);
+        bits = bits / 2;
         if !has_hash(work, this, h) {
             continue 'types;
         }
@@ -67,16 +77,16 @@ pub fn find_type(s: &[u8], work: &[u32], count: u32, x: Signature, h: u64) -> Ty
             }
         }
     }
-    TypeFound::Nothing
 }
 
-// A signature's words after those of count types.
+// A signature's words after those of count types, and nothing on its branches.
 fn put_entry(s: &[u8], work: &mut [u32], count: u32, x: Signature)
     requires { ⌜ (length (now s) ≤ BYTES) × (count < 256) × (USES ≤ length (now work)) ⌝ }
-    ensures { λ _. ⌜ now (work .exit) ≡ typeWords (now (s .entry)) (now (work .entry)) (TYPES + 5 * count) x ⌝ }
+    ensures { λ _. ⌜ now (work .exit) ≡ bareWords (typeWords (now (s .entry)) (now (work .entry)) (TYPES + 5 * count) x) count ⌝ }
 {
     let at = area::TYPES + 5 * (count as usize);
     put_type(s, work, at, x);
+    put_branches(work, count);
 }
 
 // A signature that is equal to none is added at the end, and to the index.
@@ -101,7 +111,7 @@ fn add_again(s: &[u8], work: &mut [u32], count: u32, x: Signature, h: Hashed)
 
 // A declared type stands at the end.
 pub fn declare_type(s: &[u8], work: &mut [u32], count: u32, x: Signature)
-    requires { ⌜ (length (now s) ≤ BYTES) × (count < 256) × (USES ≤ length (now work)) × Indexed (now s) (now work) count ⌝ }
+    requires { ⌜ (length (now s) ≤ BYTES) × (count < 256) × (USES ≤ length (now work)) × Indexed (now s) (now work) count × ReadableSignature (now s) x ⌝ }
     ensures { λ _. ⌜ Adds (now (s .entry)) (now (work .entry)) count x (now (work .exit)) ⌝ }
 {
     let h = hash_of(s, x);
@@ -131,7 +141,7 @@ fn add_use(s: &[u8], work: &mut [u32], count: u32, t: TypeUse, h: Hashed, rec: u
 
 // A use takes the first equal signature, or adds one at the end.
 pub fn intern_use(s: &[u8], work: &mut [u32], count: u32, t: TypeUse, rec: u32) -> Interned
-    requires { ⌜ (length (now s) ≤ BYTES) × (USES ≤ length (now work)) × Indexed (now s) (now work) count ⌝ }
+    requires { ⌜ (length (now s) ≤ BYTES) × (USES ≤ length (now work)) × Indexed (now s) (now work) count × Readable (now s) (t .params) ⌝ }
     ensures { λ r. ⌜ Interns (now (s .entry)) (now (work .entry)) count t rec r (now (work .exit)) ⌝ }
 {
     let x = of_use(t);

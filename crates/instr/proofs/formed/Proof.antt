@@ -1,6 +1,7 @@
 use Rattle.definition.specs.Instructions.{instruction, admits}
 use Rattle.expr.proofs.Ways.{plain-answers}
 use Rattle.instr.specs.Bodies.{deepInstr}
+use Rattle.instr.proofs.Known.{formed-opening, formed-elsing, formed-ending, formed-calling}
 use Rattle.instr.proofs.Ways.{instr-answers, form-is}
 use Rattle.laws.proofs.Ways.{ways}
 use Rattle.token.proofs.Ways.{answers}
@@ -23,7 +24,7 @@ enum-told-2 : tie.Need-enum-told-2
 enum-told-2 c = search needs
 
 opens-requires : tie.Need-opens-requires
-opens-requires c κs = search needs
+opens-requires c κs = search (formed-opening, needs)
 
 returns-2 : tie.Need-returns-2
 unfolding instruction admits deepInstr
@@ -33,7 +34,7 @@ enum-told-3 : tie.Need-enum-told-3
 enum-told-3 c = search needs
 
 elses-requires : tie.Need-elses-requires
-elses-requires c κs = search needs
+elses-requires c κs = search (formed-elsing, needs)
 
 returns-3 : tie.Need-returns-3
 unfolding instruction admits deepInstr
@@ -43,7 +44,7 @@ enum-told-4 : tie.Need-enum-told-4
 enum-told-4 c = search needs
 
 ends-requires : tie.Need-ends-requires
-ends-requires c κs = search needs
+ends-requires c κs = search (formed-ending, needs)
 
 returns-4 : tie.Need-returns-4
 unfolding instruction admits deepInstr
@@ -53,7 +54,7 @@ enum-told-5 : tie.Need-enum-told-5
 enum-told-5 c = search needs
 
 indirect-requires : tie.Need-indirect-requires
-indirect-requires c κs = search needs
+indirect-requires c κs = search (formed-calling, needs)
 
 returns-5 : tie.Need-returns-5
 unfolding instruction admits deepInstr

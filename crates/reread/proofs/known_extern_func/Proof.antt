@@ -1,4 +1,5 @@
 use Rattle.reread.proofs.Gets.{known-externs}
+use Rattle.typeuse.proofs.Gets.{use-readable}
 use borrow.Author.Needs.{needs}
 use Rattle.reread.proofs.known_extern_func.Statement.{statement}
 use Rattle.reread.proofs.known_extern_func.Tie as tie
@@ -22,7 +23,7 @@ enum-known-e-2 : tie.Need-enum-known-e-2
 enum-known-e-2 c = search needs
 
 returns : tie.Need-returns
-returns c = search known-externs
+returns c = search (known-externs, use-readable)
 
 returns-2 : tie.Need-returns-2
 returns-2 c = search known-externs

@@ -1,5 +1,5 @@
 use Rattle.definition.specs.Records.{itemRec, funcRec}
-use Rattle.reread.proofs.Gets.{func-room, func-other, known-funcs}
+use Rattle.reread.proofs.Gets.{func-room, known-funcs}
 use Rattle.laws.proofs.Ways.{ways}
 use Rattle.token.proofs.Ways.{answers}
 use Rattle.typeuse.proofs.Ways.{use-answers}
@@ -31,8 +31,8 @@ known-own-requires c κs = search known-funcs
 returns : tie.Need-returns
 returns c = search known-funcs
 
-read-item-requires : tie.Need-read-item-requires
-read-item-requires c κs = search needs
+known-imported-requires : tie.Need-known-imported-requires
+known-imported-requires c κs = search known-funcs
 
 enum-known-e : tie.Need-enum-known-e
 enum-known-e c = search needs
@@ -44,8 +44,7 @@ enum-known-e-3 : tie.Need-enum-known-e-3
 enum-known-e-3 c = search needs
 
 returns-2 : tie.Need-returns-2
-unfolding funcRec
-returns-2 c = search func-other
+returns-2 c = search known-funcs
 
 returns-3 : tie.Need-returns-3
 unfolding funcRec itemRec
@@ -71,7 +70,7 @@ known-func-spec =
     enum-known-form
     known-own-requires
     returns
-    read-item-requires
+    known-imported-requires
     enum-known-e
     enum-known-e-2
     enum-known-e-3

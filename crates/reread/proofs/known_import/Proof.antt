@@ -35,7 +35,7 @@ enum-known-e-2 : tie.Need-enum-known-e-2
 enum-known-e-2 c = search needs
 
 returns-2 : tie.Need-returns-2
-returns-2 c = search needs
+returns-2 c = search known-imports
 
 returns-3 : tie.Need-returns-3
 unfolding importRec

@@ -1,7 +1,7 @@
 use borrow.Author.Needs.{needs}
-use Rattle.walk.proofs.Steps.{visit-less, visit-few}
+use Rattle.walk.proofs.Steps.{visit-less, visit-few, visit-readable}
 use Rattle.survey.proofs.Registering.{registering-fit}
-use Rattle.survey.proofs.Surveying.{Surveying, surveying-begin, surveying-done, surveying-skips, surveying-late, surveying-order, surveying-again, surveying-stops, reaches-so}
+use Rattle.survey.proofs.Surveying.{Surveying, surveying-begin, surveying-done, surveying-skips, surveying-whole, surveying-late, surveying-order, surveying-again, surveying-stops, reaches-so}
 use Rattle.survey.proofs.survey_fields.Statement.{statement}
 use Rattle.survey.proofs.survey_fields.Tie as tie
 
@@ -42,7 +42,7 @@ returns : tie.Need-returns Inv-loop μ-loop
 returns c = search (reaches-so, surveying-late)
 
 take-field-requires : tie.Need-take-field-requires Inv-loop μ-loop
-take-field-requires c κs = (search needs, search needs, search visit-few, search surveying-skips, search registering-fit)
+take-field-requires c κs = (search needs, search needs, search visit-few, search surveying-skips, search surveying-whole, search visit-readable, search registering-fit)
 
 enum-known-took : tie.Need-enum-known-took Inv-loop μ-loop
 enum-known-took c = search needs

@@ -1,16 +1,17 @@
 use Rattle.code.proofs.Blocks.{calls, indirect-uses}
+use Rattle.instr.proofs.Known.{calling-anywhere, indirect-known, indirect-use}
 use borrow.Author.Needs.{needs}
 use Rattle.code.proofs.block.indirect_record.Statement.{statement}
 use Rattle.code.proofs.block.indirect_record.Tie as tie
 
-read-optional-requires : tie.Need-read-optional-requires
-read-optional-requires c κs = search needs
+known-optional-requires : tie.Need-known-optional-requires
+known-optional-requires c κs = search (calling-anywhere, indirect-known, needs)
 
 enum-known-x : tie.Need-enum-known-x
 enum-known-x c = search needs
 
-read-type-use-requires : tie.Need-read-type-use-requires
-read-type-use-requires c κs = search needs
+known-type-use-requires : tie.Need-known-type-use-requires
+known-type-use-requires c κs = search (calling-anywhere, indirect-use, needs)
 
 enum-known-t : tie.Need-enum-known-t
 enum-known-t c = search needs
@@ -43,9 +44,9 @@ pub indirect-record-spec : {M : Type 1} → statement M
 indirect-record-spec =
     tie.close
     (tie.spec
-    read-optional-requires
+    known-optional-requires
     enum-known-x
-    read-type-use-requires
+    known-type-use-requires
     enum-known-t
     emit-indirect-requires
     go-on-requires

@@ -1,4 +1,5 @@
-use Rattle.code.proofs.Blocks.{openings, opens-uses, opens-known, opens-use}
+use Rattle.code.proofs.Blocks.{openings, opens-uses}
+use Rattle.instr.proofs.Known.{opens-known, opens-use}
 use borrow.Author.Needs.{needs}
 use Rattle.code.proofs.block.opens_record.Statement.{statement}
 use Rattle.code.proofs.block.opens_record.Tie as tie

@@ -1,5 +1,5 @@
 use Rattle.code.proofs.Places.{in-place, in-within}
-use Rattle.code.proofs.Bodies.{forms, folding-resolvable, opening-uses, calling-uses, opening-gets, elsing-gets, ending-gets, plain-gets}
+use Rattle.code.proofs.Bodies.{forms, folding-resolvable, opening-uses, calling-uses, calling-gets, opening-gets, elsing-gets, ending-gets, plain-gets}
 use borrow.Author.Needs.{needs}
 use Rattle.code.proofs.body.one_record.Statement.{statement}
 use Rattle.code.proofs.body.one_record.Tie as tie
@@ -28,41 +28,14 @@ same-length-2 c = search needs
 returns : tie.Need-returns
 returns c = search (forms) depth 12
 
+returns-2 : tie.Need-returns-2
+returns-2 c = search (forms) depth 12
+
 enum-told-2 : tie.Need-enum-told-2
 enum-told-2 c = search needs
 
 opens-record-requires : tie.Need-opens-record-requires
 opens-record-requires c κs = search (opening-uses, opening-gets, in-place, needs)
-
-enum-told-3 : tie.Need-enum-told-3
-enum-told-3 c = search needs
-
-closing-record-requires : tie.Need-closing-record-requires
-closing-record-requires c κs = search (elsing-gets, in-place, needs)
-
-enum-told-4 : tie.Need-enum-told-4
-enum-told-4 c = search needs
-
-closing-record-requires-2 : tie.Need-closing-record-requires-2
-closing-record-requires-2 c κs = search (ending-gets, in-place, needs)
-
-enum-told-5 : tie.Need-enum-told-5
-enum-told-5 c = search needs
-
-indirect-record-requires : tie.Need-indirect-record-requires
-indirect-record-requires c κs = search (calling-uses, in-place, needs)
-
-enum-known-what : tie.Need-enum-known-what
-enum-known-what c = search needs
-
-plain-record-requires : tie.Need-plain-record-requires
-plain-record-requires c κs = search (plain-gets, in-place, needs)
-
-enum-told-6 : tie.Need-enum-told-6
-enum-told-6 c = search needs
-
-returns-2 : tie.Need-returns-2
-returns-2 c = search (forms) depth 12
 
 same-length-3 : tie.Need-same-length-3
 same-length-3 c = search needs
@@ -73,6 +46,12 @@ same-length-4 c = search needs
 returns-3 : tie.Need-returns-3
 returns-3 c = search (forms) depth 12
 
+enum-told-3 : tie.Need-enum-told-3
+enum-told-3 c = search needs
+
+closing-record-requires : tie.Need-closing-record-requires
+closing-record-requires c κs = search (elsing-gets, in-place, needs)
+
 same-length-5 : tie.Need-same-length-5
 same-length-5 c = search needs
 
@@ -81,6 +60,12 @@ same-length-6 c = search needs
 
 returns-4 : tie.Need-returns-4
 returns-4 c = search (forms) depth 12
+
+enum-told-4 : tie.Need-enum-told-4
+enum-told-4 c = search needs
+
+closing-record-requires-2 : tie.Need-closing-record-requires-2
+closing-record-requires-2 c κs = search (ending-gets, in-place, needs)
 
 same-length-7 : tie.Need-same-length-7
 same-length-7 c = search needs
@@ -91,6 +76,12 @@ same-length-8 c = search needs
 returns-5 : tie.Need-returns-5
 returns-5 c = search (forms) depth 12
 
+enum-told-5 : tie.Need-enum-told-5
+enum-told-5 c = search needs
+
+indirect-record-requires : tie.Need-indirect-record-requires
+indirect-record-requires c κs = search (calling-uses, calling-gets, in-place, needs)
+
 same-length-9 : tie.Need-same-length-9
 same-length-9 c = search needs
 
@@ -100,6 +91,12 @@ same-length-10 c = search needs
 returns-6 : tie.Need-returns-6
 returns-6 c = search (forms) depth 12
 
+enum-known-what : tie.Need-enum-known-what
+enum-known-what c = search needs
+
+plain-record-requires : tie.Need-plain-record-requires
+plain-record-requires c κs = search (plain-gets, in-place, needs)
+
 same-length-11 : tie.Need-same-length-11
 same-length-11 c = search needs
 
@@ -108,6 +105,9 @@ same-length-12 c = search needs
 
 returns-7 : tie.Need-returns-7
 returns-7 c = search (forms) depth 12
+
+enum-told-6 : tie.Need-enum-told-6
+enum-told-6 c = search needs
 
 returns-8 : tie.Need-returns-8
 returns-8 c = search (forms) depth 12
@@ -124,31 +124,31 @@ one-record-spec =
     same-length
     same-length-2
     returns
+    returns-2
     enum-told-2
     opens-record-requires
-    enum-told-3
-    closing-record-requires
-    enum-told-4
-    closing-record-requires-2
-    enum-told-5
-    indirect-record-requires
-    enum-known-what
-    plain-record-requires
-    enum-told-6
-    returns-2
     same-length-3
     same-length-4
     returns-3
+    enum-told-3
+    closing-record-requires
     same-length-5
     same-length-6
     returns-4
+    enum-told-4
+    closing-record-requires-2
     same-length-7
     same-length-8
     returns-5
+    enum-told-5
+    indirect-record-requires
     same-length-9
     same-length-10
     returns-6
+    enum-known-what
+    plain-record-requires
     same-length-11
     same-length-12
     returns-7
+    enum-told-6
     returns-8)

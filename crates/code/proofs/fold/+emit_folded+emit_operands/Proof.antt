@@ -1,3 +1,4 @@
+use Rattle.instr.proofs.Stretches.{whole-folded}
 use borrow.Author.Needs.{needs}
 use Rattle.code.proofs.Places.{within-body}
 use Rattle.code.proofs.Folds.{foldings, folded-operands, folded-uses, folded-gets, Operating, operatings, operating-begin, operating-within, operating-resolvable, operating-out}
@@ -11,7 +12,7 @@ use Rattle.code.proofs.fold.emit_operands.Reads as emit-operands
 use Rattle.code.proofs.fold.emit_operands.Kinds as emit-operands-kinds
 use Rattle.code.proofs.fold.+emit_folded+emit_operands.Lts-emit_operands as emit-operands-lts
 use Rattle.code.proofs.fold.operator_last.Reads as operator-last-reads
-use Rattle.instr.proofs.pass_folded.Reads as pass-folded-reads
+use Rattle.instr.proofs.skip_folded.Reads as skip-folded-reads
 use Rattle.code.proofs.fold.+emit_folded+emit_operands.{statement}
 use Rattle.code.proofs.fold.+emit_folded+emit_operands.Tie.{close}
 
@@ -42,8 +43,8 @@ emit-operands-below t =
     emit-operands.Pre
 
 emit-folded-returns : (t : ℕ) → emit-folded-lts.Need-returns (
-  pass-folded-reads.Asked,
-  pass-folded-reads.Learnt,
+  skip-folded-reads.Asked,
+  skip-folded-reads.Learnt,
   emit-operands-below t,
   emit-operands.Post,
   operator-last-reads.Asked,
@@ -52,8 +53,8 @@ emit-folded-returns : (t : ℕ) → emit-folded-lts.Need-returns (
 emit-folded-returns t c = search (foldings) depth 12
 
 emit-folded-returns-2 : (t : ℕ) → emit-folded-lts.Need-returns-2 (
-  pass-folded-reads.Asked,
-  pass-folded-reads.Learnt,
+  skip-folded-reads.Asked,
+  skip-folded-reads.Learnt,
   emit-operands-below t,
   emit-operands.Post,
   operator-last-reads.Asked,
@@ -61,19 +62,19 @@ emit-folded-returns-2 : (t : ℕ) → emit-folded-lts.Need-returns-2 (
 ) (emit-folded-at t) emit-folded.Post
 emit-folded-returns-2 t c = search (foldings) depth 12
 
-emit-folded-pass-folded-requires : (t : ℕ) → emit-folded-lts.Need-pass-folded-requires (
-  pass-folded-reads.Asked,
-  pass-folded-reads.Learnt,
+emit-folded-skip-folded-requires : (t : ℕ) → emit-folded-lts.Need-skip-folded-requires (
+  skip-folded-reads.Asked,
+  skip-folded-reads.Learnt,
   emit-operands-below t,
   emit-operands.Post,
   operator-last-reads.Asked,
   operator-last-reads.Learnt,
 ) (emit-folded-at t) emit-folded.Post
-emit-folded-pass-folded-requires t c κs = search needs
+emit-folded-skip-folded-requires t c κs = search (whole-folded, needs)
 
 emit-folded-enum-known-a : (t : ℕ) → emit-folded-lts.Need-enum-known-a (
-  pass-folded-reads.Asked,
-  pass-folded-reads.Learnt,
+  skip-folded-reads.Asked,
+  skip-folded-reads.Learnt,
   emit-operands-below t,
   emit-operands.Post,
   operator-last-reads.Asked,
@@ -82,8 +83,8 @@ emit-folded-enum-known-a : (t : ℕ) → emit-folded-lts.Need-enum-known-a (
 emit-folded-enum-known-a t c = search needs
 
 emit-folded-emit-operands-requires : (t : ℕ) → emit-folded-lts.Need-emit-operands-requires (
-  pass-folded-reads.Asked,
-  pass-folded-reads.Learnt,
+  skip-folded-reads.Asked,
+  skip-folded-reads.Learnt,
   emit-operands-below t,
   emit-operands.Post,
   operator-last-reads.Asked,
@@ -92,8 +93,8 @@ emit-folded-emit-operands-requires : (t : ℕ) → emit-folded-lts.Need-emit-ope
 emit-folded-emit-operands-requires t c κs = search (within-body, folded-operands, needs)
 
 emit-folded-operator-last-requires : (t : ℕ) → emit-folded-lts.Need-operator-last-requires (
-  pass-folded-reads.Asked,
-  pass-folded-reads.Learnt,
+  skip-folded-reads.Asked,
+  skip-folded-reads.Learnt,
   emit-operands-below t,
   emit-operands.Post,
   operator-last-reads.Asked,
@@ -102,8 +103,8 @@ emit-folded-operator-last-requires : (t : ℕ) → emit-folded-lts.Need-operator
 emit-folded-operator-last-requires t c κs = search (within-body, folded-uses, folded-gets, needs)
 
 emit-folded-enum-told : (t : ℕ) → emit-folded-lts.Need-enum-told (
-  pass-folded-reads.Asked,
-  pass-folded-reads.Learnt,
+  skip-folded-reads.Asked,
+  skip-folded-reads.Learnt,
   emit-operands-below t,
   emit-operands.Post,
   operator-last-reads.Asked,
@@ -112,8 +113,8 @@ emit-folded-enum-told : (t : ℕ) → emit-folded-lts.Need-enum-told (
 emit-folded-enum-told t c = search needs
 
 emit-folded-same-length : (t : ℕ) → emit-folded-lts.Need-same-length (
-  pass-folded-reads.Asked,
-  pass-folded-reads.Learnt,
+  skip-folded-reads.Asked,
+  skip-folded-reads.Learnt,
   emit-operands-below t,
   emit-operands.Post,
   operator-last-reads.Asked,
@@ -122,8 +123,8 @@ emit-folded-same-length : (t : ℕ) → emit-folded-lts.Need-same-length (
 emit-folded-same-length t c = search needs
 
 emit-folded-returns-3 : (t : ℕ) → emit-folded-lts.Need-returns-3 (
-  pass-folded-reads.Asked,
-  pass-folded-reads.Learnt,
+  skip-folded-reads.Asked,
+  skip-folded-reads.Learnt,
   emit-operands-below t,
   emit-operands.Post,
   operator-last-reads.Asked,
@@ -132,8 +133,8 @@ emit-folded-returns-3 : (t : ℕ) → emit-folded-lts.Need-returns-3 (
 emit-folded-returns-3 t c = search (foldings) depth 12
 
 emit-folded-returns-4 : (t : ℕ) → emit-folded-lts.Need-returns-4 (
-  pass-folded-reads.Asked,
-  pass-folded-reads.Learnt,
+  skip-folded-reads.Asked,
+  skip-folded-reads.Learnt,
   emit-operands-below t,
   emit-operands.Post,
   operator-last-reads.Asked,
@@ -240,8 +241,8 @@ emit-operands-returns-3 t c = search (operatings) depth 12
 
 pub +emit-folded+emit-operands-spec : {M : Type 1} → statement M
 +emit-folded+emit-operands-spec = close μ-emit-folded μ-emit-operands (λ t. emit-folded-lts.spec (
-  pass-folded-reads.Asked,
-  pass-folded-reads.Learnt,
+  skip-folded-reads.Asked,
+  skip-folded-reads.Learnt,
   emit-operands-below t,
   emit-operands.Post,
   operator-last-reads.Asked,
@@ -251,7 +252,7 @@ pub +emit-folded+emit-operands-spec : {M : Type 1} → statement M
     emit-folded.Post
     (emit-folded-returns t)
     (emit-folded-returns-2 t)
-    (emit-folded-pass-folded-requires t)
+    (emit-folded-skip-folded-requires t)
     (emit-folded-enum-known-a t)
     (emit-folded-emit-operands-requires t)
     (emit-folded-operator-last-requires t)

@@ -1,4 +1,4 @@
-use Rattle.code.proofs.Folds.{operators, operator-calling-uses, operator-plain-gets}
+use Rattle.code.proofs.Folds.{operators, operator-calling-uses, operator-calling-gets, operator-plain-gets}
 use Rattle.code.proofs.Places.{in-place}
 use borrow.Author.Needs.{needs}
 use Rattle.code.proofs.fold.operator_record.Statement.{statement}
@@ -17,7 +17,7 @@ enum-told : tie.Need-enum-told
 enum-told c = search needs
 
 indirect-record-requires : tie.Need-indirect-record-requires
-indirect-record-requires c κs = search (operator-calling-uses, in-place, needs)
+indirect-record-requires c κs = search (operator-calling-uses, operator-calling-gets, in-place, needs)
 
 enum-known-what : tie.Need-enum-known-what
 enum-known-what c = search needs

@@ -1,6 +1,8 @@
 use Prim.Native.Nat.{ℕ, _+_, _*_, _<_}
 use borrow.Author.Needs.{needs}
-use Rattle.interning.proofs.Bodies.{trees, to-indexed, Operating, operands-begin, operands-again, operands-refused, operands-done}
+use Rattle.interning.proofs.Bodies.{trees, tree-whole, to-indexed, operands-whole, Operating, operands-begin, operands-again, operands-refused, operands-done}
+use Rattle.instr.proofs.Known.{fold-readable}
+use Rattle.instr.proofs.Stretches.{whole-folded}
 use borrow.Fn.Kinds.{In}
 use borrow.Fn.PlainCycle.{Measures, is, falls, and}
 use Rattle.interning.proofs.body.use_folded.Reads as use-folded
@@ -9,7 +11,7 @@ use Rattle.interning.proofs.body.+use_folded+use_operands.Lts-use_folde
 use Rattle.interning.proofs.body.use_operands.Reads as use-operands
 use Rattle.interning.proofs.body.use_operands.Kinds as use-operands-kinds
 use Rattle.interning.proofs.body.+use_folded+use_operands.Lts-use_operands as use-operands-lts
-use Rattle.instr.proofs.read_folded.Reads as read-folded-reads
+use Rattle.instr.proofs.known_folded.Reads as known-folded-reads
 use Rattle.interning.proofs.uses.use_instr.Reads as use-instr-reads
 use Rattle.interning.proofs.body.+use_folded+use_operands.{statement}
 use Rattle.interning.proofs.body.+use_folded+use_operands.Tie.{close}
@@ -41,8 +43,8 @@ use-operands-below t =
     use-operands.Pre
 
 use-folded-returns : (t : ℕ) → use-folded-lts.Need-returns (
-  read-folded-reads.Asked,
-  read-folded-reads.Learnt,
+  known-folded-reads.Asked,
+  known-folded-reads.Learnt,
   use-operands-below t,
   use-operands.Post,
   use-instr-reads.Asked,
@@ -51,8 +53,8 @@ use-folded-returns : (t : ℕ) → use-folded-lts.Need-returns (
 use-folded-returns t c = search trees depth 12
 
 use-folded-returns-2 : (t : ℕ) → use-folded-lts.Need-returns-2 (
-  read-folded-reads.Asked,
-  read-folded-reads.Learnt,
+  known-folded-reads.Asked,
+  known-folded-reads.Learnt,
   use-operands-below t,
   use-operands.Post,
   use-instr-reads.Asked,
@@ -60,19 +62,19 @@ use-folded-returns-2 : (t : ℕ) → use-folded-lts.Need-returns-2 (
 ) (use-folded-at t) use-folded.Post
 use-folded-returns-2 t c = search trees depth 12
 
-use-folded-read-folded-requires : (t : ℕ) → use-folded-lts.Need-read-folded-requires (
-  read-folded-reads.Asked,
-  read-folded-reads.Learnt,
+use-folded-known-folded-requires : (t : ℕ) → use-folded-lts.Need-known-folded-requires (
+  known-folded-reads.Asked,
+  known-folded-reads.Learnt,
   use-operands-below t,
   use-operands.Post,
   use-instr-reads.Asked,
   use-instr-reads.Learnt,
 ) (use-folded-at t) use-folded.Post
-use-folded-read-folded-requires t c κs = search needs
+use-folded-known-folded-requires t c κs = search (whole-folded, needs)
 
 use-folded-enum-known-i : (t : ℕ) → use-folded-lts.Need-enum-known-i (
-  read-folded-reads.Asked,
-  read-folded-reads.Learnt,
+  known-folded-reads.Asked,
+  known-folded-reads.Learnt,
   use-operands-below t,
   use-operands.Post,
   use-instr-reads.Asked,
@@ -81,8 +83,8 @@ use-folded-enum-known-i : (t : ℕ) → use-folded-lts.Need-enum-known-i (
 use-folded-enum-known-i t c = search needs
 
 use-folded-add-use-operands : (t : ℕ) → use-folded-lts.Need-add-use-operands (
-  read-folded-reads.Asked,
-  read-folded-reads.Learnt,
+  known-folded-reads.Asked,
+  known-folded-reads.Learnt,
   use-operands-below t,
   use-operands.Post,
   use-instr-reads.Asked,
@@ -91,18 +93,18 @@ use-folded-add-use-operands : (t : ℕ) → use-folded-lts.Need-add-use-operands
 use-folded-add-use-operands t c = search needs
 
 use-folded-use-operands-requires : (t : ℕ) → use-folded-lts.Need-use-operands-requires (
-  read-folded-reads.Asked,
-  read-folded-reads.Learnt,
+  known-folded-reads.Asked,
+  known-folded-reads.Learnt,
   use-operands-below t,
   use-operands.Post,
   use-instr-reads.Asked,
   use-instr-reads.Learnt,
 ) (use-folded-at t) use-folded.Post
-use-folded-use-operands-requires t c κs = (search needs, (search needs, search needs, search needs))
+use-folded-use-operands-requires t c κs = (search needs, (search needs, search needs, search needs, search tree-whole))
 
 use-folded-enum-known-k : (t : ℕ) → use-folded-lts.Need-enum-known-k (
-  read-folded-reads.Asked,
-  read-folded-reads.Learnt,
+  known-folded-reads.Asked,
+  known-folded-reads.Learnt,
   use-operands-below t,
   use-operands.Post,
   use-instr-reads.Asked,
@@ -111,18 +113,18 @@ use-folded-enum-known-k : (t : ℕ) → use-folded-lts.Need-enum-known-k (
 use-folded-enum-known-k t c = search needs
 
 use-folded-use-instr-requires : (t : ℕ) → use-folded-lts.Need-use-instr-requires (
-  read-folded-reads.Asked,
-  read-folded-reads.Learnt,
+  known-folded-reads.Asked,
+  known-folded-reads.Learnt,
   use-operands-below t,
   use-operands.Post,
   use-instr-reads.Asked,
   use-instr-reads.Learnt,
 ) (use-folded-at t) use-folded.Post
-use-folded-use-instr-requires t c κs = search (to-indexed, needs)
+use-folded-use-instr-requires t c κs = search (to-indexed, fold-readable, needs)
 
 use-folded-enum-known-m : (t : ℕ) → use-folded-lts.Need-enum-known-m (
-  read-folded-reads.Asked,
-  read-folded-reads.Learnt,
+  known-folded-reads.Asked,
+  known-folded-reads.Learnt,
   use-operands-below t,
   use-operands.Post,
   use-instr-reads.Asked,
@@ -131,8 +133,8 @@ use-folded-enum-known-m : (t : ℕ) → use-folded-lts.Need-enum-known-m (
 use-folded-enum-known-m t c = search needs
 
 use-folded-enum-known-q : (t : ℕ) → use-folded-lts.Need-enum-known-q (
-  read-folded-reads.Asked,
-  read-folded-reads.Learnt,
+  known-folded-reads.Asked,
+  known-folded-reads.Learnt,
   use-operands-below t,
   use-operands.Post,
   use-instr-reads.Asked,
@@ -141,8 +143,8 @@ use-folded-enum-known-q : (t : ℕ) → use-folded-lts.Need-enum-known-q (
 use-folded-enum-known-q t c = search needs
 
 use-folded-enum-known-q-2 : (t : ℕ) → use-folded-lts.Need-enum-known-q-2 (
-  read-folded-reads.Asked,
-  read-folded-reads.Learnt,
+  known-folded-reads.Asked,
+  known-folded-reads.Learnt,
   use-operands-below t,
   use-operands.Post,
   use-instr-reads.Asked,
@@ -151,8 +153,8 @@ use-folded-enum-known-q-2 : (t : ℕ) → use-folded-lts.Need-enum-known-q-2 (
 use-folded-enum-known-q-2 t c = search needs
 
 use-folded-enum-told : (t : ℕ) → use-folded-lts.Need-enum-told (
-  read-folded-reads.Asked,
-  read-folded-reads.Learnt,
+  known-folded-reads.Asked,
+  known-folded-reads.Learnt,
   use-operands-below t,
   use-operands.Post,
   use-instr-reads.Asked,
@@ -161,8 +163,8 @@ use-folded-enum-told : (t : ℕ) → use-folded-lts.Need-enum-told (
 use-folded-enum-told t c = search needs
 
 use-folded-add-t30 : (t : ℕ) → use-folded-lts.Need-add-t30 (
-  read-folded-reads.Asked,
-  read-folded-reads.Learnt,
+  known-folded-reads.Asked,
+  known-folded-reads.Learnt,
   use-operands-below t,
   use-operands.Post,
   use-instr-reads.Asked,
@@ -171,8 +173,8 @@ use-folded-add-t30 : (t : ℕ) → use-folded-lts.Need-add-t30 (
 use-folded-add-t30 t c = search needs
 
 use-folded-same-length : (t : ℕ) → use-folded-lts.Need-same-length (
-  read-folded-reads.Asked,
-  read-folded-reads.Learnt,
+  known-folded-reads.Asked,
+  known-folded-reads.Learnt,
   use-operands-below t,
   use-operands.Post,
   use-instr-reads.Asked,
@@ -181,8 +183,8 @@ use-folded-same-length : (t : ℕ) → use-folded-lts.Need-same-length (
 use-folded-same-length t c = search needs
 
 use-folded-returns-3 : (t : ℕ) → use-folded-lts.Need-returns-3 (
-  read-folded-reads.Asked,
-  read-folded-reads.Learnt,
+  known-folded-reads.Asked,
+  known-folded-reads.Learnt,
   use-operands-below t,
   use-operands.Post,
   use-instr-reads.Asked,
@@ -191,8 +193,8 @@ use-folded-returns-3 : (t : ℕ) → use-folded-lts.Need-returns-3 (
 use-folded-returns-3 t c = search trees depth 12
 
 use-folded-same-length-2 : (t : ℕ) → use-folded-lts.Need-same-length-2 (
-  read-folded-reads.Asked,
-  read-folded-reads.Learnt,
+  known-folded-reads.Asked,
+  known-folded-reads.Learnt,
   use-operands-below t,
   use-operands.Post,
   use-instr-reads.Asked,
@@ -201,8 +203,8 @@ use-folded-same-length-2 : (t : ℕ) → use-folded-lts.Need-same-length-2 (
 use-folded-same-length-2 t c = search needs
 
 use-folded-returns-4 : (t : ℕ) → use-folded-lts.Need-returns-4 (
-  read-folded-reads.Asked,
-  read-folded-reads.Learnt,
+  known-folded-reads.Asked,
+  known-folded-reads.Learnt,
   use-operands-below t,
   use-operands.Post,
   use-instr-reads.Asked,
@@ -211,8 +213,8 @@ use-folded-returns-4 : (t : ℕ) → use-folded-lts.Need-returns-4 (
 use-folded-returns-4 t c = search trees depth 12
 
 use-folded-same-length-3 : (t : ℕ) → use-folded-lts.Need-same-length-3 (
-  read-folded-reads.Asked,
-  read-folded-reads.Learnt,
+  known-folded-reads.Asked,
+  known-folded-reads.Learnt,
   use-operands-below t,
   use-operands.Post,
   use-instr-reads.Asked,
@@ -221,8 +223,8 @@ use-folded-same-length-3 : (t : ℕ) → use-folded-lts.Need-same-length-3 (
 use-folded-same-length-3 t c = search needs
 
 use-folded-returns-5 : (t : ℕ) → use-folded-lts.Need-returns-5 (
-  read-folded-reads.Asked,
-  read-folded-reads.Learnt,
+  known-folded-reads.Asked,
+  known-folded-reads.Learnt,
   use-operands-below t,
   use-operands.Post,
   use-instr-reads.Asked,
@@ -231,8 +233,8 @@ use-folded-returns-5 : (t : ℕ) → use-folded-lts.Need-returns-5 (
 use-folded-returns-5 t c = search trees depth 12
 
 use-folded-returns-6 : (t : ℕ) → use-folded-lts.Need-returns-6 (
-  read-folded-reads.Asked,
-  read-folded-reads.Learnt,
+  known-folded-reads.Asked,
+  known-folded-reads.Learnt,
   use-operands-below t,
   use-operands.Post,
   use-instr-reads.Asked,
@@ -256,7 +258,7 @@ use-operands-use-folded-requires : (t : ℕ) → use-operands-lts.Need-use-folde
   use-folded-below t,
   use-folded.Post,
 ) (use-operands-at t) use-operands.Post use-operands-Inv-loop use-operands-μ-loop
-use-operands-use-folded-requires t c κs = (search needs, (search needs, search needs, search needs))
+use-operands-use-folded-requires t c κs = (search needs, (search needs, search needs, search needs, search operands-whole))
 
 use-operands-enum-known-m : (t : ℕ) → use-operands-lts.Need-enum-known-m (
   use-folded-below t,
@@ -314,8 +316,8 @@ use-operands-returns-2 t c = search operands-done
 
 pub +use-folded+use-operands-spec : {M : Type 1} → statement M
 +use-folded+use-operands-spec = close μ-use-folded μ-use-operands (λ t. use-folded-lts.spec (
-  read-folded-reads.Asked,
-  read-folded-reads.Learnt,
+  known-folded-reads.Asked,
+  known-folded-reads.Learnt,
   use-operands-below t,
   use-operands.Post,
   use-instr-reads.Asked,
@@ -325,7 +327,7 @@ pub +use-folded+use-operands-spec : {M : Type 1} → statement M
     use-folded.Post
     (use-folded-returns t)
     (use-folded-returns-2 t)
-    (use-folded-read-folded-requires t)
+    (use-folded-known-folded-requires t)
     (use-folded-enum-known-i t)
     (use-folded-add-use-operands t)
     (use-folded-use-operands-requires t)

@@ -1,6 +1,7 @@
 use borrow.Author.Needs.{needs}
 use Prim.Native.Nat.{_-_}
-use Rattle.interning.proofs.Bodies.{Going, body-begin, body-again, fold-again, fold-less, bodies-over, read-nests}
+use Rattle.instr.proofs.Known.{body-readable}
+use Rattle.interning.proofs.Bodies.{Going, body-begin, body-read, body-tree, body-again, fold-again, fold-less, bodies-over, read-nests}
 use Rattle.interning.proofs.body.use_body.Statement.{statement}
 use Rattle.interning.proofs.body.use_body.Tie as tie
 
@@ -13,14 +14,14 @@ abbrev μ-loop : tie.MeasureT-loop
 loop-holds : tie.Need-loop-holds Inv-loop μ-loop
 loop-holds c = search body-begin
 
-read-body-requires : tie.Need-read-body-requires Inv-loop μ-loop
-read-body-requires c κs = search needs
+known-body-requires : tie.Need-known-body-requires Inv-loop μ-loop
+known-body-requires c κs = search (body-read, needs)
 
 enum-known-i : tie.Need-enum-known-i Inv-loop μ-loop
 enum-known-i c = search needs
 
 use-instr-requires : tie.Need-use-instr-requires Inv-loop μ-loop
-use-instr-requires c κs = search needs
+use-instr-requires c κs = search (body-readable, needs)
 
 enum-known-m : tie.Need-enum-known-m Inv-loop μ-loop
 enum-known-m c = search needs
@@ -50,7 +51,7 @@ enum-told : tie.Need-enum-told Inv-loop μ-loop
 enum-told c = search needs
 
 use-folded-requires : tie.Need-use-folded-requires Inv-loop μ-loop
-use-folded-requires c κs = search needs
+use-folded-requires c κs = search (body-tree, needs)
 
 enum-known-m-2 : tie.Need-enum-known-m-2 Inv-loop μ-loop
 enum-known-m-2 c = search needs
@@ -101,7 +102,7 @@ use-body-spec =
     Inv-loop
     μ-loop
     loop-holds
-    read-body-requires
+    known-body-requires
     enum-known-i
     use-instr-requires
     enum-known-m

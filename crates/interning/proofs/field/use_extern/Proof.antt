@@ -1,4 +1,4 @@
-use Rattle.interning.proofs.Fields.{externs}
+use Rattle.interning.proofs.Fields.{externs, readable-extern}
 use borrow.Author.Needs.{needs}
 use Rattle.interning.proofs.field.use_extern.Statement.{statement}
 use Rattle.interning.proofs.field.use_extern.Tie as tie
@@ -7,7 +7,7 @@ enum-known-x : tie.Need-enum-known-x
 enum-known-x c = search needs
 
 use-type-requires : tie.Need-use-type-requires
-use-type-requires c κs = search needs
+use-type-requires c κs = search (readable-extern, needs)
 
 enum-told : tie.Need-enum-told
 enum-told c = search needs

@@ -1,4 +1,4 @@
-use Rattle.interning.proofs.Fields.{records, skips-field}
+use Rattle.interning.proofs.Fields.{records, skips-field, whole-field, readable-item, readable-import}
 use borrow.Author.Needs.{needs}
 use Rattle.interning.proofs.field.use_field.Statement.{statement}
 use Rattle.interning.proofs.field.use_field.Tie as tie
@@ -10,13 +10,13 @@ enum-known-f : tie.Need-enum-known-f
 enum-known-f c = search needs
 
 use-extern-requires : tie.Need-use-extern-requires
-use-extern-requires c κs = search needs
+use-extern-requires c κs = search (readable-import, needs)
 
 enum-known-f-2 : tie.Need-enum-known-f-2
 enum-known-f-2 c = search needs
 
 use-source-requires : tie.Need-use-source-requires
-use-source-requires c κs = search (skips-field, needs)
+use-source-requires c κs = search (skips-field, whole-field, readable-item, needs)
 
 enum-told-2 : tie.Need-enum-told-2
 enum-told-2 c = search needs

@@ -1,4 +1,4 @@
-use Rattle.interning.proofs.Fields.{owns, skips-own}
+use Rattle.interning.proofs.Fields.{owns, skips-own, whole-own, readable-own}
 use borrow.Author.Needs.{needs}
 use Rattle.interning.proofs.field.use_own.Statement.{statement}
 use Rattle.interning.proofs.field.use_own.Tie as tie
@@ -7,7 +7,7 @@ enum-known-o : tie.Need-enum-known-o
 enum-known-o c = search needs
 
 use-func-requires : tie.Need-use-func-requires
-use-func-requires c κs = search (skips-own, needs)
+use-func-requires c κs = search (skips-own, whole-own, readable-own, needs)
 
 enum-told : tie.Need-enum-told
 enum-told c = search needs

@@ -1,4 +1,4 @@
-use Rattle.interning.proofs.Fields.{items, skips-source}
+use Rattle.interning.proofs.Fields.{items, skips-source, whole-source, readable-source, readable-imported}
 use borrow.Author.Needs.{needs}
 use Rattle.interning.proofs.field.use_source.Statement.{statement}
 use Rattle.interning.proofs.field.use_source.Tie as tie
@@ -7,13 +7,13 @@ enum-known-x : tie.Need-enum-known-x
 enum-known-x c = search needs
 
 use-own-requires : tie.Need-use-own-requires
-use-own-requires c κs = search (skips-source, needs)
+use-own-requires c κs = search (skips-source, whole-source, readable-source, needs)
 
 enum-known-x-2 : tie.Need-enum-known-x-2
 enum-known-x-2 c = search needs
 
 use-extern-requires : tie.Need-use-extern-requires
-use-extern-requires c κs = search needs
+use-extern-requires c κs = search (readable-imported, needs)
 
 enum-told : tie.Need-enum-told
 enum-told c = search needs

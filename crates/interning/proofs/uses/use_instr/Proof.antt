@@ -1,4 +1,5 @@
 use Rattle.interning.proofs.Takes.{instrs}
+use Rattle.instr.proofs.Known.{opens-readable, indirect-readable}
 use borrow.Author.Needs.{needs}
 use Rattle.interning.proofs.uses.use_instr.Statement.{statement}
 use Rattle.interning.proofs.uses.use_instr.Tie as tie
@@ -7,7 +8,7 @@ enum-known-i : tie.Need-enum-known-i
 enum-known-i c = search needs
 
 use-block-requires : tie.Need-use-block-requires
-use-block-requires c κs = search needs
+use-block-requires c κs = search (opens-readable, needs)
 
 enum-told : tie.Need-enum-told
 enum-told c = search needs
@@ -19,7 +20,7 @@ enum-known-i-2 : tie.Need-enum-known-i-2
 enum-known-i-2 c = search needs
 
 use-type-requires : tie.Need-use-type-requires
-use-type-requires c κs = search needs
+use-type-requires c κs = search (indirect-readable, needs)
 
 enum-told-3 : tie.Need-enum-told-3
 enum-told-3 c = search needs

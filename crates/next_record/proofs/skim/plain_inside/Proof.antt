@@ -1,26 +1,16 @@
-use Rattle.next_record.proofs.Naming.{plains-on}
+use Rattle.next_record.proofs.Naming.{plain-data, plain-on}
 use borrow.Author.Needs.{needs}
 use Rattle.next_record.proofs.skim.plain_inside.Statement.{statement}
 use Rattle.next_record.proofs.skim.plain_inside.Tie as tie
 
-enum-told : tie.Need-enum-told
-enum-told c = search needs
-
-byte-or-zero-requires : tie.Need-byte-or-zero-requires
-byte-or-zero-requires c κs = search needs
+names-data-requires : tie.Need-names-data-requires
+names-data-requires c κs = search needs
 
 returns : tie.Need-returns
-returns c = search plains-on
+returns c = search (plain-data, plain-on)
 
 returns-2 : tie.Need-returns-2
-returns-2 c = search plains-on
-
-returns-3 : tie.Need-returns-3
-returns-3 c = search plains-on
-
-returns-4 : tie.Need-returns-4
-returns-4 c = search plains-on
+returns-2 c = search (plain-data, plain-on)
 
 pub plain-inside-spec : {M : Type 1} → statement M
-plain-inside-spec =
-    tie.close (tie.spec enum-told byte-or-zero-requires returns returns-2 returns-3 returns-4)
+plain-inside-spec = tie.close (tie.spec names-data-requires returns returns-2)

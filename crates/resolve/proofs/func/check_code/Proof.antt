@@ -3,6 +3,12 @@ use borrow.Author.Needs.{needs}
 use Rattle.resolve.proofs.func.check_code.Statement.{statement}
 use Rattle.resolve.proofs.func.check_code.Tie as tie
 
+cast-from : tie.Need-cast-from
+cast-from c = search needs
+
+mul-from : tie.Need-mul-from
+mul-from c = search needs
+
 slice-read-from : tie.Need-slice-read-from
 slice-read-from c = search needs
 
@@ -46,6 +52,8 @@ pub check-code-spec : {M : Type 1} → statement M
 check-code-spec =
     tie.close
     (tie.spec
+    cast-from
+    mul-from
     slice-read-from
     keep-code-requires
     enum-known-to

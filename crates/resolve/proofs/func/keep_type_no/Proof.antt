@@ -4,6 +4,12 @@ use borrow.Author.Needs.{needs}
 use Rattle.resolve.proofs.func.keep_type_no.Statement.{statement}
 use Rattle.resolve.proofs.func.keep_type_no.Tie as tie
 
+cast-from : tie.Need-cast-from
+cast-from c = search needs
+
+mul-from : tie.Need-mul-from
+mul-from c = search needs
+
 slice-read-from : tie.Need-slice-read-from
 slice-read-from c = search needs
 
@@ -44,6 +50,8 @@ pub keep-type-no-spec : {M : Type 1} → statement M
 keep-type-no-spec =
     tie.close
     (tie.spec
+    cast-from
+    mul-from
     slice-read-from
     start-of-requires
     start-of-requires-2

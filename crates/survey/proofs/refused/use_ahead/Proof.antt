@@ -1,6 +1,6 @@
 use borrow.Author.Needs.{needs}
-use Rattle.walk.proofs.Steps.{visit-less, visit-few}
-use Rattle.survey.proofs.Surveying.{Using, using-begin, using-skips, using-done, using-refused, using-again}
+use Rattle.walk.proofs.Steps.{visit-less, visit-few, visit-readable}
+use Rattle.survey.proofs.Surveying.{Using, using-begin, using-skips, using-whole, using-done, using-refused, using-again}
 use Rattle.survey.proofs.refused.use_ahead.Statement.{statement}
 use Rattle.survey.proofs.refused.use_ahead.Tie as tie
 
@@ -20,7 +20,7 @@ enum-known-what : tie.Need-enum-known-what Inv-loop μ-loop
 enum-known-what c = search needs
 
 use-field-requires : tie.Need-use-field-requires Inv-loop μ-loop
-use-field-requires c κs = search (visit-few, using-skips, needs)
+use-field-requires c κs = (search needs, search needs, search visit-few, search using-skips, search using-whole, search visit-readable)
 
 enum-known-k : tie.Need-enum-known-k Inv-loop μ-loop
 enum-known-k c = search needs

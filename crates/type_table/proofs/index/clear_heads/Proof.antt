@@ -1,6 +1,6 @@
 use borrow.Author.Needs.{needs}
 use Prim.Native.Nat.{_-_}
-use Rattle.type_table.proofs.Chains.{Emptying, empty-begin, empty-again, empty-done}
+use Rattle.type_table.proofs.Indexed.{Emptying, empty-begin, empty-again, empty-done}
 use Rattle.type_table.proofs.index.clear_heads.Statement.{statement}
 use Rattle.type_table.proofs.index.clear_heads.Tie as tie
 

@@ -1,4 +1,4 @@
-use Rattle.type_table.proofs.Chains.{all-empty}
+use Rattle.type_table.proofs.Indexed.{all-empty}
 use borrow.Author.Needs.{needs}
 use Rattle.type_table.proofs.index.clear_index.Statement.{statement}
 use Rattle.type_table.proofs.index.clear_index.Tie as tie

@@ -1,4 +1,4 @@
-use Rattle.type_table.proofs.Chains.{hash-differs, hash-agrees}
+use Rattle.type_table.proofs.Indexed.{hash-differs, hash-agrees}
 use borrow.Author.Needs.{needs}
 use Rattle.type_table.proofs.index.has_hash.Statement.{statement}
 use Rattle.type_table.proofs.index.has_hash.Tie as tie

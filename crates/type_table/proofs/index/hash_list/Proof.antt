@@ -14,8 +14,8 @@ abbrev μ-loop : tie.MeasureT-loop
 loop-holds : tie.Need-loop-holds Inv-loop μ-loop
 loop-holds c = search hash-begin
 
-next-type-requires : tie.Need-next-type-requires Inv-loop μ-loop
-next-type-requires c κs = search needs
+known-type-requires : tie.Need-known-type-requires Inv-loop μ-loop
+known-type-requires c κs = search needs
 
 enum-known-t : tie.Need-enum-known-t Inv-loop μ-loop
 enum-known-t c = search needs
@@ -48,7 +48,7 @@ hash-list-spec =
     Inv-loop
     μ-loop
     loop-holds
-    next-type-requires
+    known-type-requires
     enum-known-t
     mix-requires
     sub-left

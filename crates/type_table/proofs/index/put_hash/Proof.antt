@@ -1,4 +1,4 @@
-use Rattle.type_table.proofs.Chains.{hash-words}
+use Rattle.type_table.proofs.Indexed.{hash-words}
 use borrow.Author.Needs.{needs}
 use Rattle.type_table.proofs.index.put_hash.Statement.{statement}
 use Rattle.type_table.proofs.index.put_hash.Tie as tie

@@ -1,4 +1,4 @@
-use Rattle.type_table.proofs.Chains.{add-again, again-fits}
+use Rattle.type_table.proofs.Indexed.{add-again, again-fits}
 use borrow.Author.Needs.{needs}
 use Rattle.type_table.proofs.table.add_again.Statement.{statement}
 use Rattle.type_table.proofs.table.add_again.Tie as tie

@@ -1,5 +1,5 @@
-use Rattle.type_table.proofs.Chains.{add-new, fresh-fits}
-use Rattle.type_table.proofs.Chains.{add-new}
+use Rattle.type_table.proofs.Indexed.{add-new, fresh-fits}
+use Rattle.type_table.proofs.Indexed.{add-new}
 use borrow.Author.Needs.{needs}
 use Rattle.type_table.proofs.table.add_type.Statement.{statement}
 use Rattle.type_table.proofs.table.add_type.Tie as tie

@@ -1,5 +1,5 @@
 use borrow.Author.Needs.{needs}
-use Rattle.type_table.proofs.Chains.{none-found, some-found}
+use Rattle.type_table.proofs.Indexed.{none-found, some-found}
 use Rattle.type_table.proofs.Hashes.{hash-told}
 use Rattle.type_table.proofs.table.declare_type.Statement.{statement}
 use Rattle.type_table.proofs.table.declare_type.Tie as tie

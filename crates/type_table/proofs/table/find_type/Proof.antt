@@ -1,35 +1,44 @@
 use borrow.Author.Needs.{needs}
-use Rattle.type_table.proofs.Lists.{InStep, in-step-begin, in-step-again, in-step-less}
-use Rattle.type_table.proofs.Chains.{Seeking, seek-begin, seek-less, seek-hash, seek-params, seek-results, seek-found, seek-none}
+use Prim.Native.Nat.{_-_}
+use Rattle.area.specs.Layout.{HASHES}
+use Rattle.type_table.proofs.Known.{KnownStep, known-begin, known-again, type-readable}
+use Rattle.type_table.proofs.Lists.{in-step-less}
+use Rattle.type_table.proofs.Indexed.{Seeking, seek-begin, seek-inside, seek-few, seek-count, seek-entry, seek-less, seek-hash, seek-params, seek-results, seek-found, seek-none}
 use Rattle.type_table.proofs.table.find_type.Statement.{statement}
 use Rattle.type_table.proofs.table.find_type.Tie as tie
 
 abbrev Inv-loop : tie.InvT-loop
-Inv-loop s work count x h link this y a₀ b₀ a b = InStep s (x .named) (x .params) (y .named) (y .params) a b
+Inv-loop s work count x h place bits link this y a₀ b₀ a b = KnownStep s (x .named) (x .params) (y .named) (y .params) a b
 
 abbrev μ-loop : tie.MeasureT-loop
-μ-loop s work count x h link this y a₀ b₀ a b = a .count
+μ-loop s work count x h place bits link this y a₀ b₀ a b = a .count
 
 abbrev Inv-types : tie.InvT-types
-Inv-types s work count x h link₀ link = Seeking s work count x link
+Inv-types s work count x h place₀ bits₀ place bits = Seeking s work count x place bits
 
 abbrev μ-types : tie.MeasureT-types
-μ-types s work count x h link₀ link = link
+μ-types s work count x h place₀ bits₀ place bits = HASHES - place
 
-first-link-requires : tie.Need-first-link-requires Inv-loop μ-loop Inv-types μ-types
-first-link-requires c κs = search needs
+head-place-requires : tie.Need-head-place-requires Inv-loop μ-loop Inv-types μ-types
+head-place-requires c κs = search needs
 
 types-holds : tie.Need-types-holds Inv-loop μ-loop Inv-types μ-types
 types-holds c = search seek-begin
 
+link-at-requires : tie.Need-link-at-requires Inv-loop μ-loop Inv-types μ-types
+link-at-requires c κs = search (seek-inside, needs)
+
+returns : tie.Need-returns Inv-loop μ-loop Inv-types μ-types
+returns c = search seek-none
+
 sub-this : tie.Need-sub-this Inv-loop μ-loop Inv-types μ-types
 sub-this c = search needs
 
-link-after-requires : tie.Need-link-after-requires Inv-loop μ-loop Inv-types μ-types
-link-after-requires c κs = search needs
+branch-place-requires : tie.Need-branch-place-requires Inv-loop μ-loop Inv-types μ-types
+branch-place-requires c κs = search needs
 
 has-hash-requires : tie.Need-has-hash-requires Inv-loop μ-loop Inv-types μ-types
-has-hash-requires c κs = search needs
+has-hash-requires c κs = search (seek-few, needs)
 
 types-less : tie.Need-types-less Inv-loop μ-loop Inv-types μ-types
 types-less c = search seek-less
@@ -47,10 +56,10 @@ add-type-at : tie.Need-add-type-at Inv-loop μ-loop Inv-types μ-types
 add-type-at c = search needs
 
 type-at-requires : tie.Need-type-at-requires Inv-loop μ-loop Inv-types μ-types
-type-at-requires c κs = search needs
+type-at-requires c κs = search (seek-entry, needs)
 
 loop-holds : tie.Need-loop-holds Inv-loop μ-loop Inv-types μ-types
-loop-holds c = search in-step-begin
+loop-holds c = search (known-begin, type-readable, seek-count)
 
 next-both-requires : tie.Need-next-both-requires Inv-loop μ-loop Inv-types μ-types
 next-both-requires c κs = search needs
@@ -62,7 +71,7 @@ loop-less : tie.Need-loop-less Inv-loop μ-loop Inv-types μ-types
 loop-less c = search in-step-less
 
 loop-again : tie.Need-loop-again Inv-loop μ-loop Inv-types μ-types
-loop-again c = search in-step-again
+loop-again c = search known-again
 
 enum-told : tie.Need-enum-told Inv-loop μ-loop Inv-types μ-types
 enum-told c = search needs
@@ -79,17 +88,14 @@ enum-told-2 c = search needs
 same-list-requires : tie.Need-same-list-requires Inv-loop μ-loop Inv-types μ-types
 same-list-requires c κs = search needs
 
-returns : tie.Need-returns Inv-loop μ-loop Inv-types μ-types
-returns c = search seek-found
+returns-2 : tie.Need-returns-2 Inv-loop μ-loop Inv-types μ-types
+returns-2 c = search seek-found
 
 types-less-3 : tie.Need-types-less-3 Inv-loop μ-loop Inv-types μ-types
 types-less-3 c = search seek-less
 
 types-again-3 : tie.Need-types-again-3 Inv-loop μ-loop Inv-types μ-types
 types-again-3 c = search seek-results
-
-returns-2 : tie.Need-returns-2 Inv-loop μ-loop Inv-types μ-types
-returns-2 c = search seek-none
 
 pub find-type-spec : {M : Type 1} → statement M
 find-type-spec =
@@ -99,10 +105,12 @@ find-type-spec =
     μ-loop
     Inv-types
     μ-types
-    first-link-requires
+    head-place-requires
     types-holds
+    link-at-requires
+    returns
     sub-this
-    link-after-requires
+    branch-place-requires
     has-hash-requires
     types-less
     types-again
@@ -120,7 +128,6 @@ find-type-spec =
     types-again-2
     enum-told-2
     same-list-requires
-    returns
+    returns-2
     types-less-3
-    types-again-3
-    returns-2)
+    types-again-3)

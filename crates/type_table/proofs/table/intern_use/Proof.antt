@@ -1,7 +1,8 @@
 use Rattle.type_table.proofs.Hashes.{hash-told}
 use borrow.Author.Needs.{needs}
+use Rattle.type_table.proofs.Known.{use-readable}
 use Rattle.type_table.proofs.Types.{intern-takes}
-use Rattle.type_table.proofs.Chains.{none-used}
+use Rattle.type_table.proofs.Indexed.{none-used}
 use Rattle.type_table.proofs.table.intern_use.Statement.{statement}
 use Rattle.type_table.proofs.table.intern_use.Tie as tie
 
@@ -9,10 +10,10 @@ of-use-requires : tie.Need-of-use-requires
 of-use-requires c κs = search needs
 
 hash-of-requires : tie.Need-hash-of-requires
-hash-of-requires c κs = search needs
+hash-of-requires c κs = search (use-readable, needs)
 
 find-type-requires : tie.Need-find-type-requires
-find-type-requires c κs = search (hash-told, needs)
+find-type-requires c κs = search (hash-told, use-readable, needs)
 
 enum-known-n : tie.Need-enum-known-n
 enum-known-n c = search needs
@@ -21,7 +22,7 @@ enum-told : tie.Need-enum-told
 enum-told c = search needs
 
 add-use-requires : tie.Need-add-use-requires
-add-use-requires c κs = (search needs, search needs, search none-used)
+add-use-requires c κs = (search needs, search needs, search (none-used, use-readable))
 
 same-length : tie.Need-same-length
 same-length c = search needs

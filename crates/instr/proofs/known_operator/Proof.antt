@@ -1,12 +1,13 @@
 use Rattle.definition.specs.Instructions as Instructions
 use Rattle.expr.proofs.Ways.{plain-answers}
+use Rattle.instr.proofs.Known.{operator-calling}
 use Rattle.instr.proofs.Ways.{operator-is, instr-answers}
 use Rattle.laws.proofs.Ways.{ways}
 use Rattle.token.proofs.Ways.{answers}
 use Rattle.typeuse.proofs.Ways.{use-answers}
 use borrow.Author.Needs.{needs}
-use Rattle.instr.proofs.read_operator.Statement.{statement}
-use Rattle.instr.proofs.read_operator.Tie as tie
+use Rattle.instr.proofs.known_operator.Statement.{statement}
+use Rattle.instr.proofs.known_operator.Tie as tie
 
 read-byte-requires : tie.Need-read-byte-requires
 read-byte-requires c κs = search needs
@@ -21,7 +22,7 @@ enum-told : tie.Need-enum-told
 enum-told c = search needs
 
 indirect-requires : tie.Need-indirect-requires
-indirect-requires c κs = search needs
+indirect-requires c κs = search (operator-calling, needs)
 
 returns : tie.Need-returns
 unfolding Instructions.operator Instructions.instruction Instructions.mayFold
@@ -82,8 +83,8 @@ returns-8 : tie.Need-returns-8
 unfolding Instructions.operator Instructions.instruction Instructions.mayFold
 returns-8 c = search (operator-is, ways, answers, use-answers, plain-answers, instr-answers) depth 12
 
-pub read-operator-spec : {M : Type 1} → statement M
-read-operator-spec =
+pub known-operator-spec : {M : Type 1} → statement M
+known-operator-spec =
     tie.close
     (tie.spec
     read-byte-requires

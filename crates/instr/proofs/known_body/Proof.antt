@@ -1,9 +1,10 @@
 use Rattle.instr.specs.Bodies.{headAt}
+use Rattle.instr.proofs.Known.{body-formed, instr-readable}
 use Rattle.instr.proofs.Ways.{heads}
 use Rattle.laws.proofs.Exits.{exits}
 use borrow.Author.Needs.{needs}
-use Rattle.instr.proofs.read_body.Statement.{statement}
-use Rattle.instr.proofs.read_body.Tie as tie
+use Rattle.instr.proofs.known_body.Statement.{statement}
+use Rattle.instr.proofs.known_body.Tie as tie
 
 read-byte-requires : tie.Need-read-byte-requires
 read-byte-requires c κs = search needs
@@ -24,14 +25,14 @@ unfolding headAt
 returns-3 c = search (heads, exits) depth 12
 
 formed-requires : tie.Need-formed-requires
-formed-requires c κs = search needs
+formed-requires c κs = search (body-formed, needs)
 
 enum-known-i : tie.Need-enum-known-i
 enum-known-i c = search needs
 
 returns-4 : tie.Need-returns-4
 unfolding headAt
-returns-4 c = search (heads, exits) depth 12
+returns-4 c = search (instr-readable, heads, exits) depth 12
 
 enum-told : tie.Need-enum-told
 enum-told c = search needs
@@ -47,8 +48,8 @@ returns-6 : tie.Need-returns-6
 unfolding headAt
 returns-6 c = search (heads, exits) depth 12
 
-pub read-body-spec : {M : Type 1} → statement M
-read-body-spec =
+pub known-body-spec : {M : Type 1} → statement M
+known-body-spec =
     tie.close
     (tie.spec
     read-byte-requires

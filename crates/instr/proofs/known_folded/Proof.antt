@@ -1,11 +1,12 @@
 use Rattle.definition.specs.Instructions as Instructions
 use Rattle.instr.specs.Bodies.{foldHere}
+use Rattle.instr.proofs.Known.{folded-operator, instr-readable}
 use Rattle.instr.proofs.Ways.{instr-answers}
 use Rattle.laws.proofs.Ways.{ways}
 use Rattle.token.proofs.Ways.{answers}
 use borrow.Author.Needs.{needs}
-use Rattle.instr.proofs.read_folded.Statement.{statement}
-use Rattle.instr.proofs.read_folded.Tie as tie
+use Rattle.instr.proofs.known_folded.Statement.{statement}
+use Rattle.instr.proofs.known_folded.Tie as tie
 
 read-byte-requires : tie.Need-read-byte-requires
 read-byte-requires c κs = search needs
@@ -13,8 +14,8 @@ read-byte-requires c κs = search needs
 enum-known-a : tie.Need-enum-known-a
 enum-known-a c = search needs
 
-read-operator-requires : tie.Need-read-operator-requires
-read-operator-requires c κs = search needs
+known-operator-requires : tie.Need-known-operator-requires
+known-operator-requires c κs = search (folded-operator, needs)
 
 enum-known-i : tie.Need-enum-known-i
 enum-known-i c = search needs
@@ -27,7 +28,7 @@ enum-known-n c = search needs
 
 returns : tie.Need-returns
 unfolding foldHere Instructions.fold
-returns c = search (ways, answers, instr-answers) depth 12
+returns c = search (instr-readable, ways, answers, instr-answers) depth 12
 
 enum-known-e : tie.Need-enum-known-e
 enum-known-e c = search needs
@@ -50,13 +51,13 @@ returns-4 : tie.Need-returns-4
 unfolding foldHere Instructions.fold
 returns-4 c = search (ways, answers, instr-answers) depth 12
 
-pub read-folded-spec : {M : Type 1} → statement M
-read-folded-spec =
+pub known-folded-spec : {M : Type 1} → statement M
+known-folded-spec =
     tie.close
     (tie.spec
     read-byte-requires
     enum-known-a
-    read-operator-requires
+    known-operator-requires
     enum-known-i
     up-to-requires
     enum-known-n
