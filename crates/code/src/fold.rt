@@ -126,7 +126,12 @@ fn emit_operands(
         match emit_folded(s, work, out, o, q, l, left) {
             Turn::On(b, end) => {
                 o = b;
-                q = end;
+                // by its fields: a copy of the whole waits for all three to be stored
+                q = Place {
+                    at: end.at,
+                    rec: end.rec,
+                    depth: end.depth,
+                };
             }
             Turn::Done => {
                 return Turn::Done;

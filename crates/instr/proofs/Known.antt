@@ -4,10 +4,6 @@ use mathlib.Core.Option.{Option}
 use Prim.Native.Nat.{ℕ}
 use lib.Dec.{ltb}
 use borrow.Author.Tests.{ne-eqb}
-use mathlib.Core.Bool.{Bool, true, false, false≢true}
-use mathlib.Core.List.{List, [], _∷_}
-use types.Run.{OneOf, miss}
-use denote.Enum.Declared.{tagOf}
 use native.Mathlib.Omega.{arith}
 use Rattle.definition.specs.Syntax as Syntax
 use Rattle.definition.specs.Syntax.{Bytes, Identifier}
@@ -32,10 +28,11 @@ use Rattle.syntax.specs.declared.TypeUse.{TypeUse}
 use Rattle.syntax.specs.TypeUses.{useAt}
 use Rattle.syntax.specs.declared.UseAt.{UseAt}
 use Rattle.syntax.specs.declared.UseAt.the-variants as UA
-use Rattle.syntax.proofs.Operands as OperandsOf
-use Rattle.token.proofs.Skips.{stops-made}
 use Rattle.syntax.specs.declared.Skip.the-variants as S
-use Rattle.syntax.specs.Plain.{operandsIs}
+use Rattle.syntax.specs.Plain.{operandsIs, plainAt}
+use Rattle.syntax.specs.declared.Plain.{Plain}
+use Rattle.syntax.specs.declared.PlainAt.{PlainAt}
+use Rattle.syntax.specs.declared.PlainAt.the-variants as PA
 use Rattle.syntax.specs.declared.Operands.{Operands}
 use Rattle.syntax.specs.declared.Operands.the-variants as W
 use Rattle.expr.proofs.Skips.{any-opcode}
@@ -51,7 +48,6 @@ use Rattle.syntax.specs.declared.BodyAt.the-variants as BA
 use Rattle.syntax.specs.declared.FoldAt.{FoldAt}
 use Rattle.syntax.specs.declared.FoldAt.the-variants as FA
 use Rattle.instr.specs.Bodies.{deepInstr, oneOf, headAt, foldHere}
-use Rattle.instr.specs.Readers.{isIndex}
 use Rattle.instr.specs.Known.{IsRead, ReadableInstr, ReadableAt, ReadableBody, ReadableFold}
 use Rattle.instr.proofs.Ways.{deep-opening, deep-elsing, deep-ending}
 
@@ -160,88 +156,35 @@ fold-operator s at g = gets-first _ (operator s at) g
 
 -- ## Indices
 
--- operands that are one index
-pub index-known : (s : Bytes) (at : ℕ) (w : Operands) (b : Bool) → Gets (plainOf 0 (operandsIs w) s at) → b ≡ isIndex w → b ≡ true → Gets (present s at)
-unfolding plainOf
-index-known s at w b g e d = go w (sym e ∙ d) g
-  where
-    go : (v : Operands) → isIndex v ≡ true → Gets (plainOf 0 (operandsIs v) s at) → Gets (present s at)
-    go W.LabelIdx h g = gets-first _ (present s at) g
-    go W.LocalIdx h g = gets-first _ (present s at) g
-    go W.FuncIdx h g = gets-first _ (present s at) g
-    go W.GlobalIdx h g = gets-first _ (present s at) g
-    go W.Bare h g = absurd (false≢true h)
-    go W.LabelIdxs h g = absurd (false≢true h)
-    go W.MemIdx h g = absurd (false≢true h)
-    go W.MemArg h g = absurd (false≢true h)
-    go W.I32 h g = absurd (false≢true h)
-    go W.I64 h g = absurd (false≢true h)
-    go W.F32 h g = absurd (false≢true h)
-    go W.F64 h g = absurd (false≢true h)
-    go W.HeapType h g = absurd (false≢true h)
-    go W.Bulk h g = absurd (false≢true h)
+-- operands that are one index: it is there
+module _ (s : Bytes) (at : ℕ) (w : Operands) (g : Gets (plainOf 0 (operandsIs w) s at)) where
+  pub label-gets : w ≡ W.LabelIdx → Gets (present s at)
+  unfolding plainOf
+  label-gets d = gets-first _ (present s at) (rw d at g)
 
-pub index-passed : (s : Bytes) (at : ℕ) (w : Operands) (b : Bool) (x : Step (Unit {0})) → b ≡ isIndex w → b ≡ true → stops (present s at) ≡ x → stops (plainOf 0 (operandsIs w) s at) ≡ x
-unfolding plainOf
-index-passed s at w b x e d p = go w (sym e ∙ d)
-  where
-    go : (v : Operands) → isIndex v ≡ true → stops (plainOf 0 (operandsIs v) s at) ≡ x
-    go W.LabelIdx h = stops-made _ (present s at) ∙ p
-    go W.LocalIdx h = stops-made _ (present s at) ∙ p
-    go W.FuncIdx h = stops-made _ (present s at) ∙ p
-    go W.GlobalIdx h = stops-made _ (present s at) ∙ p
-    go W.Bare h = absurd (false≢true h)
-    go W.LabelIdxs h = absurd (false≢true h)
-    go W.MemIdx h = absurd (false≢true h)
-    go W.MemArg h = absurd (false≢true h)
-    go W.I32 h = absurd (false≢true h)
-    go W.I64 h = absurd (false≢true h)
-    go W.F32 h = absurd (false≢true h)
-    go W.F64 h = absurd (false≢true h)
-    go W.HeapType h = absurd (false≢true h)
-    go W.Bulk h = absurd (false≢true h)
+  pub local-gets : w ≡ W.LocalIdx → Gets (present s at)
+  unfolding plainOf
+  local-gets d = gets-first _ (present s at) (rw d at g)
 
--- which operands are one
-module _ (w : Operands) where
-  pub is-label : w ≡ W.LabelIdx → true ≡ isIndex w
-  is-label d = rw d refl
+  pub func-gets : w ≡ W.FuncIdx → Gets (present s at)
+  unfolding plainOf
+  func-gets d = gets-first _ (present s at) (rw d at g)
 
-  pub is-local : w ≡ W.LocalIdx → true ≡ isIndex w
-  is-local d = rw d refl
+  pub global-gets : w ≡ W.GlobalIdx → Gets (present s at)
+  unfolding plainOf
+  global-gets d = gets-first _ (present s at) (rw d at g)
 
-  pub is-func : w ≡ W.FuncIdx → true ≡ isIndex w
-  is-func d = rw d refl
+pub ruleset indices = (label-gets, local-gets, func-gets, global-gets)
 
-  pub is-global : w ≡ W.GlobalIdx → true ≡ isIndex w
-  is-global d = rw d refl
+-- operands that were read and dropped
+module _ (s : Bytes) (at : ℕ) (w : Operands) (q : PlainAt) (told : plainOf 0 (operandsIs w) s at ≡ plainAt s q) where
+  pub read-past : (p : Plain) (n : ℕ) → q ≡ PA.Got p n → stops (plainOf 0 (operandsIs w) s at) ≡ skip (S.Past n)
+  read-past p n d = rw (told, d) refl
 
-abbrev Others : List ℕ
-Others = 0 ∷ 2 ∷ 6 ∷ 7 ∷ 8 ∷ 9 ∷ 10 ∷ 11 ∷ 12 ∷ 13 ∷ []
+  pub read-not : (n : ℕ) → q ≡ PA.Fault n → stops (plainOf 0 (operandsIs w) s at) ≡ skip (S.Fault n)
+  read-not n d = rw (told, d) refl
 
-pub is-none : (w : Operands) → OneOf Others (tagOf OperandsOf.the-type w) → false ≡ isIndex w
-is-none W.Bare h = refl
-is-none W.LabelIdx h = absurd (miss Others 1 tt h)
-is-none W.LabelIdxs h = refl
-is-none W.LocalIdx h = absurd (miss Others 3 tt h)
-is-none W.FuncIdx h = absurd (miss Others 4 tt h)
-is-none W.GlobalIdx h = absurd (miss Others 5 tt h)
-is-none W.MemIdx h = refl
-is-none W.MemArg h = refl
-is-none W.I32 h = refl
-is-none W.I64 h = refl
-is-none W.F32 h = refl
-is-none W.F64 h = refl
-is-none W.HeapType h = refl
-is-none W.Bulk h = refl
-
-pub ruleset indices = (is-label, is-local, is-func, is-global, is-none)
-
-module _ (s : Bytes) (at : ℕ) (q : IndexAt) (told : present s at ≡ indexAt s q) where
-  pub index-past : (x : Index) (n : ℕ) → q ≡ X.Got x n → stops (present s at) ≡ skip (S.Past n)
-  index-past x n d = rw (told, d) refl
-
-  pub index-not : (n : ℕ) → q ≡ X.Fault n → stops (present s at) ≡ skip (S.Fault n)
-  index-not n d = rw (told, d) refl
+pub ruleset dropped = (read-past, read-not)
 
 -- a call_indirect
 module _ (s : Bytes) (op at : ℕ) (q : IndexAt) (table : optional s at ≡ indexAt s q) where

@@ -1,7 +1,6 @@
 -- Readers of the definition as the code divides them, and what its answers mean.
 use Prim.Native.Nat.{ℕ}
 use mathlib.Core.Option.{Option, none, some}
-use mathlib.Core.Bool.{Bool, true, false}
 use lib.Dec.{eqb, ltb}
 use Rattle.definition.specs.Basic.{if_then_else_}
 use Rattle.definition.specs.Syntax.{Bytes, Identifier, Rec, field, instr, folded, bodyEnd}
@@ -9,8 +8,6 @@ use Rattle.definition.specs.Reader.{Step, got, fault, byte}
 use Rattle.definition.specs.Instructions as Instructions
 use Rattle.definition.specs.Instructions.{opening, elsing, ending, calling, operands}
 use Rattle.syntax.specs.Instructions.{instrIs}
-use Rattle.syntax.specs.declared.Operands as Code
-use Rattle.syntax.specs.declared.Operands.the-variants as W
 use Rattle.syntax.specs.declared.BodyAt.{BodyAt}
 use Rattle.syntax.specs.declared.BodyAt.the-variants as BA
 use Rattle.syntax.specs.declared.Folding.{Folding}
@@ -61,23 +58,6 @@ headIs s (BA.Got i next) = one (instrIs s i) next
 headIs s BA.Folded = folding
 headIs s (BA.End next) = ended next
 headIs s BA.Unread = unread
-
--- operands that are one index
-abbrev pub isIndex : Code.Operands → Bool
-isIndex W.Bare = false
-isIndex W.LabelIdx = true
-isIndex W.LabelIdxs = false
-isIndex W.LocalIdx = true
-isIndex W.FuncIdx = true
-isIndex W.GlobalIdx = true
-isIndex W.MemIdx = false
-isIndex W.MemArg = false
-isIndex W.I32 = false
-isIndex W.I64 = false
-isIndex W.F32 = false
-isIndex W.F64 = false
-isIndex W.HeapType = false
-isIndex W.Bulk = false
 
 -- the count of a folded record's operands
 abbrev pub countOf : Step (Rec Identifier) → Step ℕ

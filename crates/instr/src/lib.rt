@@ -4,21 +4,17 @@ use syntax::ByteAt;
 use syntax::FoldAt;
 use syntax::Folding;
 use syntax::Form;
-use syntax::Index;
 use syntax::IndexAt;
 use syntax::Instr;
 use syntax::InstrAt;
 use syntax::Operands;
-use syntax::Part;
 use syntax::PartAt;
 use syntax::Plain;
 use syntax::PlainAt;
 use syntax::Skip;
-use syntax::TypeUse;
 use syntax::U32;
 use syntax::UseAt;
 ghost use mathlib.Core.Path.{_≡_};
-ghost use Rattle.definition.specs.Token as Token;
 ghost use Rattle.definition.specs.Instructions as Instructions;
 ghost use Rattle.laws.specs.Depths.{deep};
 ghost use Rattle.laws.specs.Steps.{stops};
@@ -29,7 +25,7 @@ ghost use Rattle.syntax.specs.Plain.{operandsIs};
 ghost use Rattle.syntax.specs.Instructions.{formIs, instrAt, foldAt};
 ghost use Rattle.instr.specs.Bodies.{deepInstr, headAt, foldHere};
 ghost use Rattle.instr.specs.Known.{IsRead, ReadableAt, ReadableBody, ReadableFold};
-ghost use Rattle.instr.specs.Readers.{lowForm, middleForm, highForm, headIs, isIndex, countOf, partsAt};
+ghost use Rattle.instr.specs.Readers.{lowForm, middleForm, highForm, headIs, countOf, partsAt};
 
 // Opcodes below 20: control, and drop and select.
 fn low_form(b: u8) -> Form
@@ -340,6 +336,21 @@ pub fn known_folded(s: &[u8], at: usize) -> FoldAt
     }
 }
 
+// Where operands end: they are read and dropped. `expr::pass_plain` is kept for records that are not folded, into whose loop it is taken while it has
+// one caller.
+fn read_past(s: &[u8], at: usize, what: Operands) -> Skip
+    ensures { λ r. ⌜ stops (Instructions.plainOf 0 (operandsIs what) (now (s .entry)) at) ≡ skip r ⌝ }
+{
+    match expr::read_plain(s, at, 0, what) {
+        PlainAt::Got(_, next) => {
+            return Skip::Past(next);
+        }
+        PlainAt::Fault(e) => {
+            return Skip::Fault(e);
+        }
+    }
+}
+
 // The operator passed over.
 fn pass_operator(s: &[u8], at: usize) -> Skip
     ensures { λ r. ⌜ stops (Instructions.operator (now (s .entry)) at) ≡ skip r ⌝ }
@@ -360,7 +371,7 @@ fn pass_operator(s: &[u8], at: usize) -> Skip
                 }
             },
             Form::Operands(what) => {
-                return expr::pass_plain(s, a, what);
+                return read_past(s, a, what);
             }
             Form::NoOpcode => {
                 return Skip::Fault(4);
@@ -395,53 +406,31 @@ pub fn pass_fold(s: &[u8], at: usize) -> U32
     }
 }
 
-// An index that was read before, passed over.
-fn skip_index(s: &[u8], at: usize) -> Skip
-    requires { ⌜ Gets (Token.present (now s) at) ⌝ }
-    ensures { λ r. ⌜ stops (Token.present (now (s .entry)) at) ≡ skip r ⌝ }
-{
-    match token::known_present(s, at) {
-        IndexAt::Got(_, next) => {
-            return Skip::Past(next);
-        }
-        IndexAt::Fault(e) => {
-            return Skip::Fault(e);
-        }
-    }
-}
-
-// Is what stands after an opcode one index?
-fn is_index(what: Operands) -> bool
-    ensures { λ r. ⌜ r ≡ isIndex what ⌝ }
-{
-    match what {
-        Operands::LabelIdx => {
-            return true;
-        }
-        Operands::LocalIdx => {
-            return true;
-        }
-        Operands::FuncIdx => {
-            return true;
-        }
-        Operands::GlobalIdx => {
-            return true;
-        }
-        _ => {
-            return false;
-        }
-    }
-}
-
 // Operands that were read before: most of those that can be long are one index.
 fn skip_plain(s: &[u8], at: usize, what: Operands) -> Skip
     requires { ⌜ Gets (Instructions.plainOf 0 (operandsIs what) (now s) at) ⌝ }
     ensures { λ r. ⌜ stops (Instructions.plainOf 0 (operandsIs what) (now (s .entry)) at) ≡ skip r ⌝ }
 {
-    if is_index(what) {
-        return skip_index(s, at);
+    match what {
+        Operands::Bare => {
+            return Skip::Past(at);
+        }
+        Operands::LabelIdx => {
+            return token::skip_present(s, at);
+        }
+        Operands::LocalIdx => {
+            return token::skip_present(s, at);
+        }
+        Operands::FuncIdx => {
+            return token::skip_present(s, at);
+        }
+        Operands::GlobalIdx => {
+            return token::skip_present(s, at);
+        }
+        _ => {
+            return read_past(s, at, what);
+        }
     }
-    expr::pass_plain(s, at, what)
 }
 
 // The table and the type of a call_indirect that was read before.

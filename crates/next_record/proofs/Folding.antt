@@ -33,7 +33,7 @@ use Rattle.instr.specs.Readers.{countOf}
 use Rattle.syntax.specs.declared.Place.{Place}
 use Rattle.next_record.specs.Uses.{mayUse, namesData, sortNames}
 use Rattle.next_record.specs.Places.{recordPast}
-use Rattle.next_record.specs.Folds.{doesOf, noneDo, bothDo, formDoes, byteDoes, doesAt, headOf, headAt, onHead, onFold, onByte, operandsBy, afterF0, foldedAt}
+use Rattle.next_record.specs.Folds.{doesOf, noneDo, bothDo, formDoes, byteDoes, doesAt, headOf, headAt, headWith, onHead, onFold, onByte, operandsBy, afterF0, foldedAt}
 use Rattle.next_record.specs.declared.record.Does.{Does}
 use Rattle.next_record.specs.declared.fold.Fold.{Fold}
 use Rattle.next_record.specs.declared.fold.Fold.the-variants as L
@@ -43,9 +43,17 @@ use Rattle.next_record.proofs.Naming.{read-names}
 
 -- ## What instructions do
 
-pub both-do : (a b : Does) (u n : Bool) → u ≡ (a .uses || b .uses) → n ≡ (a .names || b .names) → _≡_ {A = Does} (record { uses = u; names = n }) (bothDo a b)
+or-true : (b : Bool) → (b || true) ≡ true
+or-true true = refl
+or-true false = refl
+
+or-false : (b : Bool) → (b || false) ≡ b
+or-false true = refl
+or-false false = refl
+
+none-more : (d : Does) → bothDo d noneDo ≡ d
 unfolding bothDo
-both-do a b u n e d = rw (e, d)
+none-more d = rw (or-false (d .uses), or-false (d .names)) refl
 
 -- ## The operator
 
@@ -53,24 +61,30 @@ abbrev Barred : List ℕ
 Barred = 0 ∷ 1 ∷ 2 ∷ 3 ∷ []
 
 -- by its opcode and the byte after it
-module _ (s : Bytes) (at : ℕ) (q : ByteAt) (told : byte s at ≡ byteAt q) where
-  pub does-no-byte : (n : ℕ) → q ≡ B.Fault n → noneDo ≡ doesAt s at
+module _ (s : Bytes) (at : ℕ) (does : Does) (q : ByteAt) (told : byte s at ≡ byteAt q) where
+  pub does-no-byte : (n : ℕ) → q ≡ B.Fault n → does ≡ bothDo does (doesAt s at)
   unfolding doesAt
-  does-no-byte n d = rw (told, d)
+  does-no-byte n d = sym (rw (told, d) (none-more does))
 
   module _ (b a : ℕ) (d : q ≡ B.Got b a) (f : Form) (says : formOf b ≡ formIs f) where
     by-form : doesAt s at ≡ formDoes (formIs f) (getD s a 0)
     unfolding doesAt
     by-form = rw (told, d, says) refl
 
-    pub does-calling : f ≡ FM.Calling → _≡_ {A = Does} (record { uses = true; names = false }) (doesAt s at)
-    does-calling e = sym (by-form ∙ rw e refl)
+    pub does-calling : f ≡ FM.Calling → _≡_ {A = Does} (record { uses = true; names = does .names }) (bothDo does (doesAt s at))
+    unfolding bothDo
+    does-calling e = sym (rw (by-form, e, or-true (does .uses), or-false (does .names)) refl)
 
-    pub does-plain : (w : Code.Operands) (n : Bool) → f ≡ FM.Operands w → n ≡ sortNames (operandsIs w) (getD s a 0) → _≡_ {A = Does} (record { uses = false; names = n }) (doesAt s at)
-    does-plain w n e i = sym (by-form ∙ rw (e, i) refl)
+    module _ (w : Code.Operands) (n : Bool) (e : f ≡ FM.Operands w) (i : n ≡ sortNames (operandsIs w) (getD s a 0)) where
+      pub does-name : n ≡ true → _≡_ {A = Does} (record { uses = does .uses; names = true }) (bothDo does (doesAt s at))
+      unfolding bothDo
+      does-name t = sym (rw (by-form, e, ← i, t, or-false (does .uses), or-true (does .names)) refl)
 
-    pub does-barred : OneOf Barred (tagOf FormOf.the-type f) → noneDo ≡ doesAt s at
-    does-barred h = sym (by-form ∙ go f h)
+      pub does-plain : n ≡ false → does ≡ bothDo does (doesAt s at)
+      does-plain t = sym (rw (by-form, e, ← i, t) (none-more does))
+
+    pub does-barred : OneOf Barred (tagOf FormOf.the-type f) → does ≡ bothDo does (doesAt s at)
+    does-barred h = sym (ap (bothDo does) (by-form ∙ go f h) ∙ none-more does)
       where
         go : (g : Form) → OneOf Barred (tagOf FormOf.the-type g) → formDoes (formIs g) (getD s a 0) ≡ noneDo
         go FM.NoOpcode l = refl
@@ -80,7 +94,7 @@ module _ (s : Bytes) (at : ℕ) (q : ByteAt) (told : byte s at ≡ byteAt q) whe
         go FM.Calling l = absurd (miss Barred 4 tt l)
         go (FM.Operands w) l = absurd (miss Barred 5 tt l)
 
-pub ruleset operators = (does-no-byte, does-calling, does-plain, does-barred)
+pub ruleset operators = (does-no-byte, does-calling, does-name, does-plain, does-barred)
 
 -- one that was read does what its first bytes say
 module _ (s : Bytes) (x : Syntax.Instr Identifier) (next : ℕ) where
@@ -131,25 +145,30 @@ head-fault (got (folded x k) next) n e = let z : _≡_ {A = ℕ} 0 1 = cc in abs
 head-fault (got bodyEnd next) n e = let d : 0 ≡ n = cc in rw (← d) refl
 head-fault (fault k) n e = let d : k ≡ n = cc in rw d refl
 
-module _ (s : Bytes) (at : ℕ) (x : HeadAt) (r : U32) (told : countOf (fold s at) ≡ u32At r) where
-  pub head-not : (n : ℕ) → r ≡ U32.Fault n → x ≡ H.Fault n → x ≡ headAt s at
+module _ (s : Bytes) (at : ℕ) (does : Does) (x : HeadAt) (r : U32) (told : countOf (fold s at) ≡ u32At r) where
+  pub head-not : (n : ℕ) → r ≡ U32.Fault n → x ≡ H.Fault n → x ≡ headWith does (headAt s at)
   unfolding headAt
-  head-not n d p = p ∙ head-fault (fold s at) n (told ∙ ap u32At d)
+  head-not n d p = p ∙ ap (headWith does) (head-fault (fold s at) n (told ∙ ap u32At d))
 
-  pub head-got : (n next : ℕ) (does : Does) → r ≡ U32.Got n next → does ≡ doesAt s at → x ≡ H.Got does n next → x ≡ headAt s at
+  pub head-got : (n next : ℕ) (k : Does) → r ≡ U32.Got n next → k ≡ bothDo does (doesAt s at) → x ≡ H.Got k n next → x ≡ headWith does (headAt s at)
   unfolding headAt fold
-  head-got n next does d i p = p ∙ go (operator s at) refl (told ∙ ap u32At d)
+  head-got n next k d i p = p ∙ ap (λ z. H.Got z n next) i ∙ ap (headWith does) (go (operator s at) refl (told ∙ ap u32At d))
     where
-      count : (y : Syntax.Instr Identifier) → doesOf y ≡ doesAt s at → (m : Step ℕ) → countOf (onward (λ k b. got (folded y k) b) m) ≡ got n next → H.Got does n next ≡ headOf (onward (λ k b. got (folded y k) b) m)
-      count y o (got k b) e = let f : k ≡ n = cc in let g : b ≡ next = cc in rw (f, g, i, o) refl
+      count : (y : Syntax.Instr Identifier) → doesOf y ≡ doesAt s at → (m : Step ℕ) → countOf (onward (λ k b. got (folded y k) b) m) ≡ got n next → H.Got (doesAt s at) n next ≡ headOf (onward (λ k b. got (folded y k) b) m)
+      count y o (got k b) e = let f : k ≡ n = cc in let g : b ≡ next = cc in rw (f, g, o) refl
       count y o (fault k) e = let z : _≡_ {A = ℕ} 0 1 = cc in absurd (omega arith)
 
       go : (m : Step (Syntax.Instr Identifier)) → operator s at ≡ m → countOf (onward (λ y a. onward (λ k b. got (folded y k) b) (upTo 7 16 s a)) m) ≡ got n next
-          → H.Got does n next ≡ headOf (onward (λ y a. onward (λ k b. got (folded y k) b) (upTo 7 16 s a)) m)
+          → H.Got (doesAt s at) n next ≡ headOf (onward (λ y a. onward (λ k b. got (folded y k) b) (upTo 7 16 s a)) m)
       go (got y a) o e = count y (operator-does s y a at o) (upTo 7 16 s a) e
       go (fault k) o e = let z : _≡_ {A = ℕ} 0 1 = cc in absurd (omega arith)
 
 pub ruleset heads = (head-got, head-not, refl)
+
+-- what comes before it may be joined first
+head-onward : (does : Does) (h : HeadAt) (f : Does → ℕ → ℕ → Fold) (g : ℕ → Fold) → onHead (headWith does h) f g ≡ onHead h (λ d n next. f (bothDo does d) n next) g
+head-onward does (H.Got d n next) f g = refl
+head-onward does (H.Fault n) f g = refl
 
 -- ## A folded record
 
@@ -182,17 +201,23 @@ module _ (left : ℕ) (s : Bytes) (does : Does) (p : Place) (x : Fold) (q : Byte
         unfolding foldedAt afterF0
         too-deep h a = let z : left ≡ 0 = omega arith in rw (z, told, d, eq-eqb b 0xF0 e, lt-leb _ _ l) a
 
-        module _ (h : 1 ≤ left) (r : HeadAt) (head : r ≡ headAt s at) where
-          deeper : x ≡ onHead r (λ m n next. operandsBy (foldedAt (left - 1) s) n (bothDo does m) (recordPast p next (p .depth))) (λ n. L.Refused n p) → x ≡ foldedAt left s does p
+        module _ (h : 1 ≤ left) (r : HeadAt) (head : r ≡ headWith does (headAt s at)) where
+          abbrev onward-by : Does → ℕ → ℕ → Fold
+          onward-by m n next = operandsBy (foldedAt (left - 1) s) n m (recordPast p next (p .depth))
+
+          deeper : x ≡ onHead r onward-by (λ n. L.Refused n p) → x ≡ foldedAt left s does p
           unfolding foldedAt afterF0
-          deeper a = let z : left ≡ suc (left - 1) = omega arith in rw (z, told, d, eq-eqb b 0xF0 e, lt-leb _ _ l, ← head) a
+          deeper a =
+              let z : left ≡ suc (left - 1) = omega arith in
+              rw (z, told, d, eq-eqb b 0xF0 e, lt-leb _ _ l)
+              (a ∙ ap (λ k. onHead k onward-by (λ n. L.Refused n p)) head ∙ head-onward does (headAt s at) onward-by (λ n. L.Refused n p))
 
           pub no-head : (n : ℕ) → r ≡ H.Fault n → x ≡ L.Refused n p → x ≡ foldedAt left s does p
           no-head n g a = deeper (rw g a)
 
-          pub with-operands : (m : Does) (n next : ℕ) (k : Does) (o : Place) → r ≡ H.Got m n next → k ≡ bothDo does m → o ≡ recordPast p next (p .depth)
-              → x ≡ operandsBy (foldedAt (left - 1) s) n k o → x ≡ foldedAt left s does p
-          with-operands m n next k o g i j a = deeper (rw (g, ← i, ← j) a)
+          pub with-operands : (m : Does) (n next : ℕ) (o : Place) → r ≡ H.Got m n next → o ≡ recordPast p next (p .depth)
+              → x ≡ operandsBy (foldedAt (left - 1) s) n m o → x ≡ foldedAt left s does p
+          with-operands m n next o g j a = deeper (rw (g, ← j) a)
 
 -- the first operand's record is within what there may be
 pub past-low : (p q : Place) (next depth : ℕ) → q ≡ recordPast p next depth → p .rec < 4096 → q .rec ≤ 4096

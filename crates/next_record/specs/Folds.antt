@@ -1,13 +1,13 @@
 -- Folded records in the reading pass: one is read with all its operands.
 use Prim.Native.Nat.{ℕ, zero, suc, _-_}
-use mathlib.Core.Bool.{Bool, true, false, _||_}
+use mathlib.Core.Bool.{true, false, _||_}
 use mathlib.Core.Option.{Option, none, some}
 use lib.Dec.{eqb, leb}
 use lib.ListN.{getD}
 use Rattle.definition.specs.Basic.{if_then_else_, Answer, ok, refused}
 use Rattle.definition.specs.Syntax.{Bytes, Identifier, Instr, Rec, field, instr, folded, bodyEnd}
 use Rattle.definition.specs.Reader.{Step, got, fault, byte}
-use Rattle.definition.specs.Instructions.{Operands, Form, opening, elsing, ending, calling, operands, formOf, formed, fold}
+use Rattle.definition.specs.Instructions.{Form, opening, elsing, ending, calling, operands, formOf, formed, fold}
 use Rattle.syntax.specs.Marks.{insideOf}
 use Rattle.syntax.specs.declared.Marks.{Marks}
 use Rattle.syntax.specs.declared.Place.{Place}
@@ -58,6 +58,11 @@ headOf (fault n) = H.Fault n
 
 unfoldable pub headAt : Bytes → ℕ → HeadAt
 headAt s at = headOf (fold s at)
+
+-- together with what came before it
+abbrev pub headWith : Does → HeadAt → HeadAt
+headWith does (H.Got d n next) = H.Got (bothDo does d) n next
+headWith does (H.Fault n) = H.Fault n
 
 -- ## A folded record and its operands
 

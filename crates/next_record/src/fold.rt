@@ -7,9 +7,8 @@ use syntax::Form;
 use syntax::Place;
 use syntax::U32;
 ghost use mathlib.Core.Path.{_≡_};
-ghost use mathlib.Core.Bool.{_||_};
 ghost use Prim.Native.Nat.{_≤_};
-ghost use Rattle.next_record.specs.Folds.{bothDo, doesAt, headAt, operandsBy, foldedAt};
+ghost use Rattle.next_record.specs.Folds.{bothDo, doesAt, headAt, headWith, operandsBy, foldedAt};
 
 pub enum Fold {
     Past(Does, Place),
@@ -17,69 +16,49 @@ pub enum Fold {
     Refused(u8, Place),
 }
 
-// What stands after F0: what the operator does, the count of operands, and where they begin.
+// What stands after F0: what the operator does together with what came before it, the count of operands, and where they begin.
 pub enum HeadAt {
     Got(Does, u32, usize),
     Fault(u8),
 }
 
-fn either(a: bool, b: bool) -> bool
-    ensures { λ r. ⌜ r ≡ (a || b) ⌝ }
-{
-    if a {
-        return true;
-    }
-    b
-}
-
-fn both(a: Does, b: Does) -> Does
-    ensures { λ r. ⌜ r ≡ bothDo a b ⌝ }
-{
-    let uses = either(a.uses, b.uses);
-    let names = either(a.names, b.names);
-    Does { uses, names }
-}
-
-// What the operator at a place does, if it can be read: call_indirect may use a type.
-fn operator_does(s: &[u8], at: usize) -> Does
-    ensures { λ r. ⌜ r ≡ doesAt (now (s .entry)) at ⌝ }
+// What the operator at a place does together with what came before it, if it can be read: call_indirect may use a type.
+fn operator_does(s: &[u8], at: usize, does: Does) -> Does
+    ensures { λ r. ⌜ r ≡ bothDo does (doesAt (now (s .entry)) at) ⌝ }
 {
     match token::read_byte(s, at) {
         ByteAt::Got(b, a) => match instr::opcode_form(b) {
             Form::Calling => {
                 return Does {
                     uses: true,
-                    names: false,
+                    names: does.names,
                 };
             }
             Form::Operands(what) => {
-                return Does {
-                    uses: false,
-                    names: names_data(s, a, what),
-                };
+                if names_data(s, a, what) {
+                    return Does {
+                        uses: does.uses,
+                        names: true,
+                    };
+                }
+                return does;
             }
             _ => {
-                return Does {
-                    uses: false,
-                    names: false,
-                };
+                return does;
             }
         },
         ByteAt::Fault(_) => {
-            return Does {
-                uses: false,
-                names: false,
-            };
+            return does;
         }
     }
 }
 
-fn read_head(s: &[u8], at: usize) -> HeadAt
-    ensures { λ r. ⌜ r ≡ headAt (now (s .entry)) at ⌝ }
+fn read_head(s: &[u8], at: usize, does: Does) -> HeadAt
+    ensures { λ r. ⌜ r ≡ headWith does (headAt (now (s .entry)) at) ⌝ }
 {
     match instr::pass_fold(s, at) {
         U32::Got(n, next) => {
-            return HeadAt::Got(operator_does(s, at), n, next);
+            return HeadAt::Got(operator_does(s, at, does), n, next);
         }
         U32::Fault(e) => {
             return HeadAt::Fault(e);
@@ -103,10 +82,10 @@ pub fn read_folded(s: &[u8], p: Place, left: u32, does: Does) -> Fold
             if left < 1 {
                 return Fold::Refused(7, p);
             }
-            match read_head(s, at) {
+            match read_head(s, at, does) {
                 HeadAt::Got(d, n, next) => {
                     let q = after_record(p, next, p.depth);
-                    return read_operands(s, q, n, left - 1, both(does, d));
+                    return read_operands(s, q, n, left - 1, d);
                 }
                 HeadAt::Fault(e) => {
                     return Fold::Refused(e, p);
@@ -131,7 +110,12 @@ fn read_operands(s: &[u8], p: Place, n: u32, left: u32, does: Does) -> Fold
         match read_folded(s, q, left, d) {
             Fold::Past(e, next) => {
                 d = e;
-                q = next;
+                // by its fields: a copy of the whole waits for all three to be stored
+                q = Place {
+                    at: next.at,
+                    rec: next.rec,
+                    depth: next.depth,
+                };
             }
             Fold::Refused(e, r) => {
                 return Fold::Refused(e, r);

@@ -21,12 +21,17 @@ use Rattle.laws.proofs.OneSpelling.{u32-byte}
 use Rattle.syntax.specs.Numbers.{u32At}
 use Rattle.syntax.specs.declared.U32.{U32}
 use Rattle.syntax.specs.declared.U32.the-variants as U32
-use Rattle.syntax.specs.Tokens.{byteAt, part}
+use Rattle.syntax.specs.Tokens.{byteAt, part, partAt, skip}
+use Rattle.syntax.specs.declared.Part.{Part}
+use Rattle.syntax.specs.declared.PartAt.{PartAt}
+use Rattle.syntax.specs.declared.PartAt.the-variants as P
+use Rattle.syntax.specs.declared.Skip.the-variants as S
 use Rattle.token.specs.Readers.{given}
 use Rattle.token.specs.Known.{Gets}
 use Rattle.syntax.specs.declared.ByteAt.{ByteAt}
 use Rattle.syntax.specs.declared.ByteAt.the-variants as B
 use Rattle.token.proofs.Runs.{Single, id-single, string-single, many-part}
+use Rattle.token.proofs.Skips.{stops-made}
 
 -- ## One reader after another
 
@@ -213,6 +218,9 @@ module _ (s : Bytes) (at : ℕ) (r : ByteAt) (e : byte s at ≡ byteAt r) where
     unfolding present given
     present-gets g = gets-rest _ (byte s at) g b next (e ∙ ap byteAt d)
 
+    pub named-gets : Gets (present s at) → (b ≡ 1 → ⊥) → Gets (identifier₁ s next)
+    named-gets g f = given-gets b s next (present-gets g) f
+
     present-step : present s at ≡ given b s next
     unfolding present given
     present-step = rw (e, d)
@@ -235,6 +243,18 @@ module _ (s : Bytes) (at : ℕ) (r : ByteAt) (e : byte s at ≡ byteAt r) where
       unfolding optional given
       optional-is f p = rw (e, d, ne-eqb b 0 f) (sym present-step ∙ p)
 
+    -- one that is there by its name ends where the name does
+    module _ (g : Gets (present s at)) (f : b ≡ 1 → ⊥) (q : PartAt) (name : identifier₁ s next ≡ partAt s q) where
+      by-its-name : stops (present s at) ≡ stops (partAt s q)
+      unfolding namedIndex
+      by-its-name = ap stops (present-step ∙ by-name b s next (present-gets g) f) ∙ stops-made _ (identifier₁ s next) ∙ ap stops name
+
+      pub named-past : (p : Part) (n : ℕ) → q ≡ P.Got p n → stops (present s at) ≡ skip (S.Past n)
+      named-past p n h = by-its-name ∙ rw h refl
+
+      pub named-not : (n : ℕ) → q ≡ P.Fault n → stops (present s at) ≡ skip (S.Fault n)
+      named-not n h = by-its-name ∙ rw h refl
+
   module _ (k : ℕ) (d : r ≡ B.Fault k) where
     pub present-refused : present s at ≡ fault k
     unfolding present
@@ -245,3 +265,5 @@ module _ (s : Bytes) (at : ℕ) (r : ByteAt) (e : byte s at ≡ byteAt r) where
     optional-refused = rw (e, d)
 
 pub ruleset known-indices = (refl, given-number-is, given-gets, given-name-is, present-gets, present-is, present-refused, optional-gets, optional-absent, optional-is, optional-refused)
+
+pub ruleset skipped-indices = (named-gets, named-past, named-not)

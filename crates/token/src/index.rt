@@ -2,7 +2,6 @@
 use syntax::ByteAt;
 use syntax::Index;
 use syntax::IndexAt;
-use syntax::Part;
 use syntax::PartAt;
 use syntax::Skip;
 use syntax::U32;
@@ -30,20 +29,25 @@ fn named_index(s: &[u8], at: usize) -> IndexAt
     }
 }
 
+// An index that is present, after the byte that says how it is given.
+fn read_given(s: &[u8], at: usize, b: u8) -> IndexAt
+    ensures { λ r. ⌜ given b (now (s .entry)) at ≡ indexAt (now (s .entry)) r ⌝ }
+{
+    if b == 1 {
+        return number_index(s, at);
+    }
+    if b == 2 {
+        return named_index(s, at);
+    }
+    IndexAt::Fault(4)
+}
+
 // An index that must be present.
 pub fn read_present(s: &[u8], at: usize) -> IndexAt
     ensures { λ r. ⌜ Token.present (now (s .entry)) at ≡ indexAt (now (s .entry)) r ⌝ }
 {
     match crate::byte::read_byte(s, at) {
-        ByteAt::Got(b, next) => {
-            if b == 1 {
-                return number_index(s, next);
-            }
-            if b == 2 {
-                return named_index(s, next);
-            }
-            IndexAt::Fault(4)
-        }
+        ByteAt::Got(b, next) => read_given(s, next, b),
         ByteAt::Fault(e) => IndexAt::Fault(e),
     }
 }
@@ -57,13 +61,7 @@ pub fn read_optional(s: &[u8], at: usize) -> IndexAt
             if b == 0 {
                 return IndexAt::Got(Index::Absent, next);
             }
-            if b == 1 {
-                return number_index(s, next);
-            }
-            if b == 2 {
-                return named_index(s, next);
-            }
-            IndexAt::Fault(4)
+            read_given(s, next, b)
         }
         ByteAt::Fault(e) => IndexAt::Fault(e),
     }

@@ -109,3 +109,28 @@ pub fn known_optional(s: &[u8], at: usize) -> IndexAt
         ByteAt::Fault(e) => IndexAt::Fault(e),
     }
 }
+
+// An index that must be present, passed over.
+pub fn skip_present(s: &[u8], at: usize) -> Skip
+    requires { ⌜ Gets (Token.present (now s) at) ⌝ }
+    ensures { λ r. ⌜ stops (Token.present (now (s .entry)) at) ≡ skip r ⌝ }
+{
+    match crate::byte::read_byte(s, at) {
+        ByteAt::Got(b, a) => {
+            if b == 1 {
+                return crate::index::pass_u32(s, a);
+            }
+            match known_name(s, a) {
+                PartAt::Got(_, next) => {
+                    return Skip::Past(next);
+                }
+                PartAt::Fault(e) => {
+                    return Skip::Fault(e);
+                }
+            }
+        }
+        ByteAt::Fault(e) => {
+            return Skip::Fault(e);
+        }
+    }
+}

@@ -17,6 +17,7 @@ pub use known::known_optional;
 pub use known::known_present;
 pub use known::known_string;
 pub use known::skip_identifier;
+pub use known::skip_present;
 pub use text::bytes_of;
 pub use text::pass_identifier;
 pub use text::read_data;

@@ -45,8 +45,8 @@ returns-3 c = search (operators) depth 6
 enum-known-what : tie.Need-enum-known-what
 enum-known-what c = search needs
 
-pass-plain-requires : tie.Need-pass-plain-requires
-pass-plain-requires c κs = search needs
+read-past-requires : tie.Need-read-past-requires
+read-past-requires c κs = search needs
 
 returns-4 : tie.Need-returns-4
 returns-4 c = search (operators) depth 6
@@ -99,7 +99,7 @@ pass-operator-spec =
     enum-known-e-2
     returns-3
     enum-known-what
-    pass-plain-requires
+    read-past-requires
     returns-4
     enum-told-2
     returns-5

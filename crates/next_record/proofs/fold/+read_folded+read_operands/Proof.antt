@@ -1,6 +1,6 @@
 use Prim.Native.Nat.{_+_, _*_}
 use borrow.Author.Needs.{needs}
-use Rattle.next_record.proofs.Folding.{foldings, past-low, Operands·Inv, operands-begin, operands-low, operands-again, operands-refused, operands-done}
+use Rattle.next_record.proofs.Folding.{foldings, past-low, Operands·Inv, operands-begin, operands-again, operands-refused, operands-done}
 use Prim.Native.Nat.{ℕ, _<_}
 use borrow.Fn.Kinds.{In}
 use borrow.Fn.PlainCycle.{Measures, is, falls, and}
@@ -10,7 +10,6 @@ use Rattle.next_record.proofs.fold.+read_folded+read_operands.Lts-read_
 use Rattle.next_record.proofs.fold.read_operands.Reads as read-operands
 use Rattle.next_record.proofs.fold.read_operands.Kinds as read-operands-kinds
 use Rattle.next_record.proofs.fold.+read_folded+read_operands.Lts-read_operands as read-operands-lts
-use Rattle.next_record.proofs.fold.both.Reads as both-reads
 use Rattle.next_record.proofs.fold.read_head.Reads as read-head-reads
 use Rattle.next_record.proofs.record.after_record.Reads as after-record-reads
 use Rattle.token.proofs.read_byte.Reads as read-byte-reads
@@ -50,8 +49,6 @@ read-folded-read-byte-requires : (t : ℕ) → read-folded-lts.Need-read-byte-re
   read-head-reads.Learnt,
   after-record-reads.Asked,
   after-record-reads.Learnt,
-  both-reads.Asked,
-  both-reads.Learnt,
   read-operands-below t,
   read-operands.Post,
 ) (read-folded-at t) read-folded.Post
@@ -64,8 +61,6 @@ read-folded-enum-known-b : (t : ℕ) → read-folded-lts.Need-enum-known-b (
   read-head-reads.Learnt,
   after-record-reads.Asked,
   after-record-reads.Learnt,
-  both-reads.Asked,
-  both-reads.Learnt,
   read-operands-below t,
   read-operands.Post,
 ) (read-folded-at t) read-folded.Post
@@ -78,8 +73,6 @@ read-folded-returns : (t : ℕ) → read-folded-lts.Need-returns (
   read-head-reads.Learnt,
   after-record-reads.Asked,
   after-record-reads.Learnt,
-  both-reads.Asked,
-  both-reads.Learnt,
   read-operands-below t,
   read-operands.Post,
 ) (read-folded-at t) read-folded.Post
@@ -92,8 +85,6 @@ read-folded-returns-2 : (t : ℕ) → read-folded-lts.Need-returns-2 (
   read-head-reads.Learnt,
   after-record-reads.Asked,
   after-record-reads.Learnt,
-  both-reads.Asked,
-  both-reads.Learnt,
   read-operands-below t,
   read-operands.Post,
 ) (read-folded-at t) read-folded.Post
@@ -106,8 +97,6 @@ read-folded-returns-3 : (t : ℕ) → read-folded-lts.Need-returns-3 (
   read-head-reads.Learnt,
   after-record-reads.Asked,
   after-record-reads.Learnt,
-  both-reads.Asked,
-  both-reads.Learnt,
   read-operands-below t,
   read-operands.Post,
 ) (read-folded-at t) read-folded.Post
@@ -120,8 +109,6 @@ read-folded-read-head-requires : (t : ℕ) → read-folded-lts.Need-read-head-re
   read-head-reads.Learnt,
   after-record-reads.Asked,
   after-record-reads.Learnt,
-  both-reads.Asked,
-  both-reads.Learnt,
   read-operands-below t,
   read-operands.Post,
 ) (read-folded-at t) read-folded.Post
@@ -134,8 +121,6 @@ read-folded-enum-known-d : (t : ℕ) → read-folded-lts.Need-enum-known-d (
   read-head-reads.Learnt,
   after-record-reads.Asked,
   after-record-reads.Learnt,
-  both-reads.Asked,
-  both-reads.Learnt,
   read-operands-below t,
   read-operands.Post,
 ) (read-folded-at t) read-folded.Post
@@ -148,26 +133,10 @@ read-folded-after-record-requires : (t : ℕ) → read-folded-lts.Need-after-rec
   read-head-reads.Learnt,
   after-record-reads.Asked,
   after-record-reads.Learnt,
-  both-reads.Asked,
-  both-reads.Learnt,
   read-operands-below t,
   read-operands.Post,
 ) (read-folded-at t) read-folded.Post
 read-folded-after-record-requires t c κs = search needs
-
-read-folded-both-requires : (t : ℕ) → read-folded-lts.Need-both-requires (
-  read-byte-reads.Asked,
-  read-byte-reads.Learnt,
-  read-head-reads.Asked,
-  read-head-reads.Learnt,
-  after-record-reads.Asked,
-  after-record-reads.Learnt,
-  both-reads.Asked,
-  both-reads.Learnt,
-  read-operands-below t,
-  read-operands.Post,
-) (read-folded-at t) read-folded.Post
-read-folded-both-requires t c κs = search needs
 
 read-folded-read-operands-requires : (t : ℕ) → read-folded-lts.Need-read-operands-requires (
   read-byte-reads.Asked,
@@ -176,8 +145,6 @@ read-folded-read-operands-requires : (t : ℕ) → read-folded-lts.Need-read-ope
   read-head-reads.Learnt,
   after-record-reads.Asked,
   after-record-reads.Learnt,
-  both-reads.Asked,
-  both-reads.Learnt,
   read-operands-below t,
   read-operands.Post,
 ) (read-folded-at t) read-folded.Post
@@ -190,8 +157,6 @@ read-folded-returns-4 : (t : ℕ) → read-folded-lts.Need-returns-4 (
   read-head-reads.Learnt,
   after-record-reads.Asked,
   after-record-reads.Learnt,
-  both-reads.Asked,
-  both-reads.Learnt,
   read-operands-below t,
   read-operands.Post,
 ) (read-folded-at t) read-folded.Post
@@ -204,8 +169,6 @@ read-folded-enum-known-e : (t : ℕ) → read-folded-lts.Need-enum-known-e (
   read-head-reads.Learnt,
   after-record-reads.Asked,
   after-record-reads.Learnt,
-  both-reads.Asked,
-  both-reads.Learnt,
   read-operands-below t,
   read-operands.Post,
 ) (read-folded-at t) read-folded.Post
@@ -218,8 +181,6 @@ read-folded-returns-5 : (t : ℕ) → read-folded-lts.Need-returns-5 (
   read-head-reads.Learnt,
   after-record-reads.Asked,
   after-record-reads.Learnt,
-  both-reads.Asked,
-  both-reads.Learnt,
   read-operands-below t,
   read-operands.Post,
 ) (read-folded-at t) read-folded.Post
@@ -232,8 +193,6 @@ read-folded-enum-known-e-2 : (t : ℕ) → read-folded-lts.Need-enum-known-e-2 (
   read-head-reads.Learnt,
   after-record-reads.Asked,
   after-record-reads.Learnt,
-  both-reads.Asked,
-  both-reads.Learnt,
   read-operands-below t,
   read-operands.Post,
 ) (read-folded-at t) read-folded.Post
@@ -246,8 +205,6 @@ read-folded-returns-6 : (t : ℕ) → read-folded-lts.Need-returns-6 (
   read-head-reads.Learnt,
   after-record-reads.Asked,
   after-record-reads.Learnt,
-  both-reads.Asked,
-  both-reads.Learnt,
   read-operands-below t,
   read-operands.Post,
 ) (read-folded-at t) read-folded.Post
@@ -321,8 +278,6 @@ pub +read-folded+read-operands-spec : {M : Type 1} → statement M
   read-head-reads.Learnt,
   after-record-reads.Asked,
   after-record-reads.Learnt,
-  both-reads.Asked,
-  both-reads.Learnt,
   read-operands-below t,
   read-operands.Post,
 )
@@ -336,7 +291,6 @@ pub +read-folded+read-operands-spec : {M : Type 1} → statement M
     (read-folded-read-head-requires t)
     (read-folded-enum-known-d t)
     (read-folded-after-record-requires t)
-    (read-folded-both-requires t)
     (read-folded-read-operands-requires t)
     (read-folded-returns-4 t)
     (read-folded-enum-known-e t)

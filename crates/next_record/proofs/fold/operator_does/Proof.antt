@@ -30,11 +30,14 @@ returns-2 c = search operators
 returns-3 : tie.Need-returns-3
 returns-3 c = search operators
 
+returns-4 : tie.Need-returns-4
+returns-4 c = search operators
+
 enum-told-2 : tie.Need-enum-told-2
 enum-told-2 c = search needs
 
-returns-4 : tie.Need-returns-4
-returns-4 c = search operators
+returns-5 : tie.Need-returns-5
+returns-5 c = search operators
 
 pub operator-does-spec : {M : Type 1} → statement M
 operator-does-spec =
@@ -49,5 +52,6 @@ operator-does-spec =
     names-data-requires
     returns-2
     returns-3
+    returns-4
     enum-told-2
-    returns-4)
+    returns-5)
