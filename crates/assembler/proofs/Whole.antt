@@ -4,7 +4,6 @@ use mathlib.Core.Path.{_≡_, sym, _∙_, ap}
 use mathlib.Core.Bool.{Bool, true, false}
 use mathlib.Core.List.{List, _++_}
 use lib.ListN.{length, replicate}
-use Rattle.definition.specs.Types.{declared}
 use Rattle.definition.specs.Binary.{module′}
 use Rattle.definition.specs.Assemble.{Maker, callStrict, callStrictNames}
 use Rattle.definition.specs.Assemble.{outputAfter, workAfter, Outcome, outcome, callBy, call, callNames}

@@ -1,6 +1,6 @@
 -- A loop that puts bytes: some are put, and the rest are left.
 use Prim.Native.Nat.{ℕ, _*_, _<_, _^_}
-use mathlib.Core.Path.{_≡_, refl, sym, _∙_, ap}
+use mathlib.Core.Path.{_≡_, sym, _∙_, ap}
 use mathlib.Core.List.{List, [], _++_, append-assoc, append-nil}
 use lib.ListN.{length}
 use native.Mathlib.Omega.{arith}

@@ -2,7 +2,7 @@
 use Prim.Native.Nat.{ℕ}
 use mathlib.Core.Path.{_≡_}
 use mathlib.Core.List.{List}
-use Rattle.definition.specs.Basic.{Answer, ok, refused}
+use Rattle.definition.specs.Basic.{Answer, ok}
 use Rattle.definition.specs.Syntax.{Bytes}
 use Rattle.syntax.specs.Refusals.{refusedBy}
 use Rattle.emit.specs.Put.{Put}

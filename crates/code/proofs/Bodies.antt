@@ -1,23 +1,22 @@
 -- The loop over a body: what has been written and what is still to come are the whole.
-use Prim.Native.Nat.{ℕ, suc, _+_, _-_, _*_, _≤_, _<_, _^_}
+use Prim.Native.Nat.{ℕ, _+_, _-_, _*_, _≤_, _<_, _^_}
 use mathlib.Core.Path.{_≡_, refl, sym, _∙_, ap}
 use mathlib.Core.Bool.{Bool, true, false}
-use mathlib.Core.Option.{Option, none, some, Option·none-ne-some}
-use mathlib.Core.List.{List, [], _∷_, _++_, append-assoc, append-nil}
+use mathlib.Core.Option.{none, some, Option·none-ne-some}
+use mathlib.Core.List.{List, [], _∷_, _++_, append-nil}
 use lib.Dec.{eqb}
 use lib.ListN.{length}
 use borrow.Author.Tests.{eqb-true, eq-eqb, ne-eqb}
 use native.Mathlib.Omega.{arith}
-use Rattle.definition.specs.Basic.{Answer, ok, fails, _>>=_, concatMap, if_then_else_, between}
+use Rattle.definition.specs.Basic.{Answer, ok, _>>=_, concatMap, if_then_else_, between}
 use Rattle.definition.specs.Syntax as Syntax
 use Rattle.definition.specs.Syntax.{Identifier, Op, instr}
 use Rattle.definition.specs.Reader.{Step, got, fault, byte}
-use Rattle.definition.specs.Instructions.{Form, opening, elsing, ending, calling, operands, opcodes, formIn, formOf, plainOf, instruction, admits, formed}
+use Rattle.definition.specs.Instructions.{Form, opening, elsing, ending, calling, operands, opcodes, formIn, formOf, plainOf, instruction, admits}
 use Rattle.laws.specs.Depths.{deep, depthAfter}
 use Rattle.definition.specs.Types.{usedAt, instrUses, bodyUses}
-use Rattle.definition.specs.Names.{Namespace, blocksAfter, instrOp, body}
+use Rattle.definition.specs.Names.{blocksAfter, instrOp, body}
 use Rattle.definition.specs.Binary as Binary
-use Rattle.syntax.specs.Refusals.{refusedBy}
 use Rattle.syntax.specs.declared.Place.{Place}
 use Rattle.syntax.specs.declared.Refusal.{Refusal}
 use Rattle.emit.specs.Put.{Put}
@@ -47,7 +46,7 @@ use Rattle.binary.specs.Emits.{Wrote, Emits}
 use Rattle.binary.specs.declared.Emitted.the-variants as E
 use Rattle.binary.proofs.Emitting.{bind-ok, bind-not, wrote, halts}
 use Rattle.operands.proofs.Elements.{after}
-use Rattle.plain.specs.Turns.{InBody, recordOf, plainRecord, readUses, Stepped, Ended, Halted, Turned, AnyLocals}
+use Rattle.plain.specs.Turns.{InBody, recordOf, plainRecord, readUses, Stepped, Halted, Turned, AnyLocals}
 use Rattle.plain.specs.declared.turn.Turn.{Turn}
 use Rattle.plain.specs.declared.turn.Turn.the-variants as T
 use Rattle.code.specs.Code.{closingForm}

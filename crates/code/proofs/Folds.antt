@@ -1,7 +1,7 @@
 -- Folded records: the operator of one, its operands from left to right, and both.
 use Prim.Native.Nat.{ℕ, zero, suc, _+_, _-_, _*_, _≤_, _<_, _^_}
 use mathlib.Core.Path.{_≡_, refl, sym, _∙_, ap}
-use mathlib.Core.Bool.{true, false}
+use mathlib.Core.Bool.{false}
 use mathlib.Core.List.{List, [], _∷_, _++_, append-nil}
 use lib.ListN.{length}
 use borrow.Author.Tests.{le-leb}
@@ -11,9 +11,8 @@ use Rattle.definition.specs.Syntax as Syntax
 use Rattle.definition.specs.Syntax.{Identifier, Op, Rec, field, instr, folded, bodyEnd}
 use Rattle.definition.specs.Reader.{Step, got, fault, onward, byte}
 use Rattle.definition.specs.Instructions as Instructions
-use Rattle.definition.specs.Instructions.{Form, opening, elsing, ending, calling, formOf, plainOf, instruction, admits, mayFold, operator}
-use Rattle.definition.specs.Types.{usedAt, instrUses}
-use Rattle.definition.specs.Names.{blocksAfter, instrOp, body}
+use Rattle.definition.specs.Instructions.{Form, calling, formOf, plainOf, instruction, admits, mayFold, operator}
+use Rattle.definition.specs.Names.{instrOp, body}
 use Rattle.definition.specs.Binary as Binary
 use Rattle.laws.proofs.Bodies.{folds}
 use Rattle.syntax.specs.Refusals.{refusedBy}
@@ -40,10 +39,9 @@ use Rattle.instr.proofs.Stretches.{tree-reach, tree-is, operands-none, operands
 use Rattle.scope.specs.Scope.{scopeIn, localsIn, labelsIn}
 use Rattle.scope.specs.declared.Locals.{Locals}
 use Rattle.binary.specs.Emits.{Wrote, Emits}
-use Rattle.binary.specs.declared.Emitted.the-variants as E
 use Rattle.binary.proofs.Emitting.{bind-ok, bind-not, wrote}
 use Rattle.operands.proofs.Elements.{after, concat-snoc}
-use Rattle.plain.specs.Turns.{InBody, recordOf, plainRecord, readUses, Stepped, Ended, Halted, Turned, AnyLocals}
+use Rattle.plain.specs.Turns.{InBody, recordOf, plainRecord, readUses, Turned, AnyLocals}
 use Rattle.plain.specs.declared.turn.Turn.{Turn}
 use Rattle.plain.specs.declared.turn.Turn.the-variants as T
 use Rattle.plain.proofs.Turns.{turned-fault}

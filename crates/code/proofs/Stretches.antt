@@ -12,8 +12,6 @@ use Rattle.definition.specs.Types.{usedAt, instrUses, bodyUses}
 use Rattle.definition.specs.Names.{Scope, Namespace, blocksAfter, instrOp, body}
 use Rattle.laws.proofs.Backwards.{came}
 use Rattle.laws.proofs.Bodies.{Foldable, folds}
-use Rattle.syntax.specs.Refusals.{refusedBy}
-use Rattle.syntax.specs.declared.Refusal.{Refusal}
 use Rattle.type_table.specs.Table.{typesIn, Recalled}
 use Rattle.instr.specs.Bodies.{Stretch, stopped, joined, operatorLast, onFold, foldHere, operandsBy, treeAt}
 use Rattle.instr.proofs.Stretches.{whole-first, whole-rest}

@@ -5,8 +5,8 @@ use mathlib.Core.List.{List, [], _∷_, _++_}
 use mathlib.Core.Option.{Option, none, some}
 use lib.Dec.{leb, ltb}
 use lib.ListN.{length, getD}
-use Rattle.definition.specs.Basic.{if_then_else_, Answer, ok, fails, refused, between, isSome}
-use Rattle.definition.specs.Syntax.{Bytes, Identifier, Space, Instr, opens, elses, ends, indirect, plain, Own, ownFunc, ownTable, ownMem, ownGlobal}
+use Rattle.definition.specs.Basic.{if_then_else_, Answer, ok, fails, refused}
+use Rattle.definition.specs.Syntax.{Bytes, Identifier, Space, Instr, Own, ownFunc, ownTable, ownMem, ownGlobal}
 use Rattle.definition.specs.Syntax.{Source, own, imported, tableOf, memOf, FieldRec, typeR, importR, itemR, exportR, startR, elemR, dataR, Rec, field, instr, folded, bodyEnd}
 use Rattle.definition.specs.Reader.{Step, got, fault, Reader, _>>=_, give}
 use Rattle.definition.specs.Instructions.{Inside, begun, insideAfter, foldedAfter, bodyRec, bodyBegins}

@@ -7,7 +7,7 @@ use mathlib.Core.Option.{Option, none}
 use lib.ListN.{length}
 use Rattle.definition.specs.Basic.{Answer, ok, fails, _>>=_, each, concatMap}
 use Rattle.definition.specs.Syntax as Syntax
-use Rattle.definition.specs.Syntax.{Bytes, Identifier, FuncType, Space, ExternType, Index, number, ownIndex, active, Plain, Body, TypeUse, TypeNo, Item, Field, typeF, importF, ownF, exportF, startF, elemF, dataF}
+use Rattle.definition.specs.Syntax.{Bytes, Identifier, FuncType, Space, ExternType, Index, ownIndex, active, Plain, Body, TypeUse, TypeNo, Item, Field, typeF, importF, ownF, exportF, startF, elemF, dataF}
 use Rattle.definition.specs.Syntax.{ownFunc, ownTable, ownMem, ownGlobal}
 use Rattle.definition.specs.Token as Token
 use Rattle.definition.specs.Spaces.{sourceSpace}

@@ -5,7 +5,7 @@ use mathlib.Core.Path.{_≡_, refl}
 use mathlib.Core.Bool.{true}
 use mathlib.Core.List.{List, [], _∷_, _++_, map}
 use lib.ListN.{length, getD}
-use Rattle.definition.specs.Syntax.{Bytes, Identifier, Space, FuncType, number, ownIndex, Field, exportF}
+use Rattle.definition.specs.Syntax.{Bytes, Identifier, Space, FuncType, ownIndex, Field, exportF}
 use Rattle.definition.specs.Token as Token
 use Rattle.definition.specs.Read.{fieldBody, sourceBody, ownBody}
 use Rattle.definition.specs.Deinline.{fieldsOf, sourceFields}

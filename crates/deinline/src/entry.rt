@@ -1,21 +1,12 @@
 // The entries of a field.
 use crate::section;
 use syntax::Entry;
-use syntax::Extern;
 use syntax::Field;
-use syntax::GlobalType;
-use syntax::ImportName;
-use syntax::Index;
-use syntax::Limits;
 use syntax::List;
-use syntax::Mode;
 use syntax::Own;
-use syntax::Part;
 use syntax::Seen;
 use syntax::Source;
 use syntax::Space;
-use syntax::TableType;
-use syntax::TypeUse;
 ghost use mathlib.Core.Path.{_≡_};
 ghost use Rattle.deinline.specs.Entry.{sectionNo, exportsOf, firstOf, itemIn, secondOf, thirdOf};
 

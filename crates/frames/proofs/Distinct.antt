@@ -6,7 +6,7 @@ use mathlib.Core.List.{List, [], _∷_, _++_, append-assoc, append-nil}
 use mathlib.Core.Option.{Option, none, some}
 use lib.ListN.{length, replicate}
 use native.Mathlib.Omega.{arith}
-use Rattle.definition.specs.Basic.{ok, refused, sameBytes, firstAt, later, isSome, at}
+use Rattle.definition.specs.Basic.{ok, sameBytes, firstAt, later, isSome, at}
 use Rattle.definition.specs.Syntax.{Identifier}
 use Rattle.definition.specs.Token.{param}
 use Rattle.definition.specs.Types.{isInline}

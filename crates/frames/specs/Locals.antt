@@ -5,7 +5,7 @@ use mathlib.Core.Bool.{Bool, true, false}
 use mathlib.Core.List.{List, [], _∷_, _++_, map}
 use mathlib.Core.Option.{Option, none}
 use lib.ListN.{length, replicate}
-use Rattle.definition.specs.Basic.{ok, refused, sameBytes, at}
+use Rattle.definition.specs.Basic.{ok, sameBytes, at}
 use Rattle.definition.specs.Syntax.{Bytes, Identifier}
 use Rattle.definition.specs.Token.{param}
 use Rattle.definition.specs.Names.{Namespace, taken, distinct, paramCount, distinctLocals}

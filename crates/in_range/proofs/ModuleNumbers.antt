@@ -1,5 +1,5 @@
 -- No refusal of resolution has the number 0, and none of what makes a module: a call that says 0 has accepted.
-use Prim.Native.Nat.{ℕ, _+_}
+use Prim.Native.Nat.{ℕ}
 use mathlib.Core.Bool.{Bool}
 use mathlib.Core.List.{List, [], _∷_}
 use mathlib.Core.Option.{Option, none, some}

@@ -29,7 +29,7 @@ use Rattle.walk.specs.Walk.{usesIn}
 use Rattle.walk.specs.declared.Stop.{Stop}
 use Rattle.instr.specs.Readers.{headIs}
 use Rattle.instr.specs.Known.{IsRead}
-use Rattle.instr.specs.Bodies.{Head, one, folding, ended, unread, onByte, oneOf, headAt, Stretch, nothing, stopped, joined, before, operatorLast, foldHere, operandsBy, treeAt, bodyFrom}
+use Rattle.instr.specs.Bodies.{one, folding, ended, unread, onByte, oneOf, headAt, Stretch, stopped, joined, before, operatorLast, foldHere, operandsBy, treeAt, bodyFrom}
 use Rattle.instr.proofs.Stretches as Stretches
 use Rattle.instr.proofs.Stretches.{tree-is, tree-reach, tree-later, operands-reach, body-one, body-folded, body-ended, body-cut, body-reach, operands-more, whole-first, whole-rest, whole-head, whole-tree}
 use Rattle.type_table.specs.Table.{Indexed}

@@ -11,7 +11,7 @@ use Rattle.definition.specs.Syntax.{Bytes, FuncType}
 use Rattle.definition.specs.Types as Types
 use Rattle.definition.specs.Types.{intern, signature, isShort, instrUses, usedAt}
 use Rattle.syntax.specs.declared.Refusal.{Refusal}
-use Rattle.area.specs.Layout.{NAMED, TYPES, USES, WORDS}
+use Rattle.area.specs.Layout.{TYPES, USES, WORDS}
 use Rattle.syntax.specs.declared.Index.the-variants as X
 use Rattle.syntax.specs.TypeUses.{useOf}
 use Rattle.syntax.specs.declared.TypeUse.{TypeUse}

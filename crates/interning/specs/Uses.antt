@@ -5,7 +5,7 @@ use mathlib.Core.Bool.{false}
 use mathlib.Core.List.{List, [], _∷_, _++_}
 use mathlib.Core.Option.{Option, some}
 use lib.ListN.{getD}
-use Rattle.definition.specs.Basic.{ok, refused}
+use Rattle.definition.specs.Basic.{ok}
 use Rattle.definition.specs.Syntax as Syntax
 use Rattle.definition.specs.Syntax.{Bytes, Identifier, FuncType}
 use Rattle.definition.specs.Instructions.{Inside}

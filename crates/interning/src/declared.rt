@@ -4,7 +4,7 @@ use syntax::List;
 use type_table::Signature;
 use walk::What;
 ghost use mathlib.Core.Path.{_≡_};
-ghost use Prim.Native.Nat.{_+_, _≤_, _<_};
+ghost use Prim.Native.Nat.{_+_, _<_};
 ghost use lib.ListN.{length, getD};
 ghost use Rattle.area.specs.Layout.{DECLARED};
 ghost use Rattle.area.specs.Lent.{Lent};

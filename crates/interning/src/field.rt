@@ -8,7 +8,7 @@ use syntax::Own;
 use syntax::Source;
 ghost use mathlib.Core.Path.{_≡_};
 ghost use mathlib.Core.Bool.{true};
-ghost use Prim.Native.Nat.{_+_, _≤_, _<_};
+ghost use Prim.Native.Nat.{_+_, _<_};
 ghost use Rattle.area.specs.Lent.{Lent};
 ghost use Rattle.definition.specs.Types as Types;
 ghost use Rattle.definition.specs.Read as Read;

@@ -1,6 +1,5 @@
 // Where a segment stands.
 use syntax::ByteAt;
-use syntax::Index;
 use syntax::IndexAt;
 use syntax::Mode;
 use syntax::ModeAt;

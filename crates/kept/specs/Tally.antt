@@ -3,7 +3,7 @@ use Prim.Native.Nat.{ℕ, _<_}
 use mathlib.Core.Path.{_≡_}
 use mathlib.Core.List.{List, [], _∷_}
 use lib.ListN.{length, getD, set, replicate}
-use Rattle.definition.specs.Basic.{Answer, ok, refused}
+use Rattle.definition.specs.Basic.{Answer, ok}
 use Rattle.definition.specs.Syntax.{Bytes}
 use Rattle.definition.specs.Binary.{inSection, joined}
 use Rattle.syntax.specs.Refusals.{refusedBy}

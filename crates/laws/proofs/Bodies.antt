@@ -6,11 +6,11 @@ use mathlib.Core.Bool.{Bool, true, false, not, false≢true}
 use mathlib.Core.List.{List, [], _∷_}
 use mathlib.Core.Option.{Option, none, some}
 use lib.Dec.{eqb, leb, ltb}
-use lib.ListN.{length, getD, replicate, length-replicate}
+use lib.ListN.{length, getD, length-replicate}
 use borrow.Author.Tests.{leb-true, ltb-true, lt-ltb}
 use native.Mathlib.Omega.{arith}
 use Rattle.definition.specs.Basic.{if_then_else_}
-use Rattle.definition.specs.Syntax.{Bytes, Identifier, TypeUse, Instr, opens, elses, ends, indirect, plain, FieldRec, Rec, field, instr, folded, bodyEnd}
+use Rattle.definition.specs.Syntax.{Bytes, Identifier, Instr, opens, elses, ends, indirect, plain, FieldRec, Rec, field, instr, folded, bodyEnd}
 use Rattle.definition.specs.Reader.{Step, got, fault, onward, require, give, byte, _>>=_, _>>_}
 use Rattle.definition.specs.Token.{u32, upTo, identifier, typeUse, optional}
 use Rattle.definition.specs.Instructions.{Form, opening, elsing, ending, calling, operands, formOf, plainOf, instruction}

@@ -15,7 +15,7 @@ use Rattle.emit.specs.Put.{past}
 use Rattle.area.specs.Layout.{BYTES, SIZE}
 use Rattle.deinline.specs.Entry.{Entries}
 use Rattle.kept.specs.Sections.{IMPORT, START, CODE, DATAS, DATA_COUNT, SECTIONS}
-use Rattle.kept.specs.Tally.{tallies, noTally, Slots}
+use Rattle.kept.specs.Tally.{noTally, Slots}
 use Rattle.kept.specs.declared.tally.Tally.{Tally}
 use Rattle.kept.proofs.Tallies.{size-is, count-is}
 use Rattle.type_table.specs.Table.{typesIn}

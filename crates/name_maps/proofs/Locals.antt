@@ -6,7 +6,7 @@ use mathlib.Core.List.{List, [], _∷_, _++_, append-nil}
 use mathlib.Core.Option.{none}
 use lib.ListN.{length, replicate, length-map}
 use native.Mathlib.Omega.{arith}
-use Rattle.definition.specs.Basic.{ok, refused, concatMap, at}
+use Rattle.definition.specs.Basic.{ok, concatMap, at}
 use Rattle.definition.specs.Syntax as Syntax
 use Rattle.definition.specs.Syntax.{Bytes, Identifier, number}
 use Rattle.definition.specs.Token as Token

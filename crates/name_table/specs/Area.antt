@@ -4,7 +4,7 @@ use mathlib.Core.List.{List, [], _∷_}
 use mathlib.Core.Option.{Option, none, some}
 use lib.Dec.{eqb}
 use lib.ListN.{length, getD, set}
-use Rattle.definition.specs.Basic.{Answer, ok, refused, if_then_else_}
+use Rattle.definition.specs.Basic.{Answer, ok, if_then_else_}
 use Rattle.definition.specs.Syntax.{Bytes, Identifier}
 use Rattle.definition.specs.Names.{Namespace}
 use Rattle.syntax.specs.Refusals.{refusedBy}

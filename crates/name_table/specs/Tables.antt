@@ -3,7 +3,7 @@ use Prim.Native.Nat.{ℕ, _+_, _*_, min}
 use mathlib.Core.List.{List}
 use lib.ListN.{getD}
 use Rattle.definition.specs.Syntax.{Bytes, Identifier, Space, code}
-use Rattle.definition.specs.Names.{Namespace, space}
+use Rattle.definition.specs.Names.{Namespace}
 use Rattle.area.specs.Layout.{NAMED, NAMES, TABLE}
 use Rattle.name_table.specs.Area.{names}
 

@@ -35,7 +35,7 @@ use Rattle.syntax.specs.declared.Form as Code
 use Rattle.syntax.specs.declared.Form.the-variants as FM
 use Rattle.next_record.specs.Uses.{mayUse, sortNames}
 use Rattle.next_record.specs.Places.{recordPast, placeAfter, movedBy, bodyRecordAt}
-use Rattle.next_record.specs.Answers.{Kept, an-instr, some-folded, an-end, keptOf, keptAt, keptInstr, shiftOf, stay, name-data, open-one, opensIn, elsesIn, endsIn, plainInside, insideAnswer, onPast, refusedHere}
+use Rattle.next_record.specs.Answers.{Kept, an-instr, some-folded, an-end, keptOf, keptAt, keptInstr, stay, name-data, open-one, opensIn, elsesIn, endsIn, plainInside, insideAnswer, onPast, refusedHere}
 use Rattle.next_record.specs.Folds.{noneDo, foldedAt, keptFold, foldedTurn, instrTurn, turnAt}
 use Rattle.next_record.specs.declared.record.Does.{Does}
 use Rattle.next_record.specs.declared.fold.Fold.{Fold}

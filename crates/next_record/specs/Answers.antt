@@ -4,7 +4,6 @@ use mathlib.Core.Bool.{Bool, false}
 use lib.Dec.{eqb, ltb}
 use Rattle.definition.specs.Basic.{if_then_else_, Answer, ok, fails, refused}
 use Rattle.definition.specs.Syntax.{Bytes, Identifier, Instr, opens, elses, ends, indirect, plain, Rec, field, instr, folded, bodyEnd}
-use mathlib.Core.Option.{Option}
 use Rattle.definition.specs.Reader.{Step, got, fault, Reader, _>>_, require}
 use Rattle.definition.specs.Instructions.{Operands, opening, elsing, ending, instruction, mayElse}
 use Rattle.syntax.specs.Marks.{insideOf}

@@ -1,7 +1,7 @@
 -- Which bodies the interning of types has to look at, and which instructions ask for the data count section.
 use Prim.Native.Nat.{ℕ, _+_}
 use mathlib.Core.Bool.{Bool, false, true, not, _||_}
-use mathlib.Core.List.{List, [], _∷_}
+use mathlib.Core.List.{[], _∷_}
 use lib.Dec.{eqb}
 use Rattle.area.specs.Layout.{MARK}
 use Rattle.definition.specs.Basic.{if_then_else_}

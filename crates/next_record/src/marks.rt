@@ -1,7 +1,7 @@
 // The marks of the open blocks, moved on. A block more pushes the others one bit up; 128 fit.
 use syntax::Marks;
 ghost use mathlib.Core.Path.{_≡_};
-ghost use Prim.Native.Nat.{_-_, _≤_};
+ghost use Prim.Native.Nat.{_-_};
 ghost use Rattle.definition.specs.Instructions.{mayElse};
 ghost use Rattle.syntax.specs.Marks.{insideOf};
 ghost use Rattle.next_record.specs.Marks.{markOf, innermostOf, Opened, Elsed, Ended};

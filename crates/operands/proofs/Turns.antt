@@ -4,7 +4,7 @@ use mathlib.Core.Path.{_≡_, refl, sym, _∙_, ap}
 use mathlib.Core.List.{List, [], _∷_, _++_}
 use lib.ListN.{length}
 use native.Mathlib.Omega.{arith}
-use Rattle.definition.specs.Basic.{Answer, ok, refused, _>>=_, each, concatMap}
+use Rattle.definition.specs.Basic.{Answer, ok, _>>=_, each, concatMap}
 use Rattle.definition.specs.Syntax as Syntax
 use Rattle.definition.specs.Syntax.{Bytes, Identifier, Depth}
 use Rattle.definition.specs.Token.{present}

@@ -3,12 +3,12 @@ use mathlib.Core.Path.{_≡_, refl, ap, sym, _∙_, subst}
 use Prim.Native.Nat.{ℕ, zero, suc, _+_, _-_, _≤_, _<_}
 use mathlib.Core.Bool.{Bool, true, false, _||_}
 use mathlib.Core.List.{List, [], _∷_, _++_, append-nil, append-assoc}
-use mathlib.Core.Option.{Option, none, some}
+use mathlib.Core.Option.{none, some}
 use lib.ListN.{length}
 use borrow.Author.Tests.{lt-leb}
 use native.Mathlib.Omega.{arith}
 use native.Mathlib.Decide.{decLe}
-use Rattle.definition.specs.Basic.{if_then_else_, Answer, ok, refused, any}
+use Rattle.definition.specs.Basic.{Answer, ok, refused, any}
 use Rattle.definition.specs.Syntax.{Bytes, Identifier, Space, Instr, Rec, field, instr, folded, bodyEnd, Body}
 use Rattle.definition.specs.Reader.{got}
 use Rattle.definition.specs.Instructions.{Blocks, Inside, openAfter, insideAfter, complete, awaiting, foldedAfter, bodyRec}
@@ -16,7 +16,6 @@ use Rattle.definition.specs.Read as Read
 use Rattle.definition.specs.Read.{seenAfter, bodyAfter, itemsAfter, startedAfter, oneRecord, atEnd, records}
 use Rattle.definition.specs.Folded.{follow, still, flatten, bodyOf}
 use Rattle.definition.specs.Deinline.{deinlineFrom}
-use Rattle.laws.specs.Depths.{depthAfter}
 use Rattle.laws.proofs.Bodies.{no-field, end-not-due, instr-not-due, folded-fold, after-length, reads-deep}
 use Rattle.laws.proofs.Folded.{Trees, flat-one}
 use Rattle.laws.proofs.Folded as Folded

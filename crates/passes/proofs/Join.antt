@@ -9,7 +9,7 @@ use lib.ListN.{length, length-append}
 use borrow.Author.Tests.{lt-leb, le-leb, ltb-true}
 use native.Mathlib.Omega.{arith}
 use native.Mathlib.Decide.{decLe}
-use Rattle.definition.specs.Basic.{if_then_else_, Answer, ok, refused, any}
+use Rattle.definition.specs.Basic.{if_then_else_, ok, any}
 use Rattle.definition.specs.Syntax as Syntax
 use Rattle.definition.specs.Syntax.{Bytes, Identifier, Space, funcs, Source, own, imported, tableOf, memOf, ownFunc, ownTable, ownMem, ownGlobal}
 use Rattle.definition.specs.Syntax.{FieldRec, typeR, importR, itemR, exportR, startR, elemR, dataR, Rec, field, Body}
@@ -26,7 +26,7 @@ use Rattle.laws.proofs.Reading.{accepted-next, Next}
 use Rattle.syntax.specs.Items.{countOf, roomOf}
 use Rattle.syntax.specs.declared.Seen.{Seen}
 use Rattle.reread.proofs.Gives.{Roomy, RoomyField, roomy}
-use Rattle.next_record.specs.Uses.{anyUse, namesData, endWord}
+use Rattle.next_record.specs.Uses.{anyUse, endWord}
 use Rattle.stream.specs.Pass as Pass
 use Rattle.stream.specs.Pass.{Passed, pass}
 use Rattle.counting.specs.Counting.{oneMore}

@@ -1,5 +1,5 @@
 -- The last stage: the fields, resolved.
-use Prim.Native.Nat.{ℕ, _+_, _≤_}
+use Prim.Native.Nat.{ℕ}
 use mathlib.Core.Path.{_≡_, refl, sym, _∙_, ap}
 use mathlib.Core.List.{List}
 use lib.ListN.{length}
@@ -11,11 +11,11 @@ use Rattle.definition.specs.Names.{resolveAll}
 use Rattle.definition.specs.Assemble.{itemsIn}
 use Rattle.syntax.specs.Refusals.{refusedBy}
 use Rattle.syntax.specs.declared.Refusal.{Refusal}
-use Rattle.area.specs.Layout.{BYTES, LOCALS, SIZE, TYPES, WORDS}
+use Rattle.area.specs.Layout.{LOCALS, SIZE, TYPES}
 use Rattle.area.specs.Kept.{Kept}
 use Rattle.area.proofs.Kept.{kept-less, kept-word}
-use Rattle.type_table.specs.Table.{typesIn, Recalled}
-use Rattle.walk.specs.Walk.{begin, fieldsIn, Ahead}
+use Rattle.type_table.specs.Table.{typesIn}
+use Rattle.walk.specs.Walk.{begin, fieldsIn}
 use Rattle.walk.proofs.Steps.{ahead-kept}
 use Rattle.scope.specs.Scope.{scopeIn}
 use Rattle.scope.proofs.Frames.{types-kept, scope-kept, recalled-scope}

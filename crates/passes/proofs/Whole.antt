@@ -1,20 +1,20 @@
 -- The stages before the last, and the join with the records.
-use Prim.Native.Nat.{ℕ, _+_, _≤_}
+use Prim.Native.Nat.{ℕ, _+_}
 use mathlib.Core.Path.{_≡_, refl, sym, _∙_, ap}
 use mathlib.Core.Bool.{Bool, true, false}
 use mathlib.Core.List.{List, []}
 use lib.Dec.{ltb}
 use lib.ListN.{length, getD}
 use native.Mathlib.Omega.{arith}
-use Rattle.syntax.specs.Refusals.{refusalOf, refusedBy}
+use Rattle.syntax.specs.Refusals.{refusalOf}
 use Rattle.syntax.specs.declared.Refusal.{Refusal}
-use Rattle.area.specs.Layout.{BYTES, TYPES, WORDS, STRICT, DECLARED}
+use Rattle.area.specs.Layout.{BYTES, WORDS, STRICT, DECLARED}
 use Rattle.definition.specs.Basic as Basic
 use Rattle.definition.specs.Basic.{if_then_else_, refusal, Answer, ok, fails, refused, _>>=_, sameBytes}
 use Rattle.definition.specs.Syntax.{Bytes, Identifier, Rec, Item, FuncType}
 use Rattle.definition.specs.Read.{read}
 use Rattle.definition.specs.Deinline.{Numbered, importOrder, deinline}
-use Rattle.definition.specs.Types.{uses, allTypes, declared}
+use Rattle.definition.specs.Types.{allTypes}
 use Rattle.definition.specs.Names.{Items, Scope, space, definers, register}
 use Rattle.definition.specs.Binary.{module′}
 use Rattle.definition.specs.Assemble.{scope, itemsIn, items, resolved, fitting, Maker, moduleIn, namedModuleIn}
@@ -25,7 +25,7 @@ use Rattle.laws.specs.Steps.{total}
 use Rattle.stream.specs.Pass.{reading, counted, Reads}
 use Rattle.stream.specs.declared.pass.Count.{Count}
 use Rattle.stream.specs.declared.pass.Count.the-variants as C
-use Rattle.type_table.specs.Table.{typeTable, typesIn, Indexed}
+use Rattle.type_table.specs.Table.{typesIn}
 use Rattle.walk.specs.Walk.{begin, fieldsIn, Ahead}
 use Rattle.walk.proofs.Steps.{ahead-kept, ahead-below}
 use Rattle.passes.proofs.Join.{fields-in}
@@ -44,7 +44,7 @@ use Rattle.passes.specs.Passes.{makes, writes, saidBy, ReadyBy, Prepares
 use Rattle.passes.specs.declared.Passed.{Passed}
 use Rattle.area.specs.Flags.{strictIn, flagPut}
 use Rattle.area.proofs.Flags.{flag-put, put-kept, flag-kept}
-use Rattle.area.proofs.Kept.{kept-less, kept-word}
+use Rattle.area.proofs.Kept.{kept-word}
 use Rattle.area.specs.Lent.{Lent}
 
 -- ## The order of imports, the types of uses, and the names

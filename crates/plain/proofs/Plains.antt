@@ -1,6 +1,6 @@
 -- Instructions that open and close no block and have no type use: what is read is resolved and written.
 use Prim.Native.Nat.{ℕ, _-_}
-use mathlib.Core.Path.{_≡_, refl, ap}
+use mathlib.Core.Path.{_≡_, refl}
 use mathlib.Core.List.{List, [], _∷_}
 use Rattle.definition.specs.Basic.{_>>=_}
 use Rattle.definition.specs.Syntax as Syntax

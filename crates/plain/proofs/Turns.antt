@@ -3,7 +3,6 @@ use Prim.Native.Nat.{ℕ, _+_, _-_, _≤_}
 use mathlib.Core.Path.{_≡_, refl}
 use mathlib.Core.List.{List}
 use native.Mathlib.Omega.{arith}
-use Rattle.definition.specs.Basic.{refused}
 use Rattle.definition.specs.Syntax as Syntax
 use Rattle.definition.specs.Syntax.{Identifier, Rec, instr, plain}
 use Rattle.definition.specs.Reader.{Step, got, fault}

@@ -2,7 +2,7 @@
 use Prim.Native.Nat.{ℕ, _+_, _-_, _≤_, _<_}
 use mathlib.Core.Path.{_≡_}
 use mathlib.Core.List.{List, []}
-use Rattle.definition.specs.Basic.{ok, refused}
+use Rattle.definition.specs.Basic.{ok}
 use Rattle.definition.specs.Syntax as Syntax
 use Rattle.definition.specs.Syntax.{Identifier, Op, Rec, instr, plain}
 use Rattle.definition.specs.Reader.{Step, got, fault, Reader, onward, _>>=_}

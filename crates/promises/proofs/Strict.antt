@@ -10,10 +10,9 @@ use Rattle.definition.specs.Basic.{sameBytes}
 use Rattle.definition.specs.Syntax.{Bytes}
 use Rattle.definition.specs.Assemble.{Maker, moduleIn, namedModuleIn, callBy, call, callNames, callStrict, callStrictNames}
 use Rattle.laws.proofs.Strict.{MakesOr20, strict-makes, strict-names-make, strict-call}
-use Rattle.assembler.specs.Run.{outcomeOf, AssemblesBy, Assembles, AssemblesNames, AssemblesStrict, AssemblesStrictNames}
+use Rattle.assembler.specs.Run.{AssemblesBy, Assembles, AssemblesNames, AssemblesStrict, AssemblesStrictNames}
 use Rattle.assembler.specs.Export.{lent, handedOn, exportedBy, ExportsBy, Exports, ExportsNames, ExportsStrict, ExportsStrictNames}
 use Rattle.writers.specs.declared.Said.{Said}
-use Rattle.promises.specs.Promise.{outcomeIn}
 use Rattle.promises.proofs.Exported.{export-says}
 
 module _ (strict lax : Maker) (h : MakesOr20 strict lax) (s : Bytes) (work : List ℕ) (old : Bytes) where

@@ -10,7 +10,7 @@ use borrow.Author.Tests.{eqb-true, eqb-false, lt-ltb}
 use native.Mathlib.Omega.{arith}
 use native.Mathlib.Decide.{decLe}
 use Rattle.definition.specs.Basic.{if_then_else_, sameBytes}
-use Rattle.definition.specs.Syntax.{Identifier, Space, tables, code, sameSpace}
+use Rattle.definition.specs.Syntax.{Identifier, Space, code, sameSpace}
 use Rattle.definition.specs.Names.{Items, space, definers, holder}
 use Rattle.area.specs.Layout.{WORDS}
 use Rattle.syntax.specs.Tokens.{idOf}

@@ -2,9 +2,9 @@
 use mathlib.Core.Path.{_≡_, ap, _∙_, sym}
 use Prim.Native.Nat.{ℕ}
 use mathlib.Core.List.{List, [], map}
-use Rattle.definition.specs.Basic.{Answer, ok}
+use Rattle.definition.specs.Basic.{ok}
 use Rattle.definition.specs.Syntax.{Bytes, Identifier, FuncType, Rec}
-use Rattle.definition.specs.Deinline.{Numbered, deinlineFrom, deinline}
+use Rattle.definition.specs.Deinline.{deinlineFrom, deinline}
 use Rattle.definition.specs.Types.{declared, allTypes}
 use Rattle.definition.specs.Binary.{typesSize}
 use Rattle.renaming.specs.Shape.{shape, mapRec}

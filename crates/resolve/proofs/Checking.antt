@@ -3,7 +3,7 @@ use Prim.Native.Nat.{ℕ, _*_, _^_, _≤_, _<_}
 use mathlib.Core.Path.{_≡_, refl, sym, _∙_}
 use mathlib.Core.List.{List, [], _++_, map}
 use lib.ListN.{length, getD}
-use Rattle.definition.specs.Basic.{Answer, ok, refused}
+use Rattle.definition.specs.Basic.{Answer, ok}
 use Rattle.definition.specs.Syntax.{Bytes}
 use Rattle.definition.specs.Binary.{joined}
 use native.Mathlib.Omega.{arith}

@@ -1,14 +1,13 @@
 -- The number of an item.
 use Prim.Native.Nat.{ℕ, _+_, _*_, _≤_, min}
 use mathlib.Core.Path.{_≡_, sym, _∙_}
-use mathlib.Core.Bool.{true, false}
 use mathlib.Core.List.{List}
 use lib.ListN.{length, getD}
 use native.Mathlib.Omega.{arith}
 use Rattle.area.specs.Layout.{TOTAL, TYPES, WORDS}
 use Rattle.area.specs.Flags.{strictIn}
 use Rattle.definition.specs.Basic.{Answer, sameBytes}
-use Rattle.definition.specs.Syntax.{Identifier, Index, Space, types, sameSpace, code}
+use Rattle.definition.specs.Syntax.{Identifier, Index, Space, types, code}
 use Rattle.definition.specs.Names.{numberIn, countIn, itemNo}
 use Rattle.name_table.specs.Area.{names}
 use Rattle.name_table.specs.Tables.{base, nameCount, tableOf}

@@ -1,5 +1,5 @@
 -- What the answers mean.
-use Rattle.definition.specs.Basic.{Answer, ok, refused}
+use Rattle.definition.specs.Basic.{Answer, ok}
 use Rattle.definition.specs.Syntax as Syntax
 use Rattle.syntax.specs.Refusals.{refusedBy}
 use Rattle.syntax.specs.Resolved.{localNoOf, typeNoOf, depthOf, blockTypeOf}

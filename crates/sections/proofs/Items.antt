@@ -1,14 +1,14 @@
 -- The items of the module, and their entries: section 1 is that of the types, and the others have the entries of the fields.
 use Prim.Native.Nat.{ℕ, min}
 use mathlib.Core.Path.{_≡_, refl, sym, _∙_, ap}
-use mathlib.Core.Bool.{Bool, true, false}
+use mathlib.Core.Bool.{false}
 use mathlib.Core.List.{List, [], _∷_, _++_, map, append-assoc, append-nil}
 use lib.Dec.{eqb}
 use lib.ListN.{length, drop, getD}
 use native.Mathlib.Omega.{arith}
 use borrow.Author.Tests.{ne-eqb}
 use Rattle.definition.specs.Basic.{Answer, ok, fails, _>>=_, concatMap}
-use Rattle.definition.specs.Syntax.{Bytes, FuncType}
+use Rattle.definition.specs.Syntax.{FuncType}
 use Rattle.definition.specs.Syntax.{Item, typeI, importI, funcI, tableI, memI, globalI, exportI, startI, elemI, dataI}
 use Rattle.definition.specs.Types.{declared}
 use Rattle.definition.specs.Names.{resolveAll}
@@ -22,7 +22,7 @@ use Rattle.walk.specs.Walk.{fieldsIn}
 use Rattle.scope.specs.Scope.{scopeIn}
 use Rattle.deinline.specs.Entry.{Entries, untyped, entriesOf}
 use Rattle.kept.specs.Content.{Fine, kept}
-use Rattle.sections.specs.Write.{Typed, Writable, allEntries, keptItems, moduleItems}
+use Rattle.sections.specs.Write.{Writable, allEntries, keptItems, moduleItems}
 
 -- entries that are there come from items that are there
 items-of : (a : Answer (List Item)) (es : Entries) → (a >>= λ is. ok (concatMap untyped is)) ≡ ok es → a ≡ ok (keptItems a)

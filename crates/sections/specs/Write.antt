@@ -3,10 +3,10 @@ use Prim.Native.Nat.{ℕ, _≤_, _<_}
 use mathlib.Core.Path.{_≡_}
 use mathlib.Core.List.{List, [], _++_, map}
 use lib.ListN.{length, drop, getD}
-use Rattle.definition.specs.Basic.{Answer, ok, fails, refused}
-use Rattle.definition.specs.Syntax.{Bytes, Identifier, Item, typeI}
-use Rattle.definition.specs.Names.{resolveAll, Scope}
-use Rattle.definition.specs.Types.{declared, uses, allTypes}
+use Rattle.definition.specs.Basic.{Answer, ok, fails}
+use Rattle.definition.specs.Syntax.{Bytes, Item, typeI}
+use Rattle.definition.specs.Names.{resolveAll}
+use Rattle.definition.specs.Types.{declared, allTypes}
 use Rattle.definition.specs.Binary.{inSection, joined, typesSize}
 use Rattle.emit.specs.Put.{Put, past}
 use Rattle.area.specs.Layout.{BYTES, LOCALS, SIZE, WORDS}

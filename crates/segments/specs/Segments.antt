@@ -3,7 +3,7 @@ use Prim.Native.Nat.{ℕ}
 use mathlib.Core.List.{[], _∷_, _++_}
 use mathlib.Core.Option.{Option, none, some}
 use lib.Dec.{eqb}
-use Rattle.definition.specs.Basic.{if_then_else_, Answer, ok, refused}
+use Rattle.definition.specs.Basic.{if_then_else_, Answer, ok}
 use Rattle.definition.specs.Syntax.{Bytes, Op, Mode, passive, active}
 use Rattle.definition.specs.Binary.{u, expr}
 use Rattle.syntax.specs.Refusals.{refusedBy}

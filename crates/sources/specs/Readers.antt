@@ -1,7 +1,7 @@
 -- Readers of the definition as the code divides them.
 use mathlib.Core.List.{[], _∷_}
 use Rattle.definition.specs.Syntax as Syntax
-use Rattle.definition.specs.Syntax.{Identifier, code}
+use Rattle.definition.specs.Syntax.{Identifier}
 use Rattle.definition.specs.Reader.{Reader, byte, choose, _>>=_}
 use Rattle.definition.specs.Records.{Room, Extern, Forms, funcExtern, tableExtern, memExtern, globalExtern, importForm}
 use Rattle.definition.specs.Records.{ownFuncForm, ownTableForm, inlineTableForm, ownMemForm, inlineMemForm, ownGlobalForm}

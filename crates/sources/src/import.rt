@@ -1,18 +1,13 @@
 // The names of an import, and what is imported under them.
 use syntax::Extern;
 use syntax::ExternAt;
-use syntax::GlobalType;
 use syntax::GlobalTypeAt;
 use syntax::ImportName;
 use syntax::Kind;
-use syntax::Limits;
 use syntax::LimitsAt;
 use syntax::NameAt;
-use syntax::Part;
 use syntax::PartAt;
-use syntax::TableType;
 use syntax::TableTypeAt;
-use syntax::TypeUse;
 use syntax::UseAt;
 ghost use mathlib.Core.Path.{_≡_};
 ghost use Rattle.definition.specs.Records as Records;

@@ -4,7 +4,7 @@ use syntax::Seen;
 use syntax::Space;
 ghost use mathlib.Core.Path.{_≡_};
 ghost use Rattle.syntax.specs.Tokens.{spaceOf};
-ghost use Rattle.syntax.specs.Items.{noneSeen, countOf, kindOf, roomOf};
+ghost use Rattle.syntax.specs.Items.{countOf, kindOf, roomOf};
 
 pub fn count_of(seen: Seen, k: Space) -> u32
     ensures { λ r. ⌜ r ≡ countOf seen (spaceOf k) ⌝ }

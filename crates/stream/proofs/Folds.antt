@@ -1,7 +1,7 @@
 -- A folded record with all its operands: the definition's pass over its records, one by one, goes where the code's recursion goes.
 use mathlib.Core.Path.{_≡_, refl, ap, sym, _∙_, subst}
 use Prim.Native.Nat.{ℕ, zero, suc, _+_, _-_, _≤_, _<_}
-use mathlib.Core.Bool.{Bool, true, false, _||_, not, false≢true}
+use mathlib.Core.Bool.{Bool, true, false, _||_, false≢true}
 use mathlib.Core.List.{List, [], _∷_, append-nil}
 use mathlib.Core.Option.{some}
 use lib.Dec.{eqb, leb, ltb}
@@ -10,7 +10,7 @@ use borrow.Author.Tests.{lt-ltb, le-ltb, ltb-true, ltb-false, lt-leb, leb-true, 
 use native.Mathlib.Omega.{arith}
 use Rattle.definition.specs.Basic.{if_then_else_, refused}
 use Rattle.definition.specs.Syntax.{Bytes, Identifier, Space, Instr, Rec, field, instr, folded, bodyEnd}
-use Rattle.definition.specs.Reader.{Step, got, fault, onward, byte}
+use Rattle.definition.specs.Reader.{Step, got, fault, byte}
 use Rattle.definition.specs.Instructions.{Blocks, Inside, isDue, complete, awaiting, foldedAfter, fold, foldedRec, bodyRec, bodyBegins}
 use Rattle.definition.specs.Read as Read
 use Rattle.definition.specs.Read.{seenAfter, itemsAfter, bodyAfter, startedAfter, oneRecord}

@@ -5,7 +5,7 @@ use mathlib.Core.List.{List, [], _++_, append-nil, append-assoc}
 use mathlib.Core.Option.{Option, none, some}
 use lib.ListN.{length, getD}
 use native.Mathlib.Omega.{arith}
-use Rattle.definition.specs.Basic.{ok, refused}
+use Rattle.definition.specs.Basic.{ok}
 use Rattle.definition.specs.Syntax.{Bytes, Identifier}
 use Rattle.definition.specs.Instructions.{Inside}
 use Rattle.definition.specs.Read.{fieldBody}

@@ -1,5 +1,5 @@
 -- A walk over all fields: what the definition registers stands in the tables.
-use Prim.Native.Nat.{ℕ, zero, suc, _+_, _*_, _-_, _≤_, _<_, min}
+use Prim.Native.Nat.{ℕ, zero, suc, _+_, _-_, _≤_, _<_, min}
 use mathlib.Core.Path.{_≡_, refl, sym, _∙_, ap}
 use mathlib.Core.Bool.{true}
 use mathlib.Core.List.{List, [], _∷_, _++_, map}
@@ -13,7 +13,7 @@ use Rattle.definition.specs.Basic.{Answer, ok, fails, _>>=_, sameBytes}
 use Rattle.definition.specs.Syntax.{Bytes, Identifier, Space, funcs, tables, mems, globals, types, elems, datas, code, Field, exportF, ownIndex, Body}
 use Rattle.definition.specs.Reader.{got}
 use Rattle.definition.specs.Records.{fieldRec}
-use Rattle.definition.specs.Spaces.{externSpace, ownSpace, sourceSpace, segments, brings}
+use Rattle.definition.specs.Spaces.{ownSpace, sourceSpace, segments, brings}
 use Rattle.definition.specs.Deinline.{Numbered, sourceFields, fieldsOf}
 use Rattle.definition.specs.Names.{Items, space, definers, holder, unheld, itemOf, register}
 use Rattle.syntax.specs.Refusals.{refusalOf, refusedBy}
@@ -21,7 +21,7 @@ use Rattle.syntax.specs.declared.Refusal.{Refusal}
 use Rattle.area.specs.Layout.{NAMED, NAMES, WORDS}
 use Rattle.syntax.specs.Tokens.{idOf}
 use Rattle.syntax.specs.declared.Part.{Part}
-use Rattle.syntax.specs.Items.{countOf, noneSeen, roomOf, externIs, ownOf, sourceOf}
+use Rattle.syntax.specs.Items.{countOf, noneSeen, roomOf, sourceOf}
 use Rattle.syntax.specs.declared.Seen.{Seen}
 use Rattle.syntax.specs.declared.Own.{Own}
 use Rattle.syntax.specs.declared.Source.{Source}

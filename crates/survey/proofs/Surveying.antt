@@ -9,7 +9,7 @@ use lib.Seq.{sets, getD-set-same, getD-set-other}
 use native.Mathlib.Omega.{arith}
 use types.Run.{OneOf, miss}
 use denote.Enum.Declared.{tagOf}
-use Rattle.definition.specs.Basic.{if_then_else_, ok, refused, _>>=_, sameBytes}
+use Rattle.definition.specs.Basic.{if_then_else_, ok, _>>=_, sameBytes}
 use Rattle.definition.specs.Syntax.{Bytes}
 use Rattle.definition.specs.Read.{fieldBody}
 use Rattle.definition.specs.Deinline.{importsFrom, importOrder}

@@ -5,7 +5,7 @@ use mathlib.Core.Bool.{Bool}
 use mathlib.Core.List.{List, []}
 use mathlib.Core.Option.{Option, none, some}
 use lib.ListN.{length, getD}
-use Rattle.definition.specs.Basic.{if_then_else_, Answer, ok, refused, _>>=_, sameBytes}
+use Rattle.definition.specs.Basic.{if_then_else_, Answer, ok, _>>=_, sameBytes}
 use Rattle.definition.specs.Syntax.{Bytes, Identifier, FuncType}
 use Rattle.definition.specs.Read.{fieldBody}
 use Rattle.definition.specs.Deinline.{Numbered, importsFrom, importOrder}

@@ -1,5 +1,5 @@
 -- Plain mathematics of hashes: their steps fit, and a list is hashed type by type.
-use Prim.Native.Nat.{ℕ, suc, _+_, _-_, _*_, _/_, _%_, _≤_, _<_}
+use Prim.Native.Nat.{ℕ, suc, _+_, _-_, _*_, _%_, _≤_, _<_}
 use mathlib.Core.Path.{_≡_, refl, sym, _∙_, ap}
 use mathlib.Core.Bool.{Bool, false}
 use mathlib.Core.List.{List}
@@ -8,7 +8,7 @@ use mir.Syntax.{w64}
 use mir.Val.{Fits}
 use native.Mathlib.Nat.{mul-le-mul-right}
 use native.Mathlib.Omega.{arith}
-use Rattle.definition.specs.Syntax.{Bytes, ValType, FuncType}
+use Rattle.definition.specs.Syntax.{Bytes, FuncType}
 use Rattle.syntax.specs.TypeUses.{elements}
 use Rattle.syntax.specs.declared.List as Code
 use Rattle.type_table.specs.Hash.{HALF, START, crossed, mixed, hashFrom, hashedList, hashOf}

@@ -6,7 +6,7 @@ use mathlib.Core.Bool.{Bool, true, false, _&&_}
 use mathlib.Core.Option.{Option, none, some}
 use lib.ListN.{length, getD, set, drop}
 use lib.Dec.{eqb, ltb}
-use Rattle.definition.specs.Basic.{if_then_else_, Answer, ok, refused, sameBytes}
+use Rattle.definition.specs.Basic.{if_then_else_, Answer, ok, sameBytes}
 use Rattle.definition.specs.Syntax.{Bytes, ValType, FuncType}
 use Rattle.definition.specs.Reader.{Reader, _>>=_, give}
 use Rattle.definition.specs.Token.{param, valType}

@@ -14,7 +14,6 @@ use syntax::List;
 use syntax::ListAt;
 use syntax::Local;
 use syntax::LocalAt;
-use syntax::Part;
 use syntax::PartAt;
 use syntax::Skip;
 use syntax::TypeUse;

@@ -13,7 +13,6 @@ use native.Mathlib.Nat.{add-zero}
 use mir.Syntax.{w32}
 use mir.Val.{Fits}
 use Rattle.definition.specs.Syntax.{Bytes}
-use Rattle.definition.specs.Reader.{got, fault}
 use Rattle.definition.specs.Instructions.{begun}
 use Rattle.definition.specs.Records.{fieldRec}
 use Rattle.definition.specs.Spaces.{brings, sourceSpace, segments}

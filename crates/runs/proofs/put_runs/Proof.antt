@@ -2,9 +2,6 @@ use Rattle.binary.proofs.Parts.{put-vec, put-vec-before}
 use borrow.Author.Needs.{needs}
 use Rattle.runs.proofs.put_runs.Statement.{statement}
 use Rattle.runs.proofs.put_runs.Tie as tie
-use Rattle.runs.proofs.count_runs.Reads as count-runs-reads
-use Rattle.runs.proofs.put_each_run.Reads as put-each-run-reads
-use Rattle.leb.proofs.put_u.Reads as put-u-reads
 
 add-put-each-run : tie.Need-add-put-each-run
 add-put-each-run c = search needs

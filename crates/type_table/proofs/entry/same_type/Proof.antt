@@ -2,7 +2,6 @@ use Rattle.type_table.proofs.Entries.{same-not, same-results}
 use borrow.Author.Needs.{needs}
 use Rattle.type_table.proofs.entry.same_type.Statement.{statement}
 use Rattle.type_table.proofs.entry.same_type.Tie as tie
-use Rattle.type_table.proofs.list.same_list.Reads as same-list-reads
 
 same-list-requires : tie.Need-same-list-requires
 same-list-requires c κs = search needs

@@ -4,34 +4,25 @@ use mathlib.Core.Path.{refl}
 use borrow.Author.Needs.{needs}
 use Rattle.type_table.proofs.index.mix.Statement.{statement}
 use Rattle.type_table.proofs.index.mix.Tie as tie
-use Rattle.type_table.proofs.index.mix.Reads as reads
-use Rattle.type_table.proofs.index.mix.Lts as lts
 
--- src/index.rt:30:25
 mul-a : tie.Need-mul-a
 mul-a c = search needs
 
--- src/index.rt:30:14
 add-a : tie.Need-add-a
 add-a c = search needs
 
--- src/index.rt:31:14
 add-b : tie.Need-add-b
 add-b c = search needs
 
--- src/index.rt:32:5
 mul-result : tie.Need-mul-result
 mul-result c = search products
 
--- src/index.rt:32:5
 add-result : tie.Need-add-result
 add-result c = search products
 
--- src/index.rt:32:5
 add-result-2 : tie.Need-add-result-2
 add-result-2 c = search products
 
--- src/index.rt:27:1
 returns : tie.Need-returns
 unfolding mixed
 returns c = refl

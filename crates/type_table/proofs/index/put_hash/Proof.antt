@@ -2,10 +2,6 @@ use Rattle.type_table.proofs.Indexed.{hash-words}
 use borrow.Author.Needs.{needs}
 use Rattle.type_table.proofs.index.put_hash.Statement.{statement}
 use Rattle.type_table.proofs.index.put_hash.Tie as tie
-use Rattle.type_table.proofs.index.put_hash.Reads as reads
-use Rattle.type_table.proofs.index.put_hash.Lts as lts
-use Rattle.type_table.proofs.index.high_half.Reads as high-half-reads
-use Rattle.type_table.proofs.index.low_half.Reads as low-half-reads
 
 low-half-requires : tie.Need-low-half-requires
 low-half-requires c κs = search needs

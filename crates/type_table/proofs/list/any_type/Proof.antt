@@ -2,7 +2,6 @@ use Rattle.type_table.proofs.Lists.{any-yes, any-no}
 use borrow.Author.Needs.{needs}
 use Rattle.type_table.proofs.list.any_type.Statement.{statement}
 use Rattle.type_table.proofs.list.any_type.Tie as tie
-use Rattle.type_table.proofs.list.next_type.Reads as next-type-reads
 
 next-type-requires : tie.Need-next-type-requires
 next-type-requires c κs = search needs
