@@ -41,7 +41,7 @@ use Rattle.scope.specs.declared.Locals.{Locals}
 use Rattle.binary.specs.Emits.{Wrote, Emits}
 use Rattle.binary.proofs.Emitting.{bind-ok, bind-not, wrote}
 use Rattle.operands.proofs.Elements.{after, concat-snoc}
-use Rattle.plain.specs.Turns.{InBody, recordOf, plainRecord, readUses, Turned, AnyLocals}
+use Rattle.plain.specs.Turns.{recordOf, plainRecord, readUses, Turned, AnyLocals}
 use Rattle.plain.specs.declared.turn.Turn.{Turn}
 use Rattle.plain.specs.declared.turn.Turn.the-variants as T
 use Rattle.plain.proofs.Turns.{turned-fault}
@@ -180,9 +180,6 @@ module _ (s : List ℕ) (left r here : ℕ) (q : Folding) (told : q ≡ partsAt 
     read-op x k e = let f : got (instr (parts .op)) (parts .past) ≡ got (instr x) k = rw (parts .reads) at e in cc
 
 -- what its operands and its operator need
-pub folded-gets : (s : List ℕ) (here a n next : ℕ) (q : Folding) → q ≡ FO.Parts a n next → q ≡ partsAt s here → Gets (operator s a)
-folded-gets s here a n next q d told = let c = parted s here a n next (sym told ∙ d) in record { value = c .op; next = c .past; is = c .reads }
-
 module _ (s w : List ℕ) (left r here : ℕ) (v : Resolvable s w (treeAt left s r here)) (a n next : ℕ) (q : Folding) (d : q ≡ FO.Parts a n next) (told : q ≡ partsAt s here) (deep : 1 ≤ left) (low : r < 4096) where
   abbrev known : Parted s here a n next
   known = parts s left r here q told deep low a n next d
@@ -192,6 +189,9 @@ module _ (s w : List ℕ) (left r here : ℕ) (v : Resolvable s w (treeAt left s
 
   pub folded-operands : Resolvable s w (operandsBy (treeAt (left - 1) s) n (r + 1) next)
   folded-operands = resolvable-operands s w r (known .op) (operandsBy (treeAt (left - 1) s) n (r + 1) next) parted-resolvable
+
+  pub folded-gets : Gets (operator s a)
+  folded-gets = record { value = known .op; next = known .past; is = known .reads }
 
   pub folded-uses : Recalled w (typesIn s w) (readUses r (operator s a))
   folded-uses = rw (known .reads) (resolvable-operator s w r (known .op) (operandsBy (treeAt (left - 1) s) n (r + 1) next) parted-resolvable)
@@ -333,18 +333,18 @@ pub record Operating (s w : List ℕ) (l : Locals) (depth left n r here : ℕ) (
   pub level : p .depth ≡ depth
   pub room : length out ≡ length old
 
--- the first stands after the record that they belong to
-pub operating-begin : (s w : List ℕ) (l : Locals) (left n next : ℕ) (old : List ℕ) (at : ℕ) (p : Place) → length old * 1 < 2 ^ 63 → InBody p
-    → Resolvable s w (operandsBy (treeAt left s) n (p .rec + 1) next) → Operating s w l (p .depth) left n (p .rec + 1) next old at old at (record { at = next; rec = p .rec + 1; depth = p .depth }) n
+-- none is done yet
+pub operating-begin : (s w : List ℕ) (l : Locals) (left n : ℕ) (old : List ℕ) (at : ℕ) (p : Place) → length old * 1 < 2 ^ 63 → Within p
+    → Resolvable s w (operandsBy (treeAt left s) n (p .rec) (p .at)) → Operating s w l (p .depth) left n (p .rec) (p .at) old at old at p n
 unfolding concatMap
-operating-begin s w l left n next old at p h v r = record {
+operating-begin s w l left n old at p h v r = record {
   done = [];
   so-far = put-none at (omega arith);
-  same = all-after (stretchAnswer s w l (p .depth) (operandsBy (treeAt left s) n (p .rec + 1) next));
+  same = all-after (stretchAnswer s w l (p .depth) (operandsBy (treeAt left s) n (p .rec) (p .at)));
   ends = refl;
   next = refl;
   resolvable = r;
-  within = record { deep = v .deep; few = v .few; low = omega (arith, v .low) };
+  within = v;
   level = refl;
   room = refl;
 }

@@ -1,5 +1,5 @@
 -- The running place in a body.
-use Prim.Native.Nat.{ℕ, _<_}
+use Prim.Native.Nat.{ℕ, _+_, _<_}
 use native.Mathlib.Omega.{arith}
 use Rattle.syntax.specs.declared.Place.{Place}
 use Rattle.plain.specs.Turns.{InBody}
@@ -15,3 +15,7 @@ in-within p v = record { deep = v .deep; few = v .few; low = omega (arith, v .lo
 
 pub within-body : (p : Place) → Within p → p .rec < 4096 → InBody p
 within-body p v low = record { deep = v .deep; few = v .few; low = low }
+
+-- where the first operand of a folded record may stand
+pub within-past : (p : Place) (next : ℕ) → Within p → p .rec < 4096 → Within (record { at = next; rec = p .rec + 1; depth = p .depth })
+within-past p next v low = record { deep = v .deep; few = v .few; low = omega arith }

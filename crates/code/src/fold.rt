@@ -5,7 +5,7 @@ use syntax::ByteAt;
 use syntax::Folding;
 use syntax::Form;
 use syntax::Place;
-ghost use Prim.Native.Nat.{_+_, _-_, _≤_};
+ghost use Prim.Native.Nat.{_-_, _≤_};
 ghost use lib.ListN.{length};
 ghost use Rattle.area.specs.Layout.{WORDS};
 ghost use Rattle.definition.specs.Instructions as Instructions;
@@ -93,14 +93,19 @@ pub fn emit_folded(
     }
     match instr::skip_folded(s, p.at) {
         Folding::Parts(a, n, next) => {
-            let held = emit_operands(s, work, out, at, p, l, left - 1, next, n);
+            let first = Place {
+                at: next,
+                rec: p.rec + 1,
+                depth: p.depth,
+            };
+            let held = emit_operands(s, work, out, at, first, l, left - 1, n);
             operator_last(s, work, out, held, p, l, a)
         }
         Folding::Unread => Turn::Done,
     }
 }
 
-// So many operands of the folded record at `p`, which stand from `next` on, from left to right; in each so many folded records are nested at most.
+// So many operands, from the one at `p` on, from left to right; in each so many folded records are nested at most.
 fn emit_operands(
     s: &[u8],
     work: &[u32],
@@ -109,18 +114,13 @@ fn emit_operands(
     p: Place,
     l: Locals,
     left: u32,
-    next: usize,
     n: u32,
 ) -> Turn
-    requires { ⌜ (WORDS ≤ length (now work)) × FewLocals l × InBody p × Resolvable (now s) (now work) (operandsBy (treeAt left (now s)) n (p .rec + 1) next) ⌝ }
-    ensures { λ r. ⌜ StretchTurned (now (s .entry)) (now (work .entry)) l (p .depth) (operandsBy (treeAt left (now (s .entry))) n (p .rec + 1) next) (now (out .entry)) at r (now (out .exit)) ⌝ }
+    requires { ⌜ (WORDS ≤ length (now work)) × FewLocals l × Within p × Resolvable (now s) (now work) (operandsBy (treeAt left (now s)) n (p .rec) (p .at)) ⌝ }
+    ensures { λ r. ⌜ StretchTurned (now (s .entry)) (now (work .entry)) l (p .depth) (operandsBy (treeAt left (now (s .entry))) n (p .rec) (p .at)) (now (out .entry)) at r (now (out .exit)) ⌝ }
 {
     let mut o = at;
-    let mut q = Place {
-        at: next,
-        rec: p.rec + 1,
-        depth: p.depth,
-    };
+    let mut q = p;
     let mut due = n;
     while 0 < due {
         match emit_folded(s, work, out, o, q, l, left) {

@@ -1,6 +1,6 @@
 use Rattle.instr.proofs.Stretches.{whole-folded}
 use borrow.Author.Needs.{needs}
-use Rattle.code.proofs.Places.{within-body}
+use Rattle.code.proofs.Places.{within-body, within-past}
 use Rattle.code.proofs.Folds.{foldings, folded-operands, folded-uses, folded-gets, Operating, operatings, operating-begin, operating-within, operating-resolvable, operating-out}
 use Prim.Native.Nat.{ℕ, _+_, _*_, _<_}
 use borrow.Fn.Kinds.{In}
@@ -82,6 +82,16 @@ emit-folded-enum-known-a : (t : ℕ) → emit-folded-lts.Need-enum-known-a (
 ) (emit-folded-at t) emit-folded.Post
 emit-folded-enum-known-a t c = search needs
 
+emit-folded-add-emit-operands : (t : ℕ) → emit-folded-lts.Need-add-emit-operands (
+  skip-folded-reads.Asked,
+  skip-folded-reads.Learnt,
+  emit-operands-below t,
+  emit-operands.Post,
+  operator-last-reads.Asked,
+  operator-last-reads.Learnt,
+) (emit-folded-at t) emit-folded.Post
+emit-folded-add-emit-operands t c = search needs
+
 emit-folded-emit-operands-requires : (t : ℕ) → emit-folded-lts.Need-emit-operands-requires (
   skip-folded-reads.Asked,
   skip-folded-reads.Learnt,
@@ -90,7 +100,7 @@ emit-folded-emit-operands-requires : (t : ℕ) → emit-folded-lts.Need-emit-ope
   operator-last-reads.Asked,
   operator-last-reads.Learnt,
 ) (emit-folded-at t) emit-folded.Post
-emit-folded-emit-operands-requires t c κs = search (within-body, folded-operands, needs)
+emit-folded-emit-operands-requires t c κs = search (within-past, folded-operands, needs)
 
 emit-folded-operator-last-requires : (t : ℕ) → emit-folded-lts.Need-operator-last-requires (
   skip-folded-reads.Asked,
@@ -100,7 +110,8 @@ emit-folded-operator-last-requires : (t : ℕ) → emit-folded-lts.Need-operator
   operator-last-reads.Asked,
   operator-last-reads.Learnt,
 ) (emit-folded-at t) emit-folded.Post
-emit-folded-operator-last-requires t c κs = search (within-body, folded-uses, folded-gets, needs)
+emit-folded-operator-last-requires t c κs =
+    (search needs, search needs, search (within-body, needs), search (folded-uses, needs), search (folded-gets, needs))
 
 emit-folded-enum-told : (t : ℕ) → emit-folded-lts.Need-enum-told (
   skip-folded-reads.Asked,
@@ -143,17 +154,11 @@ emit-folded-returns-4 : (t : ℕ) → emit-folded-lts.Need-returns-4 (
 emit-folded-returns-4 t c = search (foldings) depth 12
 
 abbrev emit-operands-Inv-loop : emit-operands-lts.InvT-loop
-emit-operands-Inv-loop s work out₀ at l left next n o₀ q₀ due₀ out o q due =
+emit-operands-Inv-loop s work out₀ at l left n o₀ q₀ due₀ out o q due =
     Operating s work l (q₀ .depth) left n (q₀ .rec) (q₀ .at) out₀ at out o q due
 
 abbrev emit-operands-μ-loop : emit-operands-lts.MeasureT-loop
-emit-operands-μ-loop s work out₀ at l left next n o₀ q₀ due₀ out o q due = due
-
-emit-operands-add-t16 : (t : ℕ) → emit-operands-lts.Need-add-t16 (
-  emit-folded-below t,
-  emit-folded.Post,
-) (emit-operands-at t) emit-operands.Post emit-operands-Inv-loop emit-operands-μ-loop
-emit-operands-add-t16 t c = search needs
+emit-operands-μ-loop s work out₀ at l left n o₀ q₀ due₀ out o q due = due
 
 emit-operands-loop-holds : (t : ℕ) → emit-operands-lts.Need-loop-holds (
   emit-folded-below t,
@@ -254,6 +259,7 @@ pub +emit-folded+emit-operands-spec : {M : Type 1} → statement M
     (emit-folded-returns-2 t)
     (emit-folded-skip-folded-requires t)
     (emit-folded-enum-known-a t)
+    (emit-folded-add-emit-operands t)
     (emit-folded-emit-operands-requires t)
     (emit-folded-operator-last-requires t)
     (emit-folded-enum-told t)
@@ -266,7 +272,6 @@ pub +emit-folded+emit-operands-spec : {M : Type 1} → statement M
     emit-operands.Post
     emit-operands-Inv-loop
     emit-operands-μ-loop
-    (emit-operands-add-t16 t)
     (emit-operands-loop-holds t)
     (emit-operands-emit-folded-requires t)
     (emit-operands-enum-known-b t)
