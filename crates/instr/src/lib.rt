@@ -15,6 +15,7 @@ use syntax::Skip;
 use syntax::U32;
 use syntax::UseAt;
 ghost use mathlib.Core.Path.{_≡_};
+ghost use Prim.Native.Nat.{_<_};
 ghost use Rattle.definition.specs.Instructions as Instructions;
 ghost use Rattle.laws.specs.Depths.{deep};
 ghost use Rattle.laws.specs.Steps.{stops};
@@ -25,80 +26,65 @@ ghost use Rattle.syntax.specs.Plain.{operandsIs};
 ghost use Rattle.syntax.specs.Instructions.{formIs, instrAt, foldAt};
 ghost use Rattle.instr.specs.Bodies.{deepInstr, headAt, foldHere};
 ghost use Rattle.instr.specs.Known.{IsRead, ReadableAt, ReadableBody, ReadableFold};
-ghost use Rattle.instr.specs.Readers.{lowForm, middleForm, highForm, headIs, countOf, partsAt};
+ghost use Rattle.instr.specs.Readers.{highForm, headIs, countOf, partsAt};
 
-// Opcodes below 20: control, and drop and select.
-fn low_form(b: u8) -> Form
-    ensures { λ r. ⌜ formIs r ≡ lowForm b ⌝ }
+// Opcodes below 45, one by one: so the back end makes one table of them, and no test has to be foretold.
+fn early_form(opcode: u8) -> Form
+    requires { ⌜ opcode < 0x45 ⌝ }
+    ensures { λ r. ⌜ Instructions.formOf opcode ≡ formIs r ⌝ }
 {
-    if b < 0x02 {
-        return Form::Operands(Operands::Bare);
+    match opcode {
+        0x00 => Form::Operands(Operands::Bare),
+        0x01 => Form::Operands(Operands::Bare),
+        0x02 => Form::Opening,
+        0x03 => Form::Opening,
+        0x04 => Form::Opening,
+        0x05 => Form::Elsing,
+        0x0B => Form::Ending,
+        0x0C => Form::Operands(Operands::LabelIdx),
+        0x0D => Form::Operands(Operands::LabelIdx),
+        0x0E => Form::Operands(Operands::LabelIdxs),
+        0x0F => Form::Operands(Operands::Bare),
+        0x10 => Form::Operands(Operands::FuncIdx),
+        0x11 => Form::Calling,
+        0x1A => Form::Operands(Operands::Bare),
+        0x1B => Form::Operands(Operands::Bare),
+        0x20 => Form::Operands(Operands::LocalIdx),
+        0x21 => Form::Operands(Operands::LocalIdx),
+        0x22 => Form::Operands(Operands::LocalIdx),
+        0x23 => Form::Operands(Operands::GlobalIdx),
+        0x24 => Form::Operands(Operands::GlobalIdx),
+        0x28 => Form::Operands(Operands::MemArg),
+        0x29 => Form::Operands(Operands::MemArg),
+        0x2A => Form::Operands(Operands::MemArg),
+        0x2B => Form::Operands(Operands::MemArg),
+        0x2C => Form::Operands(Operands::MemArg),
+        0x2D => Form::Operands(Operands::MemArg),
+        0x2E => Form::Operands(Operands::MemArg),
+        0x2F => Form::Operands(Operands::MemArg),
+        0x30 => Form::Operands(Operands::MemArg),
+        0x31 => Form::Operands(Operands::MemArg),
+        0x32 => Form::Operands(Operands::MemArg),
+        0x33 => Form::Operands(Operands::MemArg),
+        0x34 => Form::Operands(Operands::MemArg),
+        0x35 => Form::Operands(Operands::MemArg),
+        0x36 => Form::Operands(Operands::MemArg),
+        0x37 => Form::Operands(Operands::MemArg),
+        0x38 => Form::Operands(Operands::MemArg),
+        0x39 => Form::Operands(Operands::MemArg),
+        0x3A => Form::Operands(Operands::MemArg),
+        0x3B => Form::Operands(Operands::MemArg),
+        0x3C => Form::Operands(Operands::MemArg),
+        0x3D => Form::Operands(Operands::MemArg),
+        0x3E => Form::Operands(Operands::MemArg),
+        0x3F => Form::Operands(Operands::MemIdx),
+        0x40 => Form::Operands(Operands::MemIdx),
+        0x41 => Form::Operands(Operands::I32),
+        0x42 => Form::Operands(Operands::I64),
+        0x43 => Form::Operands(Operands::F32),
+        0x44 => Form::Operands(Operands::F64),
+        _ => Form::NoOpcode,
     }
-    if b < 0x05 {
-        return Form::Opening;
-    }
-    if b == 0x05 {
-        return Form::Elsing;
-    }
-    if b < 0x0B {
-        return Form::NoOpcode;
-    }
-    if b == 0x0B {
-        return Form::Ending;
-    }
-    if b < 0x0E {
-        return Form::Operands(Operands::LabelIdx);
-    }
-    if b == 0x0E {
-        return Form::Operands(Operands::LabelIdxs);
-    }
-    if b == 0x0F {
-        return Form::Operands(Operands::Bare);
-    }
-    if b == 0x10 {
-        return Form::Operands(Operands::FuncIdx);
-    }
-    if b == 0x11 {
-        return Form::Calling;
-    }
-    if b < 0x1A {
-        return Form::NoOpcode;
-    }
-    if b < 0x1C {
-        return Form::Operands(Operands::Bare);
-    }
-    Form::NoOpcode
-}
-
-// Variables, memory and constants: 20 to 44.
-fn middle_form(b: u8) -> Form
-    ensures { λ r. ⌜ formIs r ≡ middleForm b ⌝ }
-{
-    if b < 0x23 {
-        return Form::Operands(Operands::LocalIdx);
-    }
-    if b < 0x25 {
-        return Form::Operands(Operands::GlobalIdx);
-    }
-    if b < 0x28 {
-        return Form::NoOpcode;
-    }
-    if b < 0x3F {
-        return Form::Operands(Operands::MemArg);
-    }
-    if b < 0x41 {
-        return Form::Operands(Operands::MemIdx);
-    }
-    if b == 0x41 {
-        return Form::Operands(Operands::I32);
-    }
-    if b == 0x42 {
-        return Form::Operands(Operands::I64);
-    }
-    if b == 0x43 {
-        return Form::Operands(Operands::F32);
-    }
-    Form::Operands(Operands::F64)
 }
 
 // From 45 on: numeric instructions, then references, then what has a second byte.
@@ -126,11 +112,8 @@ fn high_form(b: u8) -> Form
 pub fn opcode_form(opcode: u8) -> Form
     ensures { λ r. ⌜ Instructions.formOf opcode ≡ formIs r ⌝ }
 {
-    if opcode < 0x20 {
-        return low_form(opcode);
-    }
     if opcode < 0x45 {
-        return middle_form(opcode);
+        return early_form(opcode);
     }
     high_form(opcode)
 }
