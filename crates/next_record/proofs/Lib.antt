@@ -3,6 +3,7 @@ pub mod Bits
 pub mod Naming
 pub mod Records
 pub mod Skims
+pub mod Straight
 pub mod Steps
 pub mod Lent
 pub mod LentTypes

@@ -82,7 +82,7 @@ module _ (w : Code.Operands) (s : Bytes) (at b : ℕ) (is : w ≡ W.Bulk) (e : b
   pub bulk-not : (b ≡ 0x08 → ⊥) → (b ≡ 0x09 → ⊥) → false ≡ sortNames (operandsIs w) (getD s at 0)
   bulk-not h g = rw (is, ← e, ne-eqb b 0x08 h, ne-eqb b 0x09 g)
 
-abbrev Others : List ℕ
+abbrev pub Others : List ℕ
 Others = 0 ∷ 1 ∷ 2 ∷ 3 ∷ 4 ∷ 5 ∷ 6 ∷ 7 ∷ 8 ∷ 9 ∷ 10 ∷ 11 ∷ 12 ∷ []
 
 -- no other operands name a data segment

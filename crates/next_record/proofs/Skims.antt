@@ -2,17 +2,17 @@
 use mathlib.Core.Path.{_≡_, refl, ap, sym, _∙_}
 use Prim.Native.Nat.{ℕ, zero, suc, _+_, _-_, _≤_, _<_}
 use mathlib.Core.Bool.{Bool, true, false, not}
-use mathlib.Core.Option.{Option, none, some, Option·none-ne-some}
+use mathlib.Core.Option.{Option, none, some}
 use lib.Dec.{eqb, ltb}
 use lib.ListN.{length, getD}
 use borrow.Author.Tests.{lt-ltb, le-ltb, ltb-false, eq-eqb, ne-eqb}
 use native.Mathlib.Omega.{arith}
-use Rattle.definition.specs.Basic.{if_then_else_, Answer, ok, between}
+use Rattle.definition.specs.Basic.{if_then_else_, Answer, ok}
 use Rattle.definition.specs.Syntax as Syntax
 use Rattle.definition.specs.Syntax.{Bytes, Identifier, instr}
 use Rattle.definition.specs.Reader.{Step, got, fault, onward, byte}
 use Rattle.definition.specs.Token.{identifier, optional, typeUse}
-use Rattle.definition.specs.Instructions.{Form, opening, elsing, ending, calling, operands, plainOf, instruction, opcodes, formIn, isOpen, mayElse, admits, formed, formOf, unfoldedRec, foldedRec, isDue, bodyRec}
+use Rattle.definition.specs.Instructions.{Form, opening, elsing, ending, calling, operands, plainOf, instruction, isOpen, mayElse, admits, formed, formOf, unfoldedRec, foldedRec, isDue, bodyRec}
 use Rattle.definition.specs.Types.{isShort}
 use Rattle.laws.specs.Steps.{stops}
 use Rattle.laws.proofs.Readers.{getD-out}
@@ -36,10 +36,12 @@ use Rattle.syntax.specs.declared.Form.the-variants as FM
 use Rattle.next_record.specs.Uses.{mayUse, sortNames}
 use Rattle.next_record.specs.Places.{recordPast, placeAfter, movedBy, bodyRecordAt}
 use Rattle.next_record.specs.Answers.{Kept, an-instr, some-folded, an-end, keptOf, keptAt, keptInstr, stay, name-data, open-one, opensIn, elsesIn, endsIn, plainInside, insideAnswer, onPast, refusedHere}
-use Rattle.next_record.specs.Folds.{noneDo, foldedAt, keptFold, foldedTurn, instrTurn, turnAt}
+use Rattle.next_record.specs.Folds.{noneDo, foldedAt, Surely, keptFold, turnAt}
 use Rattle.next_record.specs.declared.record.Does.{Does}
 use Rattle.next_record.specs.declared.fold.Fold.{Fold}
 use Rattle.next_record.specs.declared.fold.Fold.the-variants as L
+use Rattle.next_record.specs.declared.fold.Straight.{Straight}
+use Rattle.next_record.specs.declared.fold.Straight.the-variants as T
 use Rattle.next_record.specs.declared.record.Inside.{Inside}
 use Rattle.next_record.specs.declared.record.Inside.the-variants as N
 use Rattle.next_record.specs.declared.record.InsideAt.{InsideAt}
@@ -151,73 +153,58 @@ named-kept : (t : Bool) (q : Place) → _≡_ {A = Answer Kept × Place} (ok (an
 named-kept true q = refl
 named-kept false q = refl
 
--- F0 is no opcode
-no-form : formOf 0xF0 ≡ none
-unfolding formOf formIn opcodes between
-no-form = refl
-
-not-folding : (b : ℕ) (f : Form) → formOf b ≡ some f → eqb b 0xF0 ≡ false
-not-folding b f e = ne-eqb b 0xF0 (λ d. Option·none-ne-some f (sym no-form ∙ sym (ap formOf d) ∙ e))
-
 module _ (p : Place) (m : Marks) (s : Bytes) (at op : ℕ) (o : 1 ≤ p .depth) (x : InsideAt) (r : Code.Form) (told : formOf op ≡ formIs r) where
-  -- F0 is no opcode
-  is-opcode : (f : Form) → formIs r ≡ some f → (y : Answer Kept × Place) → keptInstr p (formed (insideOf (p .depth - 1) m) op (formOf op) s at) ≡ y → instrTurn p m op s at ≡ y
-  unfolding instrTurn
-  is-opcode f d y a = rw (not-folding op f (told ∙ d)) a
+  pub form-none : r ≡ FM.NoOpcode → x ≡ refusedHere p 4 → keptInstr p (formed (insideOf (p .depth - 1) m) op (formOf op) s at) ≡ insideAnswer (x .what) (x .place)
+  form-none d a = rw (told, d) (kept-not p s at o x 4 a)
 
-  pub form-folded : (y : Answer Kept × Place) → r ≡ FM.NoOpcode → foldedTurn p op s ≡ y → instrTurn p m op s at ≡ y
-  unfolding instrTurn foldedTurn
-  form-folded y d a = rw (told, d) a
-
-  pub form-opening : r ≡ FM.Opening → keptInstr p (opensIn (p .depth - 1) op s at) ≡ insideAnswer (x .what) (x .place) → instrTurn p m op s at ≡ insideAnswer (x .what) (x .place)
+  pub form-opening : r ≡ FM.Opening → keptInstr p (opensIn (p .depth - 1) op s at) ≡ insideAnswer (x .what) (x .place) → keptInstr p (formed (insideOf (p .depth - 1) m) op (formOf op) s at) ≡ insideAnswer (x .what) (x .place)
   unfolding opensIn admits
-  form-opening d a = is-opcode opening (ap formIs d) _ (rw (told, d, inside-length (p .depth - 1) m) a)
+  form-opening d a = rw (told, d, inside-length (p .depth - 1) m) a
 
-  pub form-elsing : r ≡ FM.Elsing → keptInstr p (elsesIn (p .depth - 1) m s at) ≡ insideAnswer (x .what) (x .place) → instrTurn p m op s at ≡ insideAnswer (x .what) (x .place)
+  pub form-elsing : r ≡ FM.Elsing → keptInstr p (elsesIn (p .depth - 1) m s at) ≡ insideAnswer (x .what) (x .place) → keptInstr p (formed (insideOf (p .depth - 1) m) op (formOf op) s at) ≡ insideAnswer (x .what) (x .place)
   unfolding elsesIn admits instruction
-  form-elsing d a = is-opcode elsing (ap formIs d) _ (rw (told, d) a)
+  form-elsing d a = rw (told, d) a
 
-  pub form-ending : r ≡ FM.Ending → keptInstr p (endsIn (p .depth - 1) s at) ≡ insideAnswer (x .what) (x .place) → instrTurn p m op s at ≡ insideAnswer (x .what) (x .place)
+  pub form-ending : r ≡ FM.Ending → keptInstr p (endsIn (p .depth - 1) s at) ≡ insideAnswer (x .what) (x .place) → keptInstr p (formed (insideOf (p .depth - 1) m) op (formOf op) s at) ≡ insideAnswer (x .what) (x .place)
   unfolding endsIn admits instruction
-  form-ending d a = is-opcode ending (ap formIs d) _ (rw (told, d, inside-open (p .depth - 1) m) a)
+  form-ending d a = rw (told, d, inside-open (p .depth - 1) m) a
 
-  pub form-calling : r ≡ FM.Calling → keptInstr p (instruction 0x11 calling s at) ≡ insideAnswer (x .what) (x .place) → instrTurn p m op s at ≡ insideAnswer (x .what) (x .place)
+  pub form-calling : r ≡ FM.Calling → keptInstr p (instruction 0x11 calling s at) ≡ insideAnswer (x .what) (x .place) → keptInstr p (formed (insideOf (p .depth - 1) m) op (formOf op) s at) ≡ insideAnswer (x .what) (x .place)
   unfolding admits instruction
-  form-calling d a = is-opcode calling (ap formIs d) _ (rw (told, d) a)
+  form-calling d a = rw (told, d) a
 
   module _ (w : Operands) (d : r ≡ FM.Operands w) (k : Skip) (e : stops (plainOf 0 (operandsIs w) s at) ≡ skip k) where
-    pub form-plain : (next : ℕ) (v : Inside) → k ≡ S.Past next → v ≡ plainInside (operandsIs w) (getD s at 0) → x ≡ onPast p next (p .depth) v → instrTurn p m op s at ≡ insideAnswer (x .what) (x .place)
+    pub form-plain : (next : ℕ) (v : Inside) → k ≡ S.Past next → v ≡ plainInside (operandsIs w) (getD s at 0) → x ≡ onPast p next (p .depth) v → keptInstr p (formed (insideOf (p .depth - 1) m) op (formOf op) s at) ≡ insideAnswer (x .what) (x .place)
     unfolding admits instruction depthAfter mayUse
     form-plain next v g i a =
         let y = gave (plainOf op (operandsIs w) s at) k next (any-opcode op (operandsIs w) s at ∙ e) g in
         let n = read-names op (operandsIs w) s at (y .value) next (y .is) in
-        is-opcode (operands (operandsIs w)) (ap formIs d) _
-        (rw (told, d, y .is) (kept-on p s at o x (Syntax.plain (y .value)) next (p .depth) v (omega arith) (λ q. rw (i, n) (named-kept (sortNames (operandsIs w) (getD s at 0)) q)) a))
+        rw (told, d, y .is) (kept-on p s at o x (Syntax.plain (y .value)) next (p .depth) v (omega arith) (λ q. rw (i, n) (named-kept (sortNames (operandsIs w) (getD s at 0)) q)) a)
 
-    pub form-no-plain : (n : ℕ) → k ≡ S.Fault n → x ≡ refusedHere p n → instrTurn p m op s at ≡ insideAnswer (x .what) (x .place)
+    pub form-no-plain : (n : ℕ) → k ≡ S.Fault n → x ≡ refusedHere p n → keptInstr p (formed (insideOf (p .depth - 1) m) op (formOf op) s at) ≡ insideAnswer (x .what) (x .place)
     unfolding admits instruction
-    form-no-plain n g a =
-        is-opcode (operands (operandsIs w)) (ap formIs d) _ (rw (told, d, gave-not (plainOf op (operandsIs w) s at) k n (any-opcode op (operandsIs w) s at ∙ e) g) (kept-not p s at o x n a))
+    form-no-plain n g a = rw (told, d, gave-not (plainOf op (operandsIs w) s at) k n (any-opcode op (operandsIs w) s at ∙ e) g) (kept-not p s at o x n a)
 
-pub ruleset forms-passed = (form-folded, form-opening, form-elsing, form-ending, form-calling, form-plain, form-no-plain)
+pub ruleset forms-passed = (form-none, form-opening, form-elsing, form-ending, form-calling, form-plain, form-no-plain)
 
 -- ## A folded record
 
-module _ (p : Place) (s : Bytes) (b : ℕ) where
-  pub folded-not : (x : InsideAt) → (b ≡ 0xF0 → ⊥) → x ≡ refusedHere p 4 → foldedTurn p b s ≡ insideAnswer (x .what) (x .place)
-  unfolding foldedTurn refusedHere
-  folded-not x n a = rw (ne-eqb b 0xF0 n, a)
+module _ (p : Place) (s : Bytes) where
+  -- read straight on
+  pub folded-surely : (r : Straight) (d : Does) (q : Place) → Surely s noneDo p r → r ≡ T.Past d q → keptFold (foldedAt 32 s noneDo p) ≡ (ok (some-folded d), q)
+  unfolding Surely
+  folded-surely r d q h g = let e = rw g at h in rw e
 
-  module _ (e : b ≡ 0xF0) (f : Fold) (told : f ≡ foldedAt 32 s noneDo p) where
-    pub folded-past : (d : Does) (q : Place) → f ≡ L.Past d q → foldedTurn p b s ≡ (ok (some-folded d), q)
-    unfolding foldedTurn
-    folded-past d q g = rw (eq-eqb b 0xF0 e, ← told, g)
+  -- and exactly
+  module _ (f : Fold) (told : f ≡ foldedAt 32 s noneDo p) where
+    pub folded-past : (d : Does) (q : Place) → f ≡ L.Past d q → keptFold (foldedAt 32 s noneDo p) ≡ (ok (some-folded d), q)
+    folded-past d q g = rw (← told, g)
 
-    pub folded-refused : (x : InsideAt) (n : ℕ) (q : Place) → f ≡ L.Refused n q → x ≡ refusedHere q n → foldedTurn p b s ≡ insideAnswer (x .what) (x .place)
-    unfolding foldedTurn refusedHere
-    folded-refused x n q g a = rw (eq-eqb b 0xF0 e, ← told, g, a)
+    pub folded-refused : (x : InsideAt) (n : ℕ) (q : Place) → f ≡ L.Refused n q → x ≡ refusedHere q n → keptFold (foldedAt 32 s noneDo p) ≡ insideAnswer (x .what) (x .place)
+    unfolding refusedHere
+    folded-refused x n q g a = rw (← told, g, a)
 
-pub ruleset folded-ways = (folded-not, folded-past, folded-refused, refl)
+pub ruleset folded-ways = (folded-surely, folded-past, folded-refused, refl)
 
 -- ## A record of a body
 
@@ -255,14 +242,13 @@ module _ (p : Place) (m : Marks) (s : Bytes) (r : ByteAt) (told : byte s (p .at)
         as-instr (got z next) = refl
         as-instr (fault n) = refl
 
-    pub body-instr : (y : Answer Kept × Place) → (b ≡ 0xFF → ⊥) → instrTurn p m b s at ≡ y → turnAt p m s ≡ y
-    unfolding turnAt instrTurn
-    body-instr y n a = rw here (go (eqb b 0xF0) refl a)
-      where
-        go : (t : Bool) → eqb b 0xF0 ≡ t → (if t then keptFold (foldedAt 32 s noneDo p) else keptInstr p (formed (insideOf (p .depth - 1) m) b (formOf b) s at)) ≡ y
-            → (if t then keptFold (foldedAt 32 s noneDo p) else keptAt (bodyRecordAt p m s)) ≡ y
-        go true f a = a
-        go false f a = other f n ∙ a
+    pub body-folded : (y : Answer Kept × Place) → b ≡ 0xF0 → keptFold (foldedAt 32 s noneDo p) ≡ y → turnAt p m s ≡ y
+    unfolding turnAt
+    body-folded y e a = rw (here, eq-eqb b 0xF0 e) a
+
+    pub body-instr : (y : Answer Kept × Place) → (b ≡ 0xF0 → ⊥) → (b ≡ 0xFF → ⊥) → keptInstr p (formed (insideOf (p .depth - 1) m) b (formOf b) s at) ≡ y → turnAt p m s ≡ y
+    unfolding turnAt
+    body-instr y f n a = rw (here, ne-eqb b 0xF0 f) (other (ne-eqb b 0xF0 f) n ∙ a)
 
     pub body-open : (x : InsideAt) → b ≡ 0xFF → 1 < p .depth → x ≡ refusedHere p 8 → turnAt p m s ≡ insideAnswer (x .what) (x .place)
     unfolding turnAt bodyRecordAt bodyRec unfoldedRec insideOf isDue refusedHere
@@ -272,7 +258,7 @@ module _ (p : Place) (m : Marks) (s : Bytes) (r : ByteAt) (told : byte s (p .at)
     unfolding turnAt bodyRecordAt bodyRec unfoldedRec insideOf isDue placeAfter
     body-end q g l h a = rw (here, told, d, g, inside-open (p .depth - 1) m, le-ltb 0 (p .depth - 1) (omega arith), a)
 
-pub ruleset body-ways = (body-none, body-instr, body-open, body-end)
+pub ruleset body-ways = (body-none, body-folded, body-instr, body-open, body-end)
 
 -- ## Only the innermost block's mark matters
 

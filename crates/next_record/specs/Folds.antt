@@ -1,5 +1,6 @@
 -- Folded records in the reading pass: one is read with all its operands.
-use Prim.Native.Nat.{ℕ, zero, suc, _-_}
+use mathlib.Core.Path.{_≡_}
+use Prim.Native.Nat.{ℕ, zero, suc}
 use mathlib.Core.Bool.{true, false, _||_}
 use mathlib.Core.Option.{Option, none, some}
 use lib.Dec.{eqb, leb}
@@ -7,16 +8,17 @@ use lib.ListN.{getD}
 use Rattle.definition.specs.Basic.{if_then_else_, Answer, ok, refused}
 use Rattle.definition.specs.Syntax.{Bytes, Identifier, Instr, Rec, field, instr, folded, bodyEnd}
 use Rattle.definition.specs.Reader.{Step, got, fault, byte}
-use Rattle.definition.specs.Instructions.{Form, opening, elsing, ending, calling, operands, formOf, formed, fold}
-use Rattle.syntax.specs.Marks.{insideOf}
+use Rattle.definition.specs.Instructions.{Form, opening, elsing, ending, calling, operands, formOf, fold}
 use Rattle.syntax.specs.declared.Marks.{Marks}
 use Rattle.syntax.specs.declared.Place.{Place}
 use Rattle.next_record.specs.Uses.{mayUse, namesData, sortNames}
 use Rattle.next_record.specs.Places.{recordPast, bodyRecordAt}
-use Rattle.next_record.specs.Answers.{Kept, some-folded, keptAt, keptInstr}
+use Rattle.next_record.specs.Answers.{Kept, some-folded, keptAt}
 use Rattle.next_record.specs.declared.record.Does.{Does}
 use Rattle.next_record.specs.declared.fold.Fold.{Fold}
 use Rattle.next_record.specs.declared.fold.Fold.the-variants as L
+use Rattle.next_record.specs.declared.fold.Straight.{Straight}
+use Rattle.next_record.specs.declared.fold.Straight.the-variants as S
 use Rattle.next_record.specs.declared.fold.HeadAt.{HeadAt}
 use Rattle.next_record.specs.declared.fold.HeadAt.the-variants as H
 
@@ -97,19 +99,16 @@ foldedAt (suc left) s does p =
     afterF0
     (λ a. onHead (headAt s a) (λ d n next. operandsBy (foldedAt left s) n (bothDo does d) (recordPast p next (p .depth))) (λ n. L.Refused n p)) s p
 
+-- what a quick reading that may leave it open says of a folded record
+unfoldable pub Surely : Bytes → Does → Place → Straight → Type 0
+Surely s does p (S.Past d q) = foldedAt 32 s does p ≡ L.Past d q
+Surely s does p S.Unsure = Unit {0}
+
 -- ## A turn of the pass
 
 abbrev pub keptFold : Fold → Answer Kept × Place
 keptFold (L.Past d p) = (ok (some-folded d), p)
 keptFold (L.Refused n p) = (refused n (p .rec), p)
-
--- a byte that is no opcode
-unfoldable pub foldedTurn : Place → ℕ → Bytes → Answer Kept × Place
-foldedTurn p b s = if eqb b 0xF0 then keptFold (foldedAt 32 s noneDo p) else (refused 4 (p .rec), p)
-
--- what stands after an opcode, or after F0
-unfoldable pub instrTurn : Place → Marks → ℕ → Bytes → ℕ → Answer Kept × Place
-instrTurn p m b s at = if eqb b 0xF0 then keptFold (foldedAt 32 s noneDo p) else keptInstr p (formed (insideOf (p .depth - 1) m) b (formOf b) s at)
 
 -- a record of a body, and of a folded one all
 unfoldable pub turnAt : Place → Marks → Bytes → Answer Kept × Place

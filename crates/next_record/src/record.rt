@@ -210,6 +210,9 @@ pub fn body_record(s: &[u8], p: Place, last: Innermost) -> InsideAt
 {
     match token::read_byte(s, p.at) {
         ByteAt::Got(b, at) => {
+            if b == 0xF0 {
+                return crate::skim::folded(s, p);
+            }
             if b != 0xFF {
                 return crate::skim::pass_instr(s, p, last, at, b);
             }

@@ -1,7 +1,9 @@
 // An instruction that is passed over. The pass needs where it ends, how deep the place is then, whether it may use a type, what it does to the
 // open blocks, and whether it names a data segment; nothing else of it is built.
 use crate::fold::Fold;
+use crate::fold::Straight;
 use crate::fold::read_folded;
+use crate::fold::read_straight;
 use crate::marks::Innermost;
 use crate::marks::may_else;
 use crate::record::Does;
@@ -20,9 +22,10 @@ ghost use Prim.Native.Nat.{_-_, _≤_, _<_};
 ghost use lib.ListN.{getD};
 ghost use Rattle.definition.specs.Instructions as Instructions;
 ghost use Rattle.syntax.specs.Plain.{operandsIs};
+ghost use Rattle.syntax.specs.Marks.{insideOf};
 ghost use Rattle.next_record.specs.Marks.{markOf};
 ghost use Rattle.next_record.specs.Answers.{opensIn, elsesIn, endsIn, plainInside, keptInstr, insideAnswer};
-ghost use Rattle.next_record.specs.Folds.{foldedTurn, instrTurn};
+ghost use Rattle.next_record.specs.Folds.{noneDo, foldedAt, keptFold};
 
 // A block opens, where fewer than 128 are open.
 fn opens(s: &[u8], p: Place, at: usize, opcode: u8) -> InsideAt
@@ -114,36 +117,39 @@ fn plain_inside(s: &[u8], at: usize, what: Operands) -> Inside
     Inside::On(false)
 }
 
-// A byte that is no opcode: with F0 a folded record begins.
-fn folded(s: &[u8], p: Place, b: u8) -> InsideAt
+// A folded record with all its operands: straight on where that is sure, which most are.
+pub fn folded(s: &[u8], p: Place) -> InsideAt
     requires { ⌜ p .rec < 4096 ⌝ }
-    ensures { λ r. ⌜ foldedTurn p b (now (s .entry)) ≡ insideAnswer (r .what) (r .place) ⌝ }
+    ensures { λ r. ⌜ keptFold (foldedAt 32 (now (s .entry)) noneDo p) ≡ insideAnswer (r .what) (r .place) ⌝ }
 {
-    if b != 0xF0 {
-        return refused(p, 4);
-    }
     let none = Does {
         uses: false,
         names: false,
     };
-    match read_folded(s, p, 32, none) {
-        Fold::Past(does, place) => {
+    match read_straight(s, p, none) {
+        Straight::Past(does, place) => {
             let what = Inside::Folded(does);
             return InsideAt { what, place };
         }
-        Fold::Refused(n, place) => {
-            return refused(place, n);
-        }
+        Straight::Unsure => match read_folded(s, p, 32, none) {
+            Fold::Past(does, place) => {
+                let what = Inside::Folded(does);
+                return InsideAt { what, place };
+            }
+            Fold::Refused(n, place) => {
+                return refused(place, n);
+            }
+        },
     }
 }
 
-// What stands after an opcode, or after F0.
+// What stands after an opcode.
 pub fn pass_instr(s: &[u8], p: Place, last: Innermost, at: usize, opcode: u8) -> InsideAt
     requires { ⌜ (p .rec < 4096) × (1 ≤ p .depth) ⌝ }
-    ensures { λ r. ⌜ instrTurn p (markOf last) opcode (now (s .entry)) at ≡ insideAnswer (r .what) (r .place) ⌝ }
+    ensures { λ r. ⌜ keptInstr p (Instructions.formed (insideOf (p .depth - 1) (markOf last)) opcode (Instructions.formOf opcode) (now (s .entry)) at) ≡ insideAnswer (r .what) (r .place) ⌝ }
 {
     match instr::opcode_form(opcode) {
-        Form::NoOpcode => folded(s, p, opcode),
+        Form::NoOpcode => refused(p, 4),
         Form::Opening => opens(s, p, at, opcode),
         Form::Elsing => elses(s, p, last, at),
         Form::Ending => ends(s, p, at),

@@ -3,17 +3,23 @@ use borrow.Author.Needs.{needs}
 use Rattle.next_record.proofs.skim.folded.Statement.{statement}
 use Rattle.next_record.proofs.skim.folded.Tie as tie
 
-refused-requires : tie.Need-refused-requires
-refused-requires c κs = search needs
+read-straight-requires : tie.Need-read-straight-requires
+read-straight-requires c κs = search needs
+
+enum-known-does : tie.Need-enum-known-does
+enum-known-does c = search needs
 
 returns : tie.Need-returns
 returns c = search (folded-ways) depth 8
 
+enum-told : tie.Need-enum-told
+enum-told c = search needs
+
 read-folded-requires : tie.Need-read-folded-requires
 read-folded-requires c κs = search needs
 
-enum-known-does : tie.Need-enum-known-does
-enum-known-does c = search needs
+enum-known-does-2 : tie.Need-enum-known-does-2
+enum-known-does-2 c = search needs
 
 returns-2 : tie.Need-returns-2
 returns-2 c = search (folded-ways) depth 8
@@ -21,8 +27,8 @@ returns-2 c = search (folded-ways) depth 8
 enum-known-n : tie.Need-enum-known-n
 enum-known-n c = search needs
 
-refused-requires-2 : tie.Need-refused-requires-2
-refused-requires-2 c κs = search needs
+refused-requires : tie.Need-refused-requires
+refused-requires c κs = search needs
 
 returns-3 : tie.Need-returns-3
 returns-3 c = search (folded-ways) depth 8
@@ -31,11 +37,13 @@ pub folded-spec : {M : Type 1} → statement M
 folded-spec =
     tie.close
     (tie.spec
-    refused-requires
-    returns
-    read-folded-requires
+    read-straight-requires
     enum-known-does
+    returns
+    enum-told
+    read-folded-requires
+    enum-known-does-2
     returns-2
     enum-known-n
-    refused-requires-2
+    refused-requires
     returns-3)

@@ -9,8 +9,8 @@ opcode-form-requires c κs = search needs
 enum-told : tie.Need-enum-told
 enum-told c = search needs
 
-folded-requires : tie.Need-folded-requires
-folded-requires c κs = search needs
+refused-requires : tie.Need-refused-requires
+refused-requires c κs = search needs
 
 enum-told-2 : tie.Need-enum-told-2
 enum-told-2 c = search needs
@@ -54,8 +54,8 @@ on-requires c κs = search needs
 enum-known-n : tie.Need-enum-known-n
 enum-known-n c = search needs
 
-refused-requires : tie.Need-refused-requires
-refused-requires c κs = search needs
+refused-requires-2 : tie.Need-refused-requires-2
+refused-requires-2 c κs = search needs
 
 returns : tie.Need-returns
 returns c = search (forms-passed) depth 8
@@ -84,7 +84,7 @@ pass-instr-spec =
     (tie.spec
     opcode-form-requires
     enum-told
-    folded-requires
+    refused-requires
     enum-told-2
     opens-requires
     enum-told-3
@@ -99,7 +99,7 @@ pass-instr-spec =
     plain-inside-requires
     on-requires
     enum-known-n
-    refused-requires
+    refused-requires-2
     returns
     returns-2
     returns-3
