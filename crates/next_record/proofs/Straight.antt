@@ -1,4 +1,4 @@
--- Folded records that are read straight on: where that comes to an end after at most 32 of them, the exact readers say the same.
+-- Folded records that are read straight on: where that comes to an end before 32 of them had operands, the exact readers say the same.
 use mathlib.Core.Path.{_≡_, refl, sym, _∙_}
 use Prim.Native.Nat.{ℕ, zero, suc, _+_, _*_, _-_, _≤_, _<_}
 use mathlib.Core.Bool.{Bool, true, false}
@@ -35,7 +35,7 @@ use Rattle.syntax.specs.declared.Place.{Place}
 use Rattle.instr.specs.Readers.{countOf}
 use Rattle.instr.proofs.Folds.{operator-none, operator-plain, fold-counts, fold-not}
 use Rattle.next_record.specs.Places.{recordPast}
-use Rattle.next_record.specs.Folds.{bothDo, headOf, headAt, headWith, onHead, onFold, onByte, operandsBy, afterF0, foldedAt, Surely}
+use Rattle.next_record.specs.Folds.{bothDo, headOf, headAt, headWith, onHead, onFold, onByte, operandsBy, afterF0, foldedAt, lessNested, Surely}
 use Rattle.next_record.specs.declared.record.Does.{Does}
 use Rattle.next_record.specs.declared.fold.Fold.{Fold}
 use Rattle.next_record.specs.declared.fold.Fold.the-variants as L
@@ -176,6 +176,13 @@ one-record left n j s d e p q x o h i =
     let a = passing (operandsBy (foldedAt left s) n e q) (λ y r. operandsBy (foldedAt left s) j y r) x o (sym (operands-join (foldedAt left s) n j e q) ∙ i) in
     rw (h, a .first) (operands-grow (foldedAt left s) (foldedAt (suc left) s) (folded-grows left s) j .grown (a .does) (a .place) x o (a .rest))
 
+-- one without operands uses up nothing
+record-more : (left n j : ℕ) (s : Bytes) (d e : Does) (p q : Place) (x : Does) (o : Place) → foldedAt (suc left) s d p ≡ operandsBy (foldedAt left s) n e q
+    → operandsBy (foldedAt (lessNested (suc left) n) s) (j + n) e q ≡ L.Past x o → operandsBy (foldedAt (suc left) s) (suc j) d p ≡ L.Past x o
+unfolding operandsBy
+record-more left zero j s d e p q x o h i = let z : j + 0 ≡ j = omega arith in rw h (rw z at i)
+record-more left (suc n) j s d e p q x o h i = let z : suc left - 1 ≡ left = omega arith in one-record left (suc n) j s d e p q x o h (rw z at i)
+
 -- ## The loop
 
 -- nothing is said
@@ -183,49 +190,57 @@ pub left-open : (s : Bytes) (does : Does) (p : Place) → Surely s does p S.Unsu
 unfolding Surely
 left-open s does p = tt
 
--- `due` operands are to be read from here on; if that ends, in as many records as may be nested, it is what the record at `p` comes to
-pub record Straight·Inv (s : Bytes) (does : Does) (p : Place) (at rec due : ℕ) (d : Does) : Type 0 where
-  pub few : due ≤ 16 * rec + 1
-  pub same : (left : ℕ) (e : Does) (o : Place) → rec + left ≡ p .rec + 32 → operandsBy (foldedAt left s) due d (record { at = at; rec = rec; depth = p .depth }) ≡ L.Past e o
-      → foldedAt 32 s does p ≡ L.Past e o
+-- one has none, or one less may be nested in them
+pub nested-none : (left n r : ℕ) → n < 1 → r ≡ left → r ≡ lessNested left n
+nested-none left zero r h e = e
+nested-none left (suc n) r h e = absurd (omega arith)
 
-pub straight-begin : (s : Bytes) (does : Does) (p : Place) → Straight·Inv s does p (p .at) (p .rec) 1 does
+pub nested-some : (left n r : ℕ) → 1 ≤ n → r ≡ left - 1 → r ≡ lessNested left n
+nested-some left zero r h e = absurd (omega arith)
+nested-some left (suc n) r h e = e
+
+-- `due` operands are to be read from here on, in which so many may be nested; if that ends, it is what the record at `p` comes to
+pub record Straight·Inv (s : Bytes) (does : Does) (p : Place) (at rec due left : ℕ) (d : Does) : Type 0 where
+  pub few : due ≤ 16 * rec + 1
+  pub same : (e : Does) (o : Place) → operandsBy (foldedAt left s) due d (record { at = at; rec = rec; depth = p .depth }) ≡ L.Past e o → foldedAt 32 s does p ≡ L.Past e o
+
+pub straight-begin : (s : Bytes) (does : Does) (p : Place) → Straight·Inv s does p (p .at) (p .rec) 1 32 does
 unfolding operandsBy
 straight-begin s does p =
-    record {
-      few = omega arith;
-      same = λ left e o i j. let z : left ≡ 32 = omega arith in let a = passing (foldedAt left s does p) (λ d q. L.Past d q) e o j in rw (← z) (a .first ∙ a .rest);
-    }
+    record { few = omega arith; same = λ e o j. let a = passing (foldedAt 32 s does p) (λ d q. L.Past d q) e o j in a .first ∙ a .rest }
 
-module _ {s : Bytes} {does : Does} {p : Place} {at rec due : ℕ} {d : Does} (v : Straight·Inv s does p at rec due d) where
-  pub straight-done : (o : Place) → due ≤ 0 → rec ≤ p .rec + 32 → o ≡ record { at = at; rec = rec; depth = p .depth } → Surely s does p (S.Past d o)
+module _ {s : Bytes} {does : Does} {p : Place} {at rec due left : ℕ} {d : Does} (v : Straight·Inv s does p at rec due left d) where
+  pub straight-done : (o : Place) → due ≤ 0 → o ≡ record { at = at; rec = rec; depth = p .depth } → Surely s does p (S.Past d o)
   unfolding Surely operandsBy
-  straight-done o h l i =
-      let z : due ≡ 0 = omega arith in
-      let e : rec + (p .rec + 32 - rec) ≡ p .rec + 32 = omega arith in
-      let k = v .same (p .rec + 32 - rec) d o e in k (rw (z, i) refl)
+  straight-done o h i = let z : due ≡ 0 = omega arith in v .same d o (rw (z, i) refl)
 
-  module _ (h : 0 < due) (l : rec < 4096) (r : ByteAt) (told : byte s at ≡ byteAt r) (b a : ℕ) (is : r ≡ B.Got b a) (f : b ≡ 0xF0) (m : HeadAt) (head : m ≡ headWith d (headAt s a)) (e : Does)
-      (n next : ℕ) (g : m ≡ H.Got e n next) where
+  module _ (h : 0 < due) (l : rec < 4096) (deep : 1 ≤ left) (r : ByteAt) (told : byte s at ≡ byteAt r) (b a : ℕ) (is : r ≡ B.Got b a) (f : b ≡ 0xF0) (m : HeadAt)
+      (head : m ≡ headWith d (headAt s a)) (e : Does) (n next : ℕ) (g : m ≡ H.Got e n next) where
     at-most-16 : n ≤ 16
     at-most-16 = head-few s a d e n next (sym head ∙ g)
 
+    abbrev Here : Place
+    Here = record { at = at; rec = rec; depth = p .depth }
+
+    abbrev Next : Place
+    Next = record { at = next; rec = rec + 1; depth = p .depth }
+
     -- the record here, and its operands, with one less nested
-    here : (left : ℕ) → foldedAt (suc left) s d (record { at = at; rec = rec; depth = p .depth }) ≡ operandsBy (foldedAt left s) n e (record { at = next; rec = rec + 1; depth = p .depth })
+    here : (k : ℕ) → foldedAt (suc k) s d Here ≡ operandsBy (foldedAt k s) n e Next
     unfolding recordPast
-    here left =
-        let z : suc left - 1 ≡ left = omega arith in
-        sym (with-operands (suc left) s d (record { at = at; rec = rec; depth = p .depth }) (operandsBy (foldedAt left s) n e (record { at = next; rec = rec + 1; depth = p .depth })) r told b a is f l (omega arith) m head e n next (record { at = next; rec = rec + 1; depth = p .depth }) g refl (rw z))
+    here k =
+        let z : suc k - 1 ≡ k = omega arith in
+        sym (with-operands (suc k) s d Here (operandsBy (foldedAt k s) n e Next) r told b a is f l (omega arith) m head e n next Next g refl (rw z))
 
     pub straight-fits : Fits w32 (due - 1 + n)
     straight-fits = omega (arith, at-most-16, v .few)
 
-    pub straight-again : Straight·Inv s does p next (rec + 1) (due - 1 + n) e
-    straight-again =
+    pub straight-again : (k : ℕ) → k ≡ lessNested left n → Straight·Inv s does p next (rec + 1) (due - 1 + n) k e
+    straight-again k w =
         record {
           few = omega (arith, at-most-16, v .few);
-          same = λ left x o i j.
-              let z : rec + suc left ≡ p .rec + 32 = omega arith in
+          same = λ x o j.
               let y : due ≡ suc (due - 1) = omega arith in
-              v .same (suc left) x o z (rw y (one-record left n (due - 1) s d e _ _ x o (here left) j));
+              let u : left ≡ suc (left - 1) = omega arith in
+              v .same x o (rw (y, u) (record-more (left - 1) n (due - 1) s d e Here Next x o (here (left - 1)) (rw (w, u) at j)));
         }

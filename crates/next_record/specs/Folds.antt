@@ -1,6 +1,6 @@
 -- Folded records in the reading pass: one is read with all its operands.
 use mathlib.Core.Path.{_≡_}
-use Prim.Native.Nat.{ℕ, zero, suc}
+use Prim.Native.Nat.{ℕ, zero, suc, _-_}
 use mathlib.Core.Bool.{true, false, _||_}
 use mathlib.Core.Option.{Option, none, some}
 use lib.Dec.{eqb, leb}
@@ -98,6 +98,11 @@ foldedAt zero s does p = afterF0 (λ a. L.Refused 7 p) s p
 foldedAt (suc left) s does p =
     afterF0
     (λ a. onHead (headAt s a) (λ d n next. operandsBy (foldedAt left s) n (bothDo does d) (recordPast p next (p .depth))) (λ n. L.Refused n p)) s p
+
+-- how many may still be nested after a record with so many operands, if no more than those with operands are counted
+abbrev pub lessNested : ℕ → ℕ → ℕ
+lessNested left zero = left
+lessNested left (suc n) = left - 1
 
 -- what a quick reading that may leave it open says of a folded record
 unfoldable pub Surely : Bytes → Does → Place → Straight → Type 0

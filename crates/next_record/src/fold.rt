@@ -10,7 +10,7 @@ use syntax::Skip;
 use syntax::U32;
 ghost use mathlib.Core.Path.{_≡_};
 ghost use Prim.Native.Nat.{_≤_};
-ghost use Rattle.next_record.specs.Folds.{bothDo, doesAt, headAt, headWith, operandsBy, foldedAt, Surely};
+ghost use Rattle.next_record.specs.Folds.{bothDo, doesAt, headAt, headWith, operandsBy, foldedAt, lessNested, Surely};
 
 pub enum Fold {
     Past(Does, Place),
@@ -169,8 +169,19 @@ fn straight_head(s: &[u8], at: usize, does: Does) -> HeadAt
     }
 }
 
-// A folded record at `p` with all its operands, read one after the other as they stand: only how many are still due is counted. Among at most 32
-// records none can be nested too deep; where there are more, or anything is at fault, the exact readers decide.
+// How many may still be nested after a record with so many operands, if no more than those with operands are counted.
+fn less_nested(left: u32, n: u32) -> u32
+    requires { ⌜ 1 ≤ left ⌝ }
+    ensures { λ r. ⌜ r ≡ lessNested left n ⌝ }
+{
+    if n < 1 {
+        return left;
+    }
+    left - 1
+}
+
+// A folded record at `p` with all its operands, read one after the other as they stand: only how many are still due is counted. Where fewer than 32
+// of them have operands none is nested too deep; where there are more, or anything is at fault, the exact readers decide.
 pub fn read_straight(s: &[u8], p: Place, does: Does) -> Straight
     requires { ⌜ p .rec ≤ 4096 ⌝ }
     ensures { λ r. ⌜ Surely (now (s .entry)) does p r ⌝ }
@@ -178,9 +189,13 @@ pub fn read_straight(s: &[u8], p: Place, does: Does) -> Straight
     let mut at = p.at;
     let mut rec = p.rec;
     let mut due: u32 = 1;
+    let mut left: u32 = 32;
     let mut d = does;
     while 0 < due {
         if 4096 <= rec {
+            return Straight::Unsure;
+        }
+        if left < 1 {
             return Straight::Unsure;
         }
         match token::read_byte(s, at) {
@@ -194,6 +209,7 @@ pub fn read_straight(s: &[u8], p: Place, does: Does) -> Straight
                         at = next;
                         rec += 1;
                         due = due - 1 + n;
+                        left = less_nested(left, n);
                     }
                     HeadAt::Fault(_) => {
                         return Straight::Unsure;
@@ -204,9 +220,6 @@ pub fn read_straight(s: &[u8], p: Place, does: Does) -> Straight
                 return Straight::Unsure;
             }
         }
-    }
-    if p.rec + 32 < rec {
-        return Straight::Unsure;
     }
     let q = Place {
         at,

@@ -5,10 +5,10 @@ use Rattle.next_record.proofs.fold.read_straight.Statement.{statement}
 use Rattle.next_record.proofs.fold.read_straight.Tie as tie
 
 abbrev Inv-loop : tie.InvT-loop
-Inv-loop s p at₀ rec₀ due₀ d₀ at rec due d = Straight·Inv s d₀ p at rec due d
+Inv-loop s p at₀ rec₀ due₀ left₀ d₀ at rec due left d = Straight·Inv s d₀ p at rec due left d
 
 abbrev μ-loop : tie.MeasureT-loop
-μ-loop s p at₀ rec₀ due₀ d₀ at rec due d = 4096 - rec
+μ-loop s p at₀ rec₀ due₀ left₀ d₀ at rec due left d = 4096 - rec
 
 loop-holds : tie.Need-loop-holds Inv-loop μ-loop
 loop-holds c = search straight-begin
@@ -16,14 +16,17 @@ loop-holds c = search straight-begin
 returns : tie.Need-returns Inv-loop μ-loop
 returns c = search left-open
 
+returns-2 : tie.Need-returns-2 Inv-loop μ-loop
+returns-2 c = search left-open
+
 read-byte-requires : tie.Need-read-byte-requires Inv-loop μ-loop
 read-byte-requires c κs = search needs
 
 enum-known-b : tie.Need-enum-known-b Inv-loop μ-loop
 enum-known-b c = search needs
 
-returns-2 : tie.Need-returns-2 Inv-loop μ-loop
-returns-2 c = search left-open
+returns-3 : tie.Need-returns-3 Inv-loop μ-loop
+returns-3 c = search left-open
 
 straight-head-requires : tie.Need-straight-head-requires Inv-loop μ-loop
 straight-head-requires c κs = search needs
@@ -40,6 +43,9 @@ sub-due c = search needs
 add-due : tie.Need-add-due Inv-loop μ-loop
 add-due c = search straight-fits
 
+less-nested-requires : tie.Need-less-nested-requires Inv-loop μ-loop
+less-nested-requires c κs = search needs
+
 loop-less : tie.Need-loop-less Inv-loop μ-loop
 loop-less c = search needs
 
@@ -49,17 +55,11 @@ loop-again c = search straight-again
 enum-told : tie.Need-enum-told Inv-loop μ-loop
 enum-told c = search needs
 
-returns-3 : tie.Need-returns-3 Inv-loop μ-loop
-returns-3 c = search left-open
-
-enum-told-2 : tie.Need-enum-told-2 Inv-loop μ-loop
-enum-told-2 c = search needs
-
 returns-4 : tie.Need-returns-4 Inv-loop μ-loop
 returns-4 c = search left-open
 
-add-if3 : tie.Need-add-if3 Inv-loop μ-loop
-add-if3 c = search needs
+enum-told-2 : tie.Need-enum-told-2 Inv-loop μ-loop
+enum-told-2 c = search needs
 
 returns-5 : tie.Need-returns-5 Inv-loop μ-loop
 returns-5 c = search left-open
@@ -75,20 +75,20 @@ read-straight-spec =
     μ-loop
     loop-holds
     returns
+    returns-2
     read-byte-requires
     enum-known-b
-    returns-2
+    returns-3
     straight-head-requires
     enum-known-e
     add-rec
     sub-due
     add-due
+    less-nested-requires
     loop-less
     loop-again
     enum-told
-    returns-3
-    enum-told-2
     returns-4
-    add-if3
+    enum-told-2
     returns-5
     returns-6)
