@@ -36,9 +36,9 @@ use Rattle.name_table.specs.Area.{labels}
 use Rattle.area.specs.Kept.{Kept}
 use Rattle.area.proofs.Kept.{kept-same, kept-then, kept-less}
 use Rattle.type_table.specs.Table.{typesIn, Recalled}
-use Rattle.instr.specs.Bodies.{deepInstr, Head, one, folding, ended, unread, oneOf, onHead, headAt, Stretch, nothing, stopped, joined, before, treeAt, bodyFrom}
+use Rattle.instr.specs.Bodies.{deepInstr, Head, one, folding, ended, unread, oneOf, onHead, headAt, Stretch, nothing, stopped, joined, before, operandsBy, treeAt, bodyFrom}
 use Rattle.instr.proofs.Known.{one-gets}
-use Rattle.instr.proofs.Stretches.{tree-later, body-turn, body-full, body-one, body-folded, whole-head}
+use Rattle.instr.proofs.Stretches.{tree-later, body-turn, body-full, body-one, body-folded, operands-one, whole-head}
 use Rattle.scope.specs.Scope.{scopeIn, localsIn, FewLocals, labelsIn}
 use Rattle.scope.specs.declared.Locals.{Locals}
 use Rattle.scope.proofs.Frames.{scope-kept, locals-kept, recalled-left, recalled-right, recalled-scope}
@@ -243,8 +243,8 @@ module _ (s w : List ℕ) (l : Locals) (p : Place) (i : InBody p) where
 
 -- what each of its calls needs
 module _ (s w : List ℕ) (k r here : ℕ) (v : Resolvable s w (bodyFrom k r s here)) (low : r < 4096) (q : ByteAt) (told : byte s here ≡ byteAt q) (b a : ℕ) (d : q ≡ B.Got b a) where
-  pub folding-resolvable : b ≡ 0xF0 → Resolvable s w (treeAt 32 s r here)
-  folding-resolvable e = head-tree s k r here low w v (head-folding s k here q told b a d e)
+  pub folding-resolvable : b ≡ 0xF0 → Resolvable s w (operandsBy (treeAt 32 s) 1 r here)
+  folding-resolvable e = rw (operands-one (treeAt 32 s) r here) (head-tree s k r here low w v (head-folding s k here q told b a d e))
 
   module _ (f : Code.Form) (says : formOf b ≡ formIs f) where
     module _ (g : Form) (e : formIs f ≡ some g) where
@@ -286,15 +286,16 @@ module _ (s w : List ℕ) (l : Locals) (p : Place) (q : ByteAt) (told : byte s (
   unfolding BodyTurned
   byte-fault n old at d = over s w l p i old (head-byteless s (p .depth - 1) (p .at) q told n d)
 
+  pub byte-folding : (b a : ℕ) → q ≡ B.Got b a → Resolvable s w (bodyFrom (p .depth - 1) (p .rec) s (p .at)) → (old : List ℕ) (at : ℕ) (r : Turn) (new : List ℕ) → b ≡ 0xF0
+      → StretchTurned s w l (p .depth) (operandsBy (treeAt 32 s) 1 (p .rec) (p .at)) old at r new → BodyTurned s w l p old at r w new
+  byte-folding b a d v old at r new e t = turned-folded s w l p i (head-folding s (p .depth - 1) (p .at) q told b a d e) v old at new r (rw (operands-one (treeAt 32 s) (p .rec) (p .at)) at t)
+
   module _ (b a : ℕ) (d : q ≡ B.Got b a) (f : Code.Form) (says : formOf b ≡ formIs f) where
     pub form-none : (old : List ℕ) (at : ℕ) → f ≡ F.NoOpcode → (b ≡ 0xF0 → ⊥) → BodyTurned s w l p old at T.Done w old
     unfolding BodyTurned
     form-none old at e n = over s w l p i old (head-formless s (p .depth - 1) (p .at) q told b a d (says ∙ ap formIs e) n)
 
     module _ (v : Resolvable s w (bodyFrom (p .depth - 1) (p .rec) s (p .at))) (old : List ℕ) (at : ℕ) (r : Turn) (w′ new : List ℕ) where
-      pub form-folding : b ≡ 0xF0 → StretchTurned s w l (p .depth) (treeAt 32 s (p .rec) (p .at)) old at r new → BodyTurned s w l p old at r w new
-      form-folding e t = turned-folded s w l p i (head-folding s (p .depth - 1) (p .at) q told b a d e) v old at new r t
-
       formed-turn : (g : Form) → formIs f ≡ some g → Turned s w (localsIn s w l) (p .depth - 1) (p .rec) (recordOf (deepInstr (p .depth - 1) b g s a)) old at r w′ new
           → BodyTurned s w l p old at r w′ new
       formed-turn g e t = turned-one s w l p i (deepInstr (p .depth - 1) b g s a) (head-formed s (p .depth - 1) (p .at) q told b a d g (says ∙ e)) v old at w′ new r t
@@ -318,7 +319,7 @@ module _ (s w : List ℕ) (l : Locals) (p : Place) (q : ByteAt) (told : byte s (
       unfolding deepInstr admits instruction
       form-plain o e t = formed-turn (operands (operandsIs o)) (ap formIs e) t
 
-pub ruleset forms = (byte-fault, form-none, form-folding, form-opening, form-elsing, form-ending, form-calling, form-plain)
+pub ruleset forms = (byte-fault, byte-folding, form-none, form-opening, form-elsing, form-ending, form-calling, form-plain)
 
 -- ## The whole
 

@@ -5,27 +5,25 @@ use mathlib.Core.Bool.{false}
 use mathlib.Core.List.{List, [], _∷_, _++_, append-nil}
 use lib.ListN.{length}
 use borrow.Author.Tests.{le-leb}
+use types.Run.{OneOf, miss}
+use denote.Enum.Declared.{tagOf}
 use native.Mathlib.Omega.{arith}
 use Rattle.definition.specs.Basic.{Answer, ok, _>>=_, concatMap}
 use Rattle.definition.specs.Syntax as Syntax
-use Rattle.definition.specs.Syntax.{Identifier, Op, Rec, field, instr, folded, bodyEnd}
-use Rattle.definition.specs.Reader.{Step, got, fault, onward, byte}
-use Rattle.definition.specs.Instructions as Instructions
-use Rattle.definition.specs.Instructions.{Form, calling, formOf, plainOf, instruction, admits, mayFold, operator}
+use Rattle.definition.specs.Syntax.{Identifier, Op, instr}
+use Rattle.definition.specs.Reader.{Step, got, fault, onward}
+use Rattle.definition.specs.Instructions.{calling, formOf, plainOf, instruction, admits, mayFold, operatorOf}
 use Rattle.definition.specs.Names.{instrOp, body}
 use Rattle.definition.specs.Binary as Binary
-use Rattle.laws.proofs.Bodies.{folds}
 use Rattle.syntax.specs.Refusals.{refusedBy}
-use Rattle.syntax.specs.Tokens.{byteAt}
 use Rattle.syntax.specs.Plain.{operandsIs}
 use Rattle.syntax.specs.Instructions.{formIs}
 use Rattle.syntax.specs.declared.Place.{Place}
 use Rattle.syntax.specs.declared.Refusal.{Refusal}
-use Rattle.syntax.specs.declared.ByteAt.{ByteAt}
-use Rattle.syntax.specs.declared.ByteAt.the-variants as B
 use Rattle.syntax.specs.declared.Operands.{Operands}
 use Rattle.syntax.specs.declared.Form as Code
 use Rattle.syntax.specs.declared.Form.the-variants as F
+use Rattle.syntax.proofs.Form as FormOf
 use Rattle.syntax.specs.declared.Folding.{Folding}
 use Rattle.syntax.specs.declared.Folding.the-variants as FO
 use Rattle.emit.specs.Put.{Put}
@@ -33,8 +31,8 @@ use Rattle.emit.proofs.Laws.{put-none, put-then, put-is, put-length}
 use Rattle.token.specs.Known.{Gets}
 use Rattle.token.proofs.Gets.{gets-first}
 use Rattle.type_table.specs.Table.{typesIn, Recalled}
-use Rattle.instr.specs.Bodies.{deepInstr, onByte, Stretch, nothing, stopped, joined, operatorLast, onFold, foldHere, operandsBy, treeAt}
-use Rattle.instr.specs.Readers.{countOf, partsOf, partsAt}
+use Rattle.instr.specs.Bodies.{deepInstr, Stretch, nothing, stopped, joined, operatorLast, onFold, foldHere, operandsBy, treeAt}
+use Rattle.instr.specs.Readers.{Parts, Parted}
 use Rattle.instr.proofs.Stretches.{tree-reach, tree-is, operands-none, operands-more}
 use Rattle.scope.specs.Scope.{scopeIn, localsIn, labelsIn}
 use Rattle.scope.specs.declared.Locals.{Locals}
@@ -50,113 +48,59 @@ use Rattle.code.proofs.Stretches.{concat-append, all-after, after-after
 
 -- ## `operator_record`
 
-module _ (s w : List ℕ) (l : Locals) (k rec here : ℕ) (q : ByteAt) (told : byte s here ≡ byteAt q) where
-  pub operator-none : (n : ℕ) (old : List ℕ) (at : ℕ) → q ≡ B.Fault n → Turned s w (localsIn s w l) k rec (recordOf (operator s here)) old at T.Done w old
-  operator-none n old at d = turned-fault s w (localsIn s w l) k rec (recordOf (operator s here)) old at n (unfold operator in rw (told, d))
+abbrev Barred : List ℕ
+Barred = 0 ∷ 1 ∷ 2 ∷ 3 ∷ []
 
-  module _ (b a : ℕ) (d : q ≡ B.Got b a) (f : Code.Form) (says : formOf b ≡ formIs f) where
-    operator-form : operator s here ≡ Instructions.operatorOf b (formIs f) s a
-    unfolding operator
-    operator-form = rw (told, d, says)
+module _ (s w : List ℕ) (l : Locals) (k rec here op : ℕ) (f : Code.Form) (says : formOf op ≡ formIs f) where
+  abbrev Operator : Step (Syntax.Instr Identifier)
+  Operator = operatorOf op (formOf op) s here
 
-    -- no opcode, or one that is barred
-    barred : (old : List ℕ) (at : ℕ) → operator s here ≡ fault 4 → Turned s w (localsIn s w l) k rec (recordOf (operator s here)) old at T.Done w old
-    barred old at e = turned-fault s w (localsIn s w l) k rec (recordOf (operator s here)) old at 4 (rw e)
+  -- no opcode, or one that is barred
+  pub operator-barred : (old : List ℕ) (at : ℕ) → OneOf Barred (tagOf FormOf.the-type f) → Turned s w (localsIn s w l) k rec (recordOf (operatorOf op (formOf op) s here)) old at T.Done w old
+  operator-barred old at h = turned-fault s w (localsIn s w l) k rec (recordOf Operator) old at 4 (ap (λ (m : Step (Syntax.Instr Identifier)). recordOf m) (go f refl h))
+    where
+      go : (g : Code.Form) → f ≡ g → OneOf Barred (tagOf FormOf.the-type g) → operatorOf op (formOf op) s here ≡ fault 4
+      go F.NoOpcode e h = rw (says, e)
+      go F.Opening e h = unfold mayFold in rw (says, e)
+      go F.Elsing e h = unfold mayFold in rw (says, e)
+      go F.Ending e h = unfold mayFold in rw (says, e)
+      go F.Calling e h = absurd (miss Barred 4 tt h)
+      go (F.Operands v) e h = absurd (miss Barred 5 tt h)
 
-    pub operator-no : (old : List ℕ) (at : ℕ) → f ≡ F.NoOpcode → Turned s w (localsIn s w l) k rec (recordOf (operator s here)) old at T.Done w old
-    operator-no old at e = barred old at (operator-form ∙ rw e)
+  -- a call_indirect
+  calling-is : (j : ℕ) → f ≡ F.Calling → Operator ≡ deepInstr j 0x11 calling s here
+  unfolding mayFold deepInstr admits instruction
+  calling-is j e = rw (says, e)
 
-    pub operator-opening : (old : List ℕ) (at : ℕ) → f ≡ F.Opening → Turned s w (localsIn s w l) k rec (recordOf (operator s here)) old at T.Done w old
-    unfolding mayFold
-    operator-opening old at e = barred old at (operator-form ∙ rw e)
+  pub operator-calling-uses : (j : ℕ) → f ≡ F.Calling → Recalled w (typesIn s w) (readUses rec (operatorOf op (formOf op) s here)) → Recalled w (typesIn s w) (readUses rec (deepInstr j 0x11 calling s here))
+  operator-calling-uses j e r = rw (calling-is j e) at r
 
-    pub operator-elsing : (old : List ℕ) (at : ℕ) → f ≡ F.Elsing → Turned s w (localsIn s w l) k rec (recordOf (operator s here)) old at T.Done w old
-    unfolding mayFold
-    operator-elsing old at e = barred old at (operator-form ∙ rw e)
+  pub operator-calling-gets : (j : ℕ) → f ≡ F.Calling → Gets (operatorOf op (formOf op) s here) → Gets (deepInstr j 0x11 calling s here)
+  operator-calling-gets j e g = rw (calling-is j e) at g
 
-    pub operator-ending : (old : List ℕ) (at : ℕ) → f ≡ F.Ending → Turned s w (localsIn s w l) k rec (recordOf (operator s here)) old at T.Done w old
-    unfolding mayFold
-    operator-ending old at e = barred old at (operator-form ∙ rw e)
+  pub operator-calling : (j : ℕ) (old : List ℕ) (at : ℕ) (r : Turn) (w′ new : List ℕ) → f ≡ F.Calling → AnyLocals s w k rec (recordOf (deepInstr j 0x11 calling s here)) old at r w′ new
+      → Turned s w (localsIn s w l) k rec (recordOf (operatorOf op (formOf op) s here)) old at r w′ new
+  operator-calling j old at r w′ new e t = rw (calling-is j e) (t .each (localsIn s w l))
 
-    -- a call_indirect
-    calling-is : (j : ℕ) → f ≡ F.Calling → operator s here ≡ deepInstr j 0x11 calling s a
-    unfolding mayFold deepInstr admits instruction
-    calling-is j e = operator-form ∙ rw e
+  -- any other
+  module _ (v : Operands) (e : f ≡ F.Operands v) where
+    plain-is : Operator ≡ onward (λ p next. got (Syntax.plain p) next) (plainOf op (operandsIs v) s here)
+    unfolding mayFold instruction
+    plain-is = rw (says, e)
 
-    pub operator-calling-uses : (j : ℕ) → f ≡ F.Calling → Recalled w (typesIn s w) (readUses rec (operator s here)) → Recalled w (typesIn s w) (readUses rec (deepInstr j 0x11 calling s a))
-    operator-calling-uses j e r = rw (calling-is j e) at r
+    pub operator-plain-gets : Gets (operatorOf op (formOf op) s here) → Gets (plainOf op (operandsIs v) s here)
+    operator-plain-gets g = gets-first _ (plainOf op (operandsIs v) s here) (rw plain-is at g)
 
-    pub operator-calling-gets : (j : ℕ) → f ≡ F.Calling → Gets (operator s here) → Gets (deepInstr j 0x11 calling s a)
-    operator-calling-gets j e g = rw (calling-is j e) at g
+    pub operator-plain : (old : List ℕ) (at : ℕ) (r : Turn) (w′ new : List ℕ) → Turned s w (localsIn s w l) k rec (plainRecord (plainOf op (operandsIs v) s here)) old at r w′ new
+        → Turned s w (localsIn s w l) k rec (recordOf (operatorOf op (formOf op) s here)) old at r w′ new
+    operator-plain old at r w′ new t = rw plain-is t
 
-    pub operator-calling : (j : ℕ) (old : List ℕ) (at : ℕ) (r : Turn) (w′ new : List ℕ) → f ≡ F.Calling → AnyLocals s w k rec (recordOf (deepInstr j 0x11 calling s a)) old at r w′ new
-        → Turned s w (localsIn s w l) k rec (recordOf (operator s here)) old at r w′ new
-    operator-calling j old at r w′ new e t = rw (calling-is j e) (t .each (localsIn s w l))
-
-    -- any other
-    module _ (v : Operands) (e : f ≡ F.Operands v) where
-      plain-is : operator s here ≡ onward (λ p next. got (Syntax.plain p) next) (plainOf b (operandsIs v) s a)
-      unfolding mayFold instruction
-      plain-is = operator-form ∙ rw e
-
-      pub operator-plain-gets : Gets (operator s here) → Gets (plainOf b (operandsIs v) s a)
-      operator-plain-gets g = gets-first _ (plainOf b (operandsIs v) s a) (rw plain-is at g)
-
-      pub operator-plain : (old : List ℕ) (at : ℕ) (r : Turn) (w′ new : List ℕ) → Turned s w (localsIn s w l) k rec (plainRecord (plainOf b (operandsIs v) s a)) old at r w′ new
-          → Turned s w (localsIn s w l) k rec (recordOf (operator s here)) old at r w′ new
-      operator-plain old at r w′ new t = rw plain-is t
-
-pub ruleset operators = (operator-none, operator-no, operator-opening, operator-elsing, operator-ending, operator-calling, operator-plain)
-
--- ## The parts of a folded record
-
--- after its F0 stands the operator, at `a`, and after the count of its operands stand the operands
-pub record Parted (s : List ℕ) (here a n next : ℕ) : Type 0 where
-  pub op : Syntax.Instr Identifier
-  pub past : ℕ
-  pub reads : operator s a ≡ got op past
-  pub whole : foldHere s here ≡ got (folded op n) next
-
-pub parted : (s : List ℕ) (here a n next : ℕ) → partsAt s here ≡ FO.Parts a n next → Parted s here a n next
-unfolding partsAt foldHere
-parted s here a n next e = by-byte (byte s here) refl e
-  where
-    by-fold : (b c : ℕ) → byte s here ≡ got b c → (m : Step (Rec Identifier)) → Instructions.fold s c ≡ m → partsOf c (countOf m) ≡ FO.Parts a n next → Parted s here a n next
-    by-fold b c h (got (folded x i) j) g d =
-        let f = folds s c (folded x i) j g in
-        let p : c ≡ a = cc in
-        let y : f .read ≡ x = cc (f .is) in
-        let z : got (folded x i) j ≡ got (folded x n) next = cc in
-        record { op = x; past = f .next; reads = ap (operator s) (sym p) ∙ f .reads ∙ ap (λ v. got v (f .next)) y; whole = rw h (g ∙ z) }
-    by-fold b c h (got (field x) j) g d = let z : _≡_ {A = ℕ} 0 1 = cc in absurd (omega arith)
-    by-fold b c h (got (instr x) j) g d = let z : _≡_ {A = ℕ} 0 1 = cc in absurd (omega arith)
-    by-fold b c h (got bodyEnd j) g d = let z : _≡_ {A = ℕ} 0 1 = cc in absurd (omega arith)
-    by-fold b c h (fault j) g d = let z : _≡_ {A = ℕ} 0 1 = cc in absurd (omega arith)
-
-    by-byte : (m : Step ℕ) → byte s here ≡ m → onByte m (λ b c. partsOf c (countOf (Instructions.fold s c))) FO.Unread ≡ FO.Parts a n next → Parted s here a n next
-    by-byte (got b c) h d = by-fold b c h (Instructions.fold s c) refl d
-    by-byte (fault j) h d = let z : _≡_ {A = ℕ} 0 1 = cc in absurd (omega arith)
-
--- nothing that is folded stands here
-unparted : (s : List ℕ) (here : ℕ) (k : Syntax.Instr Identifier → ℕ → ℕ → Stretch) (z : Stretch) → partsAt s here ≡ FO.Unread → onFold (foldHere s here) k z ≡ z
-unfolding partsAt foldHere
-unparted s here k z e = by-byte (byte s here) e
-  where
-    by-fold : (c : ℕ) (m : Step (Rec Identifier)) → partsOf c (countOf m) ≡ FO.Unread → onFold m k z ≡ z
-    by-fold c (got (folded x i) j) d = let z : _≡_ {A = ℕ} 0 1 = cc in absurd (omega arith)
-    by-fold c (got (field x) j) d = refl
-    by-fold c (got (instr x) j) d = refl
-    by-fold c (got bodyEnd j) d = refl
-    by-fold c (fault j) d = refl
-
-    by-byte : (m : Step ℕ) → onByte m (λ b c. partsOf c (countOf (Instructions.fold s c))) FO.Unread ≡ FO.Unread → onFold (onward (λ _ c. Instructions.fold s c) m) k z ≡ z
-    by-byte (got b c) d = by-fold c (Instructions.fold s c) d
-    by-byte (fault j) d = refl
+pub ruleset operators = (operator-barred, operator-calling, operator-plain)
 
 -- ## `emit_folded`
 
 -- its parts were passed over
-module _ (s : List ℕ) (left r here : ℕ) (q : Folding) (told : q ≡ partsAt s here) (deep : 1 ≤ left) (low : r < 4096) where
+module _ (s : List ℕ) (left r here : ℕ) (deep : 1 ≤ left) (low : r < 4096) where
   abbrev Held : ℕ → ℕ → Stretch
   Held n next = operandsBy (treeAt (left - 1) s) n (r + 1) next
 
@@ -167,34 +111,39 @@ module _ (s : List ℕ) (left r here : ℕ) (q : Folding) (told : q ≡ partsAt 
       go zero h = absurd (omega arith)
       go (suc k) h = let m : suc k - 1 ≡ k = omega arith in rw m (tree-is k s r here low)
 
-  module _ (a n next : ℕ) (d : q ≡ FO.Parts a n next) where
-    parts : Parted s here a n next
-    parts = parted s here a n next (sym told ∙ d)
-
+  module _ (b : ℕ) (f : Code.Form) (a n next : ℕ) (x : Parts s here b f a n next) where
     -- it is its operands and then its operator
-    tree-parts : treeAt left s r here ≡ operatorLast r (parts .op) (Held n next)
-    tree-parts = tree-reads ∙ rw (parts .whole) refl
+    tree-parts : treeAt left s r here ≡ operatorLast r (x .operator) (Held n next)
+    tree-parts = tree-reads ∙ rw (x .whole) refl
 
     -- what is read there is the operator
-    read-op : (x : Syntax.Instr Identifier) (k : ℕ) → recordOf (operator s a) ≡ got (instr x) k → x ≡ parts .op
-    read-op x k e = let f : got (instr (parts .op)) (parts .past) ≡ got (instr x) k = rw (parts .reads) at e in cc
+    read-op : (y : Syntax.Instr Identifier) (k : ℕ) → recordOf (operatorOf b (formOf b) s a) ≡ got (instr y) k → y ≡ x .operator
+    read-op y k e = let f : got (instr (x .operator)) (x .past) ≡ got (instr y) k = rw (x .reads) at e in cc
 
--- what its operands and its operator need
-module _ (s w : List ℕ) (left r here : ℕ) (v : Resolvable s w (treeAt left s r here)) (a n next : ℕ) (q : Folding) (d : q ≡ FO.Parts a n next) (told : q ≡ partsAt s here) (deep : 1 ≤ left) (low : r < 4096) where
-  abbrev known : Parted s here a n next
-  known = parts s left r here q told deep low a n next d
+known : (s : List ℕ) (here b : ℕ) (f : Code.Form) (a n next : ℕ) (q : Folding) → q ≡ FO.Parts b f a n next → Parted s here q → Parts s here b f a n next
+unfolding Parted
+known s here b f a n next q d told = rw d at told
 
-  parted-resolvable : Resolvable s w (operatorLast r (known .op) (operandsBy (treeAt (left - 1) s) n (r + 1) next))
-  parted-resolvable = rw (tree-parts s left r here q told deep low a n next d) at v
+-- what its operands and its operator need; the stream that is passed on has a name of its own, since `search` then finds the parts with less computing
+module _ (s : List ℕ) (here : ℕ) (q : Folding) (told : Parted s here q) (b : ℕ) (f : Code.Form) (a n next : ℕ) (d : q ≡ FO.Parts b f a n next) where
+  abbrev Known : Parts s here b f a n next
+  Known = known s here b f a n next q d told
 
-  pub folded-operands : Resolvable s w (operandsBy (treeAt (left - 1) s) n (r + 1) next)
-  folded-operands = resolvable-operands s w r (known .op) (operandsBy (treeAt (left - 1) s) n (r + 1) next) parted-resolvable
+  pub folded-says : formOf b ≡ formIs f
+  folded-says = Known .says
 
-  pub folded-gets : Gets (operator s a)
-  folded-gets = record { value = known .op; next = known .past; is = known .reads }
+  pub folded-gets : (t : List ℕ) → t ≡ s → Gets (operatorOf b (formOf b) t a)
+  folded-gets t e = rw e (record { value = Known .operator; next = Known .past; is = Known .reads })
 
-  pub folded-uses : Recalled w (typesIn s w) (readUses r (operator s a))
-  folded-uses = rw (known .reads) (resolvable-operator s w r (known .op) (operandsBy (treeAt (left - 1) s) n (r + 1) next) parted-resolvable)
+  module _ (w : List ℕ) (left r : ℕ) (v : Resolvable s w (treeAt left s r here)) (deep : 1 ≤ left) (low : r < 4096) where
+    parted-resolvable : Resolvable s w (operatorLast r (Known .operator) (operandsBy (treeAt (left - 1) s) n (r + 1) next))
+    parted-resolvable = rw (tree-parts s left r here deep low b f a n next Known) at v
+
+    pub folded-operands : (t : List ℕ) → t ≡ s → Resolvable t w (operandsBy (treeAt (left - 1) t) n (r + 1) next)
+    folded-operands t e = rw e (resolvable-operands s w r (Known .operator) (operandsBy (treeAt (left - 1) s) n (r + 1) next) parted-resolvable)
+
+    pub folded-uses : (t : List ℕ) → t ≡ s → Recalled w (typesIn t w) (readUses r (operatorOf b (formOf b) t a))
+    folded-uses t e = rw e (rw (Known .reads) (resolvable-operator s w r (Known .operator) (operandsBy (treeAt (left - 1) s) n (r + 1) next) parted-resolvable))
 
 -- nothing that is folded stands there
 module _ (s w : List ℕ) (l : Locals) (depth left r here : ℕ) (old : List ℕ) (at : ℕ) where
@@ -210,12 +159,12 @@ module _ (s w : List ℕ) (l : Locals) (depth left r here : ℕ) (old : List ℕ
       go zero = unfold treeAt in refl
       go (suc k) = unfold treeAt in rw (le-leb 4096 r h) refl
 
-  pub folded-unread : (q : Folding) → q ≡ partsAt s here → 1 ≤ left → r < 4096 → q ≡ FO.Unread → StretchTurned s w l depth (treeAt left s r here) old at T.Done old
-  unfolding StretchTurned
-  folded-unread q told deep low d = ap (λ (t : Stretch). t .whole) (tree-reads s left r here q told deep low ∙ unparted s here _ (stopped (r + 1) here) (sym told ∙ d))
+  pub folded-unread : (q : Folding) → q ≡ FO.Unread → Parted s here q → StretchTurned s w l depth (treeAt left s r here) old at T.Done old
+  unfolding Parted
+  folded-unread q d told = absurd (rw d at told)
 
 -- its operands are put, and then its operator
-module _ (s w : List ℕ) (l : Locals) (p : Place) (left : ℕ) (q : Folding) (told : q ≡ partsAt s (p .at)) (deep : 1 ≤ left) (low : p .rec < 4096) (a n next : ℕ) (d : q ≡ FO.Parts a n next) where
+module _ (s w : List ℕ) (l : Locals) (p : Place) (left b : ℕ) (f : Code.Form) (a n next : ℕ) (q : Folding) (d : q ≡ FO.Parts b f a n next) (told : Parted s (p .at) q) (deep : 1 ≤ left) (low : p .rec < 4096) where
   abbrev depth : ℕ
   depth = p .depth
 
@@ -225,14 +174,17 @@ module _ (s w : List ℕ) (l : Locals) (p : Place) (left : ℕ) (q : Folding) (t
   abbrev here : ℕ
   here = p .at
 
+  abbrev is-known : Parts s here b f a n next
+  is-known = known s here b f a n next q d told
+
   abbrev op : Syntax.Instr Identifier
-  op = parts s left r here q told deep low a n next d .op
+  op = is-known .operator
 
   abbrev Operands′ : Stretch
   Operands′ = operandsBy (treeAt (left - 1) s) n (r + 1) next
 
   is-parts : treeAt left s r here ≡ operatorLast r op Operands′
-  is-parts = tree-parts s left r here q told deep low a n next d
+  is-parts = tree-parts s left r here deep low b f a n next is-known
 
   answer-parts : stretchAnswer s w l depth (treeAt left s r here)
       ≡ (stretchAnswer s w l depth Operands′ >>= λ os. body (scopeIn s w) (localsIn s w l) (labelsIn s w (depth - 1)) ((r, op) ∷ []) >>= after os)
@@ -259,11 +211,11 @@ module _ (s w : List ℕ) (l : Locals) (p : Place) (left : ℕ) (q : Folding) (t
       wrote-operands = held .emits
 
       -- what came of the operator is what came of the whole
-      pub folded-last : (z : Turn) → Turned s w (localsIn s w l) (depth - 1) r (recordOf (operator s a)) mid o z w new → StretchTurned s w l depth (treeAt left s r here) old at (lastTurn end z) new
+      pub folded-last : (z : Turn) → Turned s w (localsIn s w l) (depth - 1) r (recordOf (operatorOf b (formOf b) s a)) mid o z w new → StretchTurned s w l depth (treeAt left s r here) old at (lastTurn end z) new
       unfolding StretchTurned Turned Emits
-      folded-last (T.On b f) x =
+      folded-last (T.On e g) x =
           let v = wrote-operands in
-          let i : instrOp (scopeIn s w) (localsIn s w l) (labelsIn s w (depth - 1)) r op ≡ ok (x .op) = ap (instrOp (scopeIn s w) (localsIn s w l) (labelsIn s w (depth - 1)) r) (sym (read-op s left r here q told deep low a n next d (x .read) (f .at) (x .reads))) ∙ x .is in
+          let i : instrOp (scopeIn s w) (localsIn s w l) (labelsIn s w (depth - 1)) r op ≡ ok (x .op) = ap (instrOp (scopeIn s w) (localsIn s w l) (labelsIn s w (depth - 1)) r) (sym (read-op s left r here deep low b f a n next is-known (x .read) (g .at) (x .reads))) ∙ x .is in
           record {
             emits = record {
               value = v .value ++ (x .op ∷ []);
@@ -275,40 +227,39 @@ module _ (s w : List ℕ) (l : Locals) (p : Place) (left : ℕ) (q : Folding) (t
             level = held .level;
           }
       folded-last T.Done x =
-          let c = parts s left r here q told deep low a n next d in
-          absurd (x .none (c .op) (c .past) (rw (c .reads) refl))
-      folded-last (T.Refused f) x =
+          absurd (x .none op (is-known .past) (rw (is-known .reads) refl))
+      folded-last (T.Refused g) x =
           let v = wrote-operands in
-          let i : instrOp (scopeIn s w) (localsIn s w l) (labelsIn s w (depth - 1)) r op ≡ refusedBy f = ap (instrOp (scopeIn s w) (localsIn s w l) (labelsIn s w (depth - 1)) r) (sym (read-op s left r here q told deep low a n next d (x .read) (x .next) (x .reads))) ∙ x .says in
-          answer-parts ∙ bind-ok (stretchAnswer s w l depth Operands′) (v .value) _ _ (v .is) (last-not f i (v .value))
+          let i : instrOp (scopeIn s w) (localsIn s w l) (labelsIn s w (depth - 1)) r op ≡ refusedBy g = ap (instrOp (scopeIn s w) (localsIn s w l) (labelsIn s w (depth - 1)) r) (sym (read-op s left r here deep low b f a n next is-known (x .read) (x .next) (x .reads))) ∙ x .says in
+          answer-parts ∙ bind-ok (stretchAnswer s w l depth Operands′) (v .value) _ _ (v .is) (last-not g i (v .value))
 
-    pub folded-all : (y z : Turn) (mid : List ℕ) → StretchTurned s w l depth Operands′ old at y mid → OperatorTurned s w l p a y mid z new
+    pub folded-all : (y z : Turn) (mid : List ℕ) → StretchTurned s w l depth Operands′ old at y mid → OperatorTurned s w l (record { at = a; rec = p .rec; depth = p .depth }) b y mid z new
         → StretchTurned s w l depth (treeAt left s r here) old at z new
     unfolding StretchTurned OperatorTurned Emits
     folded-all (T.On o end) z mid t u = rw (u .is) (folded-last o end mid t (u .turn) (u .turned))
     folded-all T.Done z mid t u = rw u (rw is-parts t)
-    folded-all (T.Refused f) z mid t u = rw u (answer-parts ∙ bind-not (stretchAnswer s w l depth Operands′) f _ t)
+    folded-all (T.Refused g) z mid t u = rw u (answer-parts ∙ bind-not (stretchAnswer s w l depth Operands′) g _ t)
 
 pub ruleset foldings = (folded-deep, folded-full, folded-unread, folded-all)
 
 -- ## `operator_last`
 
-module _ (s w : List ℕ) (l : Locals) (p : Place) (here : ℕ) (held : Turn) (old : List ℕ) where
-  pub last-put : (o : ℕ) (end : Place) (y z : Turn) (new : List ℕ) → held ≡ T.On o end → Turned s w (localsIn s w l) (p .depth - 1) (p .rec) (recordOf (operator s here)) old o y w new
-      → z ≡ lastTurn end y → OperatorTurned s w l p here held old z new
+module _ (s w : List ℕ) (l : Locals) (p : Place) (op : ℕ) (held : Turn) (old : List ℕ) where
+  pub last-put : (o : ℕ) (end : Place) (y z : Turn) (new : List ℕ) → held ≡ T.On o end → Turned s w (localsIn s w l) (p .depth - 1) (p .rec) (recordOf (operatorOf op (formOf op) s (p .at))) old o y w new
+      → z ≡ lastTurn end y → OperatorTurned s w l p op held old z new
   unfolding OperatorTurned
   last-put o end y z new d t e = rw d (record { turn = y; turned = t; is = e })
 
-  pub last-cut : held ≡ T.Done → OperatorTurned s w l p here held old T.Done old
+  pub last-cut : held ≡ T.Done → OperatorTurned s w l p op held old T.Done old
   unfolding OperatorTurned
   last-cut d = rw d refl
 
-  pub last-stops : (q : Refusal) → held ≡ T.Refused q → OperatorTurned s w l p here held old (T.Refused q) old
+  pub last-stops : (q : Refusal) → held ≡ T.Refused q → OperatorTurned s w l p op held old (T.Refused q) old
   unfolding OperatorTurned
   last-stops q d = rw d refl
 
 module _ (end : Place) (y : Turn) where
-  pub last-on : (o : ℕ) (p : Place) → y ≡ T.On o p → T.On o end ≡ lastTurn end y
+  pub last-on : (o : ℕ) (p : Place) → y ≡ T.On o p → T.On o (record { at = end .at; rec = end .rec; depth = end .depth }) ≡ lastTurn end y
   last-on o p d = rw d
 
   pub last-done : y ≡ T.Done → T.Done ≡ lastTurn end y
@@ -429,3 +380,11 @@ module _ {s w : List ℕ} {l : Locals} {depth left n r here : ℕ} {old : List �
           }
 
 pub ruleset operatings = (operating-again, operating-cut, operating-stops, operating-done)
+
+-- ## `operands_or_none`
+
+-- none, and so nothing is written
+pub operands-absent : (s w : List ℕ) (l : Locals) (left n : ℕ) (old : List ℕ) (at : ℕ) (p : Place) → length old * 1 < 2 ^ 63 → Within p
+    → Resolvable s w (operandsBy (treeAt left s) n (p .rec) (p .at)) → n ≡ 0
+    → StretchTurned s w l (p .depth) (operandsBy (treeAt left s) n (p .rec) (p .at)) old at (T.On at (record { at = p .at; rec = p .rec; depth = p .depth })) old
+operands-absent s w l left n old at p h v r e = operating-done (operating-begin s w l left n old at p h v r) (omega arith)

@@ -5,7 +5,7 @@ use mathlib.Core.Bool.{true, false}
 use mathlib.Core.List.{List, [], _++_}
 use Rattle.definition.specs.Basic.{Answer, ok, _>>=_, concatMap}
 use Rattle.definition.specs.Syntax.{Op}
-use Rattle.definition.specs.Instructions.{operator}
+use Rattle.definition.specs.Instructions.{formOf, operatorOf}
 use Rattle.definition.specs.Types.{bodyUses}
 use Rattle.definition.specs.Names.{body}
 use Rattle.definition.specs.Binary.{instruction}
@@ -55,21 +55,22 @@ StretchTurned s w l depth t old at (T.On o p) new = Unfolded s w l depth t old a
 StretchTurned s w l depth t old at T.Done new = t .whole ≡ false
 StretchTurned s w l depth t old at (T.Refused q) new = Emits (concatMap instruction) (stretchAnswer s w l depth t) old at (E.Refused q) new
 
--- an operator after operands, of which a turn came: where they were written, it comes after them, and the place stays the one after them
+-- an operator after operands, of which a turn came: where they were written, it comes after them, and the place stays the one after them; it is known
+-- by its opcode, and what stands after that is at the place `p`
 abbrev pub lastTurn : Place → Turn → Turn
 lastTurn end (T.On o p) = T.On o end
 lastTurn end T.Done = T.Done
 lastTurn end (T.Refused q) = T.Refused q
 
-pub record Last (s w : List ℕ) (l : Locals) (p : Place) (here o : ℕ) (end : Place) (old : List ℕ) (r : Turn) (new : List ℕ) : Type 0 where
+pub record Last (s w : List ℕ) (l : Locals) (p : Place) (op o : ℕ) (end : Place) (old : List ℕ) (r : Turn) (new : List ℕ) : Type 0 where
   pub turn : Turn
-  pub turned : Turned s w (localsIn s w l) (p .depth - 1) (p .rec) (recordOf (operator s here)) old o turn w new
+  pub turned : Turned s w (localsIn s w l) (p .depth - 1) (p .rec) (recordOf (operatorOf op (formOf op) s (p .at))) old o turn w new
   pub is : r ≡ lastTurn end turn
 
 unfoldable pub OperatorTurned : List ℕ → List ℕ → Locals → Place → ℕ → Turn → List ℕ → Turn → List ℕ → Type 0
-OperatorTurned s w l p here (T.On o end) old r new = Last s w l p here o end old r new
-OperatorTurned s w l p here T.Done old r new = r ≡ T.Done
-OperatorTurned s w l p here (T.Refused q) old r new = r ≡ T.Refused q
+OperatorTurned s w l p op (T.On o end) old r new = Last s w l p op o end old r new
+OperatorTurned s w l p op T.Done old r new = r ≡ T.Done
+OperatorTurned s w l p op (T.Refused q) old r new = r ≡ T.Refused q
 
 -- ## One turn of a body
 

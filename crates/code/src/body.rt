@@ -24,11 +24,12 @@ fn one_record(s: &[u8], work: &mut [u32], out: &mut [u8], at: usize, p: Place, l
                 rec: p.rec,
                 depth: p.depth,
             };
+            if b == 0xF0 {
+                // as a list of one, so that a folded record has one caller and is taken into its loop
+                return crate::fold::emit_operands(s, work, out, at, p, l, 32, 1);
+            }
             match instr::opcode_form(b) {
                 Form::NoOpcode => {
-                    if b == 0xF0 {
-                        return crate::fold::emit_folded(s, work, out, at, p, l, 32);
-                    }
                     return Turn::Done;
                 }
                 Form::Opening => {

@@ -1,43 +1,40 @@
 // Folded records: the operands of each are resolved and written before its operator.
 use plain::Turn;
 use scope::Locals;
-use syntax::ByteAt;
 use syntax::Folding;
 use syntax::Form;
 use syntax::Place;
+ghost use mathlib.Core.Path.{_≡_};
 ghost use Prim.Native.Nat.{_-_, _≤_};
 ghost use lib.ListN.{length};
 ghost use Rattle.area.specs.Layout.{WORDS};
 ghost use Rattle.definition.specs.Instructions as Instructions;
 ghost use Rattle.token.specs.Known.{Gets};
+ghost use Rattle.syntax.specs.Instructions.{formIs};
 ghost use Rattle.type_table.specs.Table.{typesIn, Recalled};
 ghost use Rattle.instr.specs.Bodies.{operandsBy, treeAt};
 ghost use Rattle.scope.specs.Scope.{localsIn, FewLocals};
 ghost use Rattle.plain.specs.Turns.{InBody, recordOf, readUses, Turned};
 ghost use Rattle.code.specs.Body.{Within, Resolvable, StretchTurned, OperatorTurned};
 
-// The operator of a folded record, which stands at `p`. It opens and closes no block.
-fn operator_record(s: &[u8], work: &[u32], out: &mut [u8], at: usize, p: Place, l: Locals) -> Turn
-    requires { ⌜ (WORDS ≤ length (now work)) × FewLocals l × InBody p × Recalled (now work) (typesIn (now s) (now work)) (readUses (p .rec) (Instructions.operator (now s) (p .at))) × Gets (Instructions.operator (now s) (p .at)) ⌝ }
-    ensures { λ r. ⌜ Turned (now (s .entry)) (now (work .entry)) (localsIn (now (s .entry)) (now (work .entry)) l) (p .depth - 1) (p .rec) (recordOf (Instructions.operator (now (s .entry)) (p .at))) (now (out .entry)) at r (now (work .entry)) (now (out .exit)) ⌝ }
+// The operator of a folded record, by its opcode and form; what stands after its opcode is at `p`. It opens and closes no block.
+fn operator_record(
+    s: &[u8],
+    work: &[u32],
+    out: &mut [u8],
+    at: usize,
+    p: Place,
+    l: Locals,
+    opcode: u8,
+    form: Form,
+) -> Turn
+    requires { ⌜ (WORDS ≤ length (now work)) × FewLocals l × InBody p × (Instructions.formOf opcode ≡ formIs form) × Recalled (now work) (typesIn (now s) (now work)) (readUses (p .rec) (Instructions.operatorOf opcode (Instructions.formOf opcode) (now s) (p .at))) × Gets (Instructions.operatorOf opcode (Instructions.formOf opcode) (now s) (p .at)) ⌝ }
+    ensures { λ r. ⌜ Turned (now (s .entry)) (now (work .entry)) (localsIn (now (s .entry)) (now (work .entry)) l) (p .depth - 1) (p .rec) (recordOf (Instructions.operatorOf opcode (Instructions.formOf opcode) (now (s .entry)) (p .at))) (now (out .entry)) at r (now (work .entry)) (now (out .exit)) ⌝ }
 {
-    match token::read_byte(s, p.at) {
-        ByteAt::Got(b, a) => {
-            let q = Place {
-                at: a,
-                rec: p.rec,
-                depth: p.depth,
-            };
-            match instr::opcode_form(b) {
-                Form::Calling => crate::block::indirect_record(s, work, out, at, q),
-                Form::Operands(what) => plain::plain_record(s, work, out, at, q, l, b, what),
-                Form::NoOpcode => Turn::Done,
-                Form::Opening => Turn::Done,
-                Form::Elsing => Turn::Done,
-                Form::Ending => Turn::Done,
-            }
-        }
-        ByteAt::Fault(_) => Turn::Done,
+    match form {
+        Form::Calling => crate::block::indirect_record(s, work, out, at, p),
+        Form::Operands(what) => plain::plain_record(s, work, out, at, p, l, opcode, what),
+        _ => Turn::Done,
     }
 }
 
@@ -49,31 +46,61 @@ fn operator_last(
     held: Turn,
     p: Place,
     l: Locals,
-    here: usize,
+    opcode: u8,
+    form: Form,
 ) -> Turn
-    requires { ⌜ (WORDS ≤ length (now work)) × FewLocals l × InBody p × Recalled (now work) (typesIn (now s) (now work)) (readUses (p .rec) (Instructions.operator (now s) here)) × Gets (Instructions.operator (now s) here) ⌝ }
-    ensures { λ r. ⌜ OperatorTurned (now (s .entry)) (now (work .entry)) l p here held (now (out .entry)) r (now (out .exit)) ⌝ }
+    requires { ⌜ (WORDS ≤ length (now work)) × FewLocals l × InBody p × (Instructions.formOf opcode ≡ formIs form) × Recalled (now work) (typesIn (now s) (now work)) (readUses (p .rec) (Instructions.operatorOf opcode (Instructions.formOf opcode) (now s) (p .at))) × Gets (Instructions.operatorOf opcode (Instructions.formOf opcode) (now s) (p .at)) ⌝ }
+    ensures { λ r. ⌜ OperatorTurned (now (s .entry)) (now (work .entry)) l p opcode held (now (out .entry)) r (now (out .exit)) ⌝ }
 {
     match held {
-        Turn::On(at, end) => {
-            let q = Place {
-                at: here,
-                rec: p.rec,
-                depth: p.depth,
-            };
-            match operator_record(s, work, out, at, q, l) {
-                Turn::On(o, _) => Turn::On(o, end),
-                Turn::Done => Turn::Done,
-                Turn::Refused(r) => Turn::Refused(r),
-            }
-        }
+        Turn::On(at, end) => match operator_record(s, work, out, at, p, l, opcode, form) {
+            // by its fields: a copy of the whole waits for all three to be stored
+            Turn::On(o, _) => Turn::On(
+                o,
+                Place {
+                    at: end.at,
+                    rec: end.rec,
+                    depth: end.depth,
+                },
+            ),
+            Turn::Done => Turn::Done,
+            Turn::Refused(r) => Turn::Refused(r),
+        },
         Turn::Done => Turn::Done,
         Turn::Refused(r) => Turn::Refused(r),
     }
 }
 
+// Operands like those of `emit_operands`; where there are none, no call is made and nothing is written.
+fn operands_or_none(
+    s: &[u8],
+    work: &[u32],
+    out: &mut [u8],
+    at: usize,
+    p: Place,
+    l: Locals,
+    left: u32,
+    n: u32,
+) -> Turn
+    requires { ⌜ (WORDS ≤ length (now work)) × FewLocals l × Within p × Resolvable (now s) (now work) (operandsBy (treeAt left (now s)) n (p .rec) (p .at)) ⌝ }
+    ensures { λ r. ⌜ StretchTurned (now (s .entry)) (now (work .entry)) l (p .depth) (operandsBy (treeAt left (now (s .entry))) n (p .rec) (p .at)) (now (out .entry)) at r (now (out .exit)) ⌝ }
+{
+    if n == 0 {
+        // by its fields, as above
+        return Turn::On(
+            at,
+            Place {
+                at: p.at,
+                rec: p.rec,
+                depth: p.depth,
+            },
+        );
+    }
+    emit_operands(s, work, out, at, p, l, left, n)
+}
+
 // A folded record at `p`, in which so many are nested at most, itself included: its operands and then its operator, at its own record.
-pub fn emit_folded(
+fn emit_folded(
     s: &[u8],
     work: &[u32],
     out: &mut [u8],
@@ -92,21 +119,27 @@ pub fn emit_folded(
         return Turn::Done;
     }
     match instr::skip_folded(s, p.at) {
-        Folding::Parts(a, n, next) => {
+        Folding::Parts(b, form, a, n, next) => {
             let first = Place {
                 at: next,
                 rec: p.rec + 1,
                 depth: p.depth,
             };
-            let held = emit_operands(s, work, out, at, first, l, left - 1, n);
-            operator_last(s, work, out, held, p, l, a)
+            let held = operands_or_none(s, work, out, at, first, l, left - 1, n);
+            let q = Place {
+                at: a,
+                rec: p.rec,
+                depth: p.depth,
+            };
+            operator_last(s, work, out, held, q, l, b, form)
         }
         Folding::Unread => Turn::Done,
     }
 }
 
-// So many operands, from the one at `p` on, from left to right; in each so many folded records are nested at most.
-fn emit_operands(
+// So many operands, from the one at `p` on, from left to right; in each so many folded records are nested at most. A folded record that is no
+// operand is a list of one.
+pub fn emit_operands(
     s: &[u8],
     work: &[u32],
     out: &mut [u8],

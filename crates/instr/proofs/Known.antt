@@ -9,7 +9,7 @@ use Rattle.definition.specs.Syntax as Syntax
 use Rattle.definition.specs.Syntax.{Bytes, Identifier}
 use Rattle.definition.specs.Reader.{Step, got, fault, Reader, byte}
 use Rattle.definition.specs.Token.{identifier, present, optional, typeUse}
-use Rattle.definition.specs.Instructions.{Form, opening, elsing, ending, calling, formOf, admits, plainOf, instruction, formed, mayFold, operator, fold}
+use Rattle.definition.specs.Instructions.{Form, opening, elsing, ending, calling, formOf, admits, plainOf, instruction, formed, mayFold, operatorOf, operator, fold}
 use Rattle.laws.specs.Depths.{deep}
 use Rattle.laws.specs.Steps.{stops}
 use Rattle.token.specs.Known.{Gets}
@@ -140,19 +140,17 @@ module _ (s : Bytes) (here : ℕ) (q : ByteAt) (b a : ℕ) (told : byte s here �
   unfolding operator mayFold
   operator-calling f says e g = rw (says, e) at (gets-rest _ (byte s here) g b a (told ∙ ap byteAt d))
 
-  pub operator-operands : (f : Code.Form) (w : Operands) → formOf b ≡ formIs f → f ≡ F.Operands w → Gets (operator s here) → Gets (plainOf 0 (operandsIs w) s a)
-  unfolding operator mayFold instruction
-  operator-operands f w says e g =
-      gets-alike (plainOf b (operandsIs w) s a) (plainOf 0 (operandsIs w) s a) (any-opcode b (operandsIs w) s a)
-      (gets-first _ (plainOf b (operandsIs w) s a) (rw (says, e) at (gets-rest _ (byte s here) g b a (told ∙ ap byteAt d))))
+-- what stands after the opcode of an operator, by its form
+module _ (s : Bytes) (op at : ℕ) (f : Code.Form) (says : formOf op ≡ formIs f) (g : Gets (operatorOf op (formOf op) s at)) where
+  pub form-calling : f ≡ F.Calling → Gets (instruction op calling s at)
+  unfolding mayFold
+  form-calling e = rw (says, e) at g
 
-  pub here-fold : Gets (foldHere s here) → Gets (fold s a)
-  unfolding foldHere
-  here-fold g = gets-rest _ (byte s here) g b a (told ∙ ap byteAt d)
-
-pub fold-operator : (s : Bytes) (at : ℕ) → Gets (fold s at) → Gets (operator s at)
-unfolding fold
-fold-operator s at g = gets-first _ (operator s at) g
+  pub form-operands : (w : Operands) → f ≡ F.Operands w → Gets (plainOf 0 (operandsIs w) s at)
+  unfolding mayFold instruction
+  form-operands w e =
+      gets-alike (plainOf op (operandsIs w) s at) (plainOf 0 (operandsIs w) s at) (any-opcode op (operandsIs w) s at)
+      (gets-first _ (plainOf op (operandsIs w) s at) (rw (says, e) at g))
 
 -- ## Indices
 

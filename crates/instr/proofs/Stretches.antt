@@ -2,6 +2,7 @@
 use mathlib.Core.Path.{_≡_, refl, sym, _∙_, ap}
 use Prim.Native.Nat.{ℕ, zero, suc, _+_, _-_, _≤_, _<_}
 use mathlib.Core.Bool.{Bool, true, false, _&&_, false≢true}
+use mathlib.Core.List.{append-nil}
 use lib.Dec.{leb}
 use borrow.Author.Tests.{le-leb, lt-leb, leb-false}
 use native.Mathlib.Omega.{arith}
@@ -180,6 +181,18 @@ pub operands-more : (f : ℕ → ℕ → Stretch) (n r here : ℕ) → 0 < n →
 unfolding operandsBy
 operands-more f zero r here h = absurd (omega arith)
 operands-more f (suc n) r here h = let m : suc n - 1 ≡ n = omega arith in rw m refl
+
+-- one alone is the list of it
+pub operands-one : (f : ℕ → ℕ → Stretch) (r here : ℕ) → operandsBy f 1 r here ≡ f r here
+unfolding operandsBy
+operands-one f r here = alone (f r here)
+  where
+    all : (t : Bool) → (t && true) ≡ t
+    all true = refl
+    all false = refl
+
+    alone : (t : Stretch) → joined t (nothing (t .rec) (t .at)) ≡ t
+    alone t = rw (append-nil (t .body), all (t .whole)) refl
 
 -- ## Where all of it can be read
 

@@ -1,18 +1,20 @@
 -- Readers of the definition as the code divides them, and what its answers mean.
 use Prim.Native.Nat.{ℕ}
+use mathlib.Core.Path.{_≡_}
 use mathlib.Core.Option.{Option, none, some}
 use lib.Dec.{eqb, ltb}
 use Rattle.definition.specs.Basic.{if_then_else_}
-use Rattle.definition.specs.Syntax.{Bytes, Identifier, Rec, field, instr, folded, bodyEnd}
-use Rattle.definition.specs.Reader.{Step, got, fault, byte}
+use Rattle.definition.specs.Syntax.{Bytes, Identifier, Instr, Rec, field, instr, folded, bodyEnd}
+use Rattle.definition.specs.Reader.{Step, got, fault}
 use Rattle.definition.specs.Instructions as Instructions
 use Rattle.definition.specs.Instructions.{opening, elsing, ending, calling, operands}
-use Rattle.syntax.specs.Instructions.{instrIs}
+use Rattle.syntax.specs.Instructions.{formIs, instrIs}
 use Rattle.syntax.specs.declared.BodyAt.{BodyAt}
 use Rattle.syntax.specs.declared.BodyAt.the-variants as BA
+use Rattle.syntax.specs.declared.Form.{Form}
 use Rattle.syntax.specs.declared.Folding.{Folding}
 use Rattle.syntax.specs.declared.Folding.the-variants as FO
-use Rattle.instr.specs.Bodies.{Head, one, folding, ended, unread, onByte}
+use Rattle.instr.specs.Bodies.{Head, one, folding, ended, unread, foldHere}
 
 -- the definition's ranges of opcodes from 45 on, as the code tests them
 unfoldable pub highForm : ℕ → Option Instructions.Form
@@ -39,10 +41,15 @@ countOf (got (instr x) next) = fault 0
 countOf (got bodyEnd next) = fault 0
 countOf (fault n) = fault n
 
--- the parts of a folded record: after its F0 stands the operator, and after its count stand the operands
-abbrev pub partsOf : ℕ → Step ℕ → Folding
-partsOf a (got n next) = FO.Parts a n next
-partsOf a (fault n) = FO.Unread
+-- the parts of a folded record: its operator, by its opcode and form and the place after the opcode, then the count of its operands, and then those
+pub record Parts (s : Bytes) (here op : ℕ) (form : Form) (at count next : ℕ) : Type 0 where
+  pub says : Instructions.formOf op ≡ formIs form
+  pub operator : Instr Identifier
+  pub past : ℕ
+  pub reads : Instructions.operatorOf op (Instructions.formOf op) s at ≡ got operator past
+  pub whole : foldHere s here ≡ got (folded operator count) next
 
-unfoldable pub partsAt : Bytes → ℕ → Folding
-partsAt s here = onByte (byte s here) (λ b a. partsOf a (countOf (Instructions.fold s a))) FO.Unread
+-- one that was read before has them
+unfoldable pub Parted : Bytes → ℕ → Folding → Type 0
+Parted s here (FO.Parts op form at count next) = Parts s here op form at count next
+Parted s here FO.Unread = ⊥

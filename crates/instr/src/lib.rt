@@ -26,7 +26,7 @@ ghost use Rattle.syntax.specs.Plain.{operandsIs};
 ghost use Rattle.syntax.specs.Instructions.{formIs, instrAt, foldAt};
 ghost use Rattle.instr.specs.Bodies.{deepInstr, headAt, foldHere};
 ghost use Rattle.instr.specs.Known.{IsRead, ReadableAt, ReadableBody, ReadableFold};
-ghost use Rattle.instr.specs.Readers.{highForm, headIs, countOf, partsAt};
+ghost use Rattle.instr.specs.Readers.{highForm, headIs, countOf, Parted};
 
 // Opcodes below 45, one by one: so the back end makes one table of them, and no test has to be foretold.
 fn early_form(opcode: u8) -> Form
@@ -418,7 +418,7 @@ pub fn pass_fold(s: &[u8], at: usize) -> U32
     }
 }
 
-// Operands that were read before: most of those that can be long are one index.
+// Operands that were read before: most of those that can be long are one index or one number.
 fn skip_plain(s: &[u8], at: usize, what: Operands) -> Skip
     requires { ⌜ Gets (Instructions.plainOf 0 (operandsIs what) (now s) at) ⌝ }
     ensures { λ r. ⌜ stops (Instructions.plainOf 0 (operandsIs what) (now (s .entry)) at) ≡ skip r ⌝ }
@@ -438,6 +438,9 @@ fn skip_plain(s: &[u8], at: usize, what: Operands) -> Skip
         }
         Operands::GlobalIdx => {
             return token::skip_present(s, at);
+        }
+        Operands::I32 => {
+            return token::pass_u32(s, at);
         }
         _ => {
             return read_past(s, at, what);
@@ -465,55 +468,49 @@ fn skip_indirect(s: &[u8], at: usize, opcode: u8) -> Skip
     }
 }
 
-// An operator that was read before.
-fn skip_operator(s: &[u8], at: usize) -> Skip
-    requires { ⌜ Gets (Instructions.operator (now s) at) ⌝ }
-    ensures { λ r. ⌜ stops (Instructions.operator (now (s .entry)) at) ≡ skip r ⌝ }
+// What stands after the opcode of an operator that was read before.
+fn skip_form(s: &[u8], at: usize, opcode: u8, form: Form) -> Skip
+    requires { ⌜ (Instructions.formOf opcode ≡ formIs form) × Gets (Instructions.operatorOf opcode (Instructions.formOf opcode) (now s) at) ⌝ }
+    ensures { λ r. ⌜ stops (Instructions.operatorOf opcode (Instructions.formOf opcode) (now (s .entry)) at) ≡ skip r ⌝ }
 {
-    match token::read_byte(s, at) {
-        ByteAt::Got(b, a) => match opcode_form(b) {
-            Form::Operands(what) => {
-                return skip_plain(s, a, what);
-            }
-            Form::Calling => {
-                return skip_indirect(s, a, b);
-            }
-            _ => {
-                return Skip::Fault(4);
-            }
-        },
-        ByteAt::Fault(e) => {
-            return Skip::Fault(e);
+    match form {
+        Form::Operands(what) => {
+            return skip_plain(s, at, what);
+        }
+        Form::Calling => {
+            return skip_indirect(s, at, opcode);
+        }
+        _ => {
+            return Skip::Fault(4);
         }
     }
 }
 
-// What stands after F0, which was read before: the count of operands, and where they begin.
-fn skip_fold(s: &[u8], at: usize) -> U32
-    requires { ⌜ Gets (Instructions.fold (now s) at) ⌝ }
-    ensures { λ r. ⌜ countOf (Instructions.fold (now (s .entry)) at) ≡ u32At r ⌝ }
-{
-    match skip_operator(s, at) {
-        Skip::Past(a) => {
-            return token::up_to(s, a, 7, 16);
-        }
-        Skip::Fault(e) => {
-            return U32::Fault(e);
-        }
-    }
-}
-
-// A folded record that was read before, passed over: its operator stands after the byte F0, and its operands after their count.
+// A folded record that was read before, passed over: its operator stands after the byte F0, and its operands after their count. The
+// operator's opcode and form are handed on, so that they are not looked up again where it is resolved.
 pub fn skip_folded(s: &[u8], at: usize) -> Folding
     requires { ⌜ Gets (foldHere (now s) at) ⌝ }
-    ensures { λ r. ⌜ r ≡ partsAt (now (s .entry)) at ⌝ }
+    ensures { λ r. ⌜ Parted (now (s .entry)) at r ⌝ }
 {
     match token::read_byte(s, at) {
-        ByteAt::Got(_, a) => match skip_fold(s, a) {
-            U32::Got(n, next) => {
-                return Folding::Parts(a, n, next);
+        ByteAt::Got(_, a) => match token::read_byte(s, a) {
+            ByteAt::Got(b, c) => {
+                let form = opcode_form(b);
+                match skip_form(s, c, b, form) {
+                    Skip::Past(d) => match token::up_to(s, d, 7, 16) {
+                        U32::Got(n, next) => {
+                            return Folding::Parts(b, form, c, n, next);
+                        }
+                        U32::Fault(_) => {
+                            return Folding::Unread;
+                        }
+                    },
+                    Skip::Fault(_) => {
+                        return Folding::Unread;
+                    }
+                }
             }
-            U32::Fault(_) => {
+            ByteAt::Fault(_) => {
                 return Folding::Unread;
             }
         },

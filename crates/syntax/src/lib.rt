@@ -294,8 +294,8 @@ pub enum FoldAt {
 
 // A folded record by its places.
 pub enum Folding {
-    // where its operator stands, the count of its operands, and where they begin
-    Parts(usize, u32, usize),
+    // its operator's opcode and form, where what stands after the opcode is, the count of its operands, and where they begin
+    Parts(u8, Form, usize, u32, usize),
     Unread,
 }
 

@@ -46,11 +46,20 @@ skip-present-requires-4 c κs = search indices
 returns-5 : tie.Need-returns-5
 returns-5 c = search (passed-is, operands-passed) depth 6
 
+enum-told-6 : tie.Need-enum-told-6
+enum-told-6 c = search needs
+
+pass-u32-requires : tie.Need-pass-u32-requires
+pass-u32-requires c κs = search needs
+
+returns-6 : tie.Need-returns-6
+returns-6 c = search (passed-is, operands-passed) depth 6
+
 read-past-requires : tie.Need-read-past-requires
 read-past-requires c κs = search needs
 
-returns-6 : tie.Need-returns-6
-returns-6 c = search needs
+returns-7 : tie.Need-returns-7
+returns-7 c = search needs
 
 pub skip-plain-spec : {M : Type 1} → statement M
 skip-plain-spec =
@@ -70,5 +79,8 @@ skip-plain-spec =
     enum-told-5
     skip-present-requires-4
     returns-5
+    enum-told-6
+    pass-u32-requires
+    returns-6
     read-past-requires
-    returns-6)
+    returns-7)

@@ -10,14 +10,8 @@ read-byte-requires c κs = search needs
 enum-known-b : tie.Need-enum-known-b
 enum-known-b c = search needs
 
-opcode-form-requires : tie.Need-opcode-form-requires
-opcode-form-requires c κs = search needs
-
-enum-told : tie.Need-enum-told
-enum-told c = search needs
-
-emit-folded-requires : tie.Need-emit-folded-requires
-emit-folded-requires c κs = search (folding-resolvable, in-within, needs)
+emit-operands-requires : tie.Need-emit-operands-requires
+emit-operands-requires c κs = search (folding-resolvable, in-within, needs)
 
 same-length : tie.Need-same-length
 same-length c = search needs
@@ -27,6 +21,12 @@ same-length-2 c = search needs
 
 returns : tie.Need-returns
 returns c = search (forms) depth 12
+
+opcode-form-requires : tie.Need-opcode-form-requires
+opcode-form-requires c κs = search needs
+
+enum-told : tie.Need-enum-told
+enum-told c = search needs
 
 returns-2 : tie.Need-returns-2
 returns-2 c = search (forms) depth 12
@@ -118,12 +118,12 @@ one-record-spec =
     (tie.spec
     read-byte-requires
     enum-known-b
-    opcode-form-requires
-    enum-told
-    emit-folded-requires
+    emit-operands-requires
     same-length
     same-length-2
     returns
+    opcode-form-requires
+    enum-told
     returns-2
     enum-told-2
     opens-record-requires

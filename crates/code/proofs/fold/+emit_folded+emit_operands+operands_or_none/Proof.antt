@@ -1,26 +1,32 @@
 use Rattle.instr.proofs.Stretches.{whole-folded}
 use borrow.Author.Needs.{needs}
-use Rattle.code.proofs.Places.{within-body, within-past}
-use Rattle.code.proofs.Folds.{foldings, folded-operands, folded-uses, folded-gets, Operating, operatings, operating-begin, operating-within, operating-resolvable, operating-out}
+use Rattle.code.proofs.Places.{in-place, within-body, within-past}
+use Rattle.code.proofs.Folds.{foldings, folded-operands, folded-says, folded-uses, folded-gets, Operating, operatings, operating-begin, operating-within, operating-resolvable, operating-out, operands-absent}
 use Prim.Native.Nat.{ℕ, _+_, _*_, _<_}
 use borrow.Fn.Kinds.{In}
 use borrow.Fn.PlainCycle.{Measures, is, falls, and}
 use Rattle.code.proofs.fold.emit_folded.Reads as emit-folded
 use Rattle.code.proofs.fold.emit_folded.Kinds as emit-folded-kinds
-use Rattle.code.proofs.fold.+emit_folded+emit_operands.Lts-emit_folded as emit-folded-lts
+use Rattle.code.proofs.fold.+emit_folded+emit_operands+operands_or_none.Lts-emit_folded as emit-folded-lts
 use Rattle.code.proofs.fold.emit_operands.Reads as emit-operands
 use Rattle.code.proofs.fold.emit_operands.Kinds as emit-operands-kinds
-use Rattle.code.proofs.fold.+emit_folded+emit_operands.Lts-emit_operands as emit-operands-lts
+use Rattle.code.proofs.fold.+emit_folded+emit_operands+operands_or_none.Lts-emit_operands as emit-operands-lts
+use Rattle.code.proofs.fold.operands_or_none.Reads as operands-or-none
+use Rattle.code.proofs.fold.operands_or_none.Kinds as operands-or-none-kinds
+use Rattle.code.proofs.fold.+emit_folded+emit_operands+operands_or_none.Lts-operands_or_none as operands-or-none-lts
 use Rattle.code.proofs.fold.operator_last.Reads as operator-last-reads
 use Rattle.instr.proofs.skip_folded.Reads as skip-folded-reads
-use Rattle.code.proofs.fold.+emit_folded+emit_operands.{statement}
-use Rattle.code.proofs.fold.+emit_folded+emit_operands.Tie.{close}
+use Rattle.code.proofs.fold.+emit_folded+emit_operands+operands_or_none.{statement}
+use Rattle.code.proofs.fold.+emit_folded+emit_operands+operands_or_none.Tie.{close}
 
 abbrev μ-emit-folded : Measures 3 emit-folded-kinds.ps ℕ
-μ-emit-folded κs a = 2 * a .1 .1 .1 .1 .1 .1 .0
+μ-emit-folded κs a = 3 * a .1 .1 .1 .1 .1 .1 .0
 
 abbrev μ-emit-operands : Measures 3 emit-operands-kinds.ps ℕ
-μ-emit-operands κs a = 2 * a .1 .1 .1 .1 .1 .1 .0 + 1
+μ-emit-operands κs a = 3 * a .1 .1 .1 .1 .1 .1 .0 + 1
+
+abbrev μ-operands-or-none : Measures 3 operands-or-none-kinds.ps ℕ
+μ-operands-or-none κs a = 3 * a .1 .1 .1 .1 .1 .1 .0 + 2
 
 abbrev emit-folded-at : ℕ → In 3 emit-folded-kinds.ps
 emit-folded-at t =
@@ -42,11 +48,27 @@ emit-operands-below t =
     (falls 3 emit-operands-kinds.ps _<_ μ-emit-operands t)
     emit-operands.Pre
 
+abbrev operands-or-none-at : ℕ → In 3 operands-or-none-kinds.ps
+operands-or-none-at t =
+    and
+    3
+    operands-or-none-kinds.ps
+    (is 3 operands-or-none-kinds.ps μ-operands-or-none t)
+    operands-or-none.Pre
+
+abbrev operands-or-none-below : ℕ → In 3 operands-or-none-kinds.ps
+operands-or-none-below t =
+    and
+    3
+    operands-or-none-kinds.ps
+    (falls 3 operands-or-none-kinds.ps _<_ μ-operands-or-none t)
+    operands-or-none.Pre
+
 emit-folded-returns : (t : ℕ) → emit-folded-lts.Need-returns (
   skip-folded-reads.Asked,
   skip-folded-reads.Learnt,
-  emit-operands-below t,
-  emit-operands.Post,
+  operands-or-none-below t,
+  operands-or-none.Post,
   operator-last-reads.Asked,
   operator-last-reads.Learnt,
 ) (emit-folded-at t) emit-folded.Post
@@ -55,8 +77,8 @@ emit-folded-returns t c = search (foldings) depth 12
 emit-folded-returns-2 : (t : ℕ) → emit-folded-lts.Need-returns-2 (
   skip-folded-reads.Asked,
   skip-folded-reads.Learnt,
-  emit-operands-below t,
-  emit-operands.Post,
+  operands-or-none-below t,
+  operands-or-none.Post,
   operator-last-reads.Asked,
   operator-last-reads.Learnt,
 ) (emit-folded-at t) emit-folded.Post
@@ -65,59 +87,59 @@ emit-folded-returns-2 t c = search (foldings) depth 12
 emit-folded-skip-folded-requires : (t : ℕ) → emit-folded-lts.Need-skip-folded-requires (
   skip-folded-reads.Asked,
   skip-folded-reads.Learnt,
-  emit-operands-below t,
-  emit-operands.Post,
+  operands-or-none-below t,
+  operands-or-none.Post,
   operator-last-reads.Asked,
   operator-last-reads.Learnt,
 ) (emit-folded-at t) emit-folded.Post
 emit-folded-skip-folded-requires t c κs = search (whole-folded, needs)
 
-emit-folded-enum-known-a : (t : ℕ) → emit-folded-lts.Need-enum-known-a (
+emit-folded-enum-known-b : (t : ℕ) → emit-folded-lts.Need-enum-known-b (
   skip-folded-reads.Asked,
   skip-folded-reads.Learnt,
-  emit-operands-below t,
-  emit-operands.Post,
+  operands-or-none-below t,
+  operands-or-none.Post,
   operator-last-reads.Asked,
   operator-last-reads.Learnt,
 ) (emit-folded-at t) emit-folded.Post
-emit-folded-enum-known-a t c = search needs
+emit-folded-enum-known-b t c = search needs
 
-emit-folded-add-emit-operands : (t : ℕ) → emit-folded-lts.Need-add-emit-operands (
+emit-folded-add-operands-or-none : (t : ℕ) → emit-folded-lts.Need-add-operands-or-none (
   skip-folded-reads.Asked,
   skip-folded-reads.Learnt,
-  emit-operands-below t,
-  emit-operands.Post,
+  operands-or-none-below t,
+  operands-or-none.Post,
   operator-last-reads.Asked,
   operator-last-reads.Learnt,
 ) (emit-folded-at t) emit-folded.Post
-emit-folded-add-emit-operands t c = search needs
+emit-folded-add-operands-or-none t c = search needs
 
-emit-folded-emit-operands-requires : (t : ℕ) → emit-folded-lts.Need-emit-operands-requires (
+emit-folded-operands-or-none-requires : (t : ℕ) → emit-folded-lts.Need-operands-or-none-requires (
   skip-folded-reads.Asked,
   skip-folded-reads.Learnt,
-  emit-operands-below t,
-  emit-operands.Post,
+  operands-or-none-below t,
+  operands-or-none.Post,
   operator-last-reads.Asked,
   operator-last-reads.Learnt,
 ) (emit-folded-at t) emit-folded.Post
-emit-folded-emit-operands-requires t c κs = search (within-past, folded-operands, needs)
+emit-folded-operands-or-none-requires t c κs = search (within-past, folded-operands, needs)
 
 emit-folded-operator-last-requires : (t : ℕ) → emit-folded-lts.Need-operator-last-requires (
   skip-folded-reads.Asked,
   skip-folded-reads.Learnt,
-  emit-operands-below t,
-  emit-operands.Post,
+  operands-or-none-below t,
+  operands-or-none.Post,
   operator-last-reads.Asked,
   operator-last-reads.Learnt,
 ) (emit-folded-at t) emit-folded.Post
 emit-folded-operator-last-requires t c κs =
-    (search needs, search needs, search (within-body, needs), search (folded-uses, needs), search (folded-gets, needs))
+    (search needs, search needs, search (within-body, in-place, needs), search (folded-says, needs), search folded-uses, search folded-gets)
 
 emit-folded-enum-told : (t : ℕ) → emit-folded-lts.Need-enum-told (
   skip-folded-reads.Asked,
   skip-folded-reads.Learnt,
-  emit-operands-below t,
-  emit-operands.Post,
+  operands-or-none-below t,
+  operands-or-none.Post,
   operator-last-reads.Asked,
   operator-last-reads.Learnt,
 ) (emit-folded-at t) emit-folded.Post
@@ -126,8 +148,8 @@ emit-folded-enum-told t c = search needs
 emit-folded-same-length : (t : ℕ) → emit-folded-lts.Need-same-length (
   skip-folded-reads.Asked,
   skip-folded-reads.Learnt,
-  emit-operands-below t,
-  emit-operands.Post,
+  operands-or-none-below t,
+  operands-or-none.Post,
   operator-last-reads.Asked,
   operator-last-reads.Learnt,
 ) (emit-folded-at t) emit-folded.Post
@@ -136,8 +158,8 @@ emit-folded-same-length t c = search needs
 emit-folded-returns-3 : (t : ℕ) → emit-folded-lts.Need-returns-3 (
   skip-folded-reads.Asked,
   skip-folded-reads.Learnt,
-  emit-operands-below t,
-  emit-operands.Post,
+  operands-or-none-below t,
+  operands-or-none.Post,
   operator-last-reads.Asked,
   operator-last-reads.Learnt,
 ) (emit-folded-at t) emit-folded.Post
@@ -146,8 +168,8 @@ emit-folded-returns-3 t c = search (foldings) depth 12
 emit-folded-returns-4 : (t : ℕ) → emit-folded-lts.Need-returns-4 (
   skip-folded-reads.Asked,
   skip-folded-reads.Learnt,
-  emit-operands-below t,
-  emit-operands.Post,
+  operands-or-none-below t,
+  operands-or-none.Post,
   operator-last-reads.Asked,
   operator-last-reads.Learnt,
 ) (emit-folded-at t) emit-folded.Post
@@ -244,29 +266,55 @@ emit-operands-returns-3 : (t : ℕ) → emit-operands-lts.Need-returns-3 (
 ) (emit-operands-at t) emit-operands.Post emit-operands-Inv-loop emit-operands-μ-loop
 emit-operands-returns-3 t c = search (operatings) depth 12
 
-pub +emit-folded+emit-operands-spec : {M : Type 1} → statement M
-+emit-folded+emit-operands-spec = close μ-emit-folded μ-emit-operands (λ t. emit-folded-lts.spec (
-  skip-folded-reads.Asked,
-  skip-folded-reads.Learnt,
+operands-or-none-returns : (t : ℕ) → operands-or-none-lts.Need-returns (
   emit-operands-below t,
   emit-operands.Post,
-  operator-last-reads.Asked,
-  operator-last-reads.Learnt,
-)
+) (operands-or-none-at t) operands-or-none.Post
+operands-or-none-returns t c = search operands-absent
+
+operands-or-none-emit-operands-requires :
+    (t : ℕ) → operands-or-none-lts.Need-emit-operands-requires (
+      emit-operands-below t,
+      emit-operands.Post,
+    ) (operands-or-none-at t) operands-or-none.Post
+operands-or-none-emit-operands-requires t c κs = search needs
+
+operands-or-none-same-length : (t : ℕ) → operands-or-none-lts.Need-same-length (
+  emit-operands-below t,
+  emit-operands.Post,
+) (operands-or-none-at t) operands-or-none.Post
+operands-or-none-same-length t c = search needs
+
+operands-or-none-returns-2 : (t : ℕ) → operands-or-none-lts.Need-returns-2 (
+  emit-operands-below t,
+  emit-operands.Post,
+) (operands-or-none-at t) operands-or-none.Post
+operands-or-none-returns-2 t c = search needs
+
+pub +emit-folded+emit-operands+operands-or-none-spec : {M : Type 1} → statement M
++emit-folded+emit-operands+operands-or-none-spec =
+    close μ-emit-folded μ-emit-operands μ-operands-or-none (λ t. emit-folded-lts.spec (
+      skip-folded-reads.Asked,
+      skip-folded-reads.Learnt,
+      operands-or-none-below t,
+      operands-or-none.Post,
+      operator-last-reads.Asked,
+      operator-last-reads.Learnt,
+    )
     (emit-folded-at t)
     emit-folded.Post
     (emit-folded-returns t)
     (emit-folded-returns-2 t)
     (emit-folded-skip-folded-requires t)
-    (emit-folded-enum-known-a t)
-    (emit-folded-add-emit-operands t)
-    (emit-folded-emit-operands-requires t)
+    (emit-folded-enum-known-b t)
+    (emit-folded-add-operands-or-none t)
+    (emit-folded-operands-or-none-requires t)
     (emit-folded-operator-last-requires t)
     (emit-folded-enum-told t)
     (emit-folded-same-length t)
     (emit-folded-returns-3 t)
     (emit-folded-returns-4 t))
-    λ t. emit-operands-lts.spec
+    (λ t. emit-operands-lts.spec
     (emit-folded-below t, emit-folded.Post)
     (emit-operands-at t)
     emit-operands.Post
@@ -285,4 +333,12 @@ pub +emit-folded+emit-operands-spec : {M : Type 1} → statement M
     (emit-operands-loop-less t)
     (emit-operands-loop-again t)
     (emit-operands-same-length-3 t)
-    (emit-operands-returns-3 t)
+    (emit-operands-returns-3 t))
+    λ t. operands-or-none-lts.spec
+    (emit-operands-below t, emit-operands.Post)
+    (operands-or-none-at t)
+    operands-or-none.Post
+    (operands-or-none-returns t)
+    (operands-or-none-emit-operands-requires t)
+    (operands-or-none-same-length t)
+    (operands-or-none-returns-2 t)
