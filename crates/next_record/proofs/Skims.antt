@@ -191,13 +191,13 @@ pub ruleset forms-passed = (form-none, form-opening, form-elsing, form-ending, f
 
 module _ (p : Place) (s : Bytes) where
   -- read straight on
-  pub folded-surely : (r : Straight) (d : Does) (q : Place) → Surely s noneDo p r → r ≡ T.Past d q → keptFold (foldedAt 32 s noneDo p) ≡ (ok (some-folded d), q)
+  pub folded-surely : (r : Straight) (d : Does) (q : Place) → Surely s noneDo p r → r ≡ T.Past d q → keptFold (foldedAt 32 s noneDo p) ≡ (ok (some-folded (record { uses = d .uses; names = d .names })), q)
   unfolding Surely
   folded-surely r d q h g = let e = rw g at h in rw e
 
   -- and exactly
   module _ (f : Fold) (told : f ≡ foldedAt 32 s noneDo p) where
-    pub folded-past : (d : Does) (q : Place) → f ≡ L.Past d q → keptFold (foldedAt 32 s noneDo p) ≡ (ok (some-folded d), q)
+    pub folded-past : (d : Does) (q : Place) → f ≡ L.Past d q → keptFold (foldedAt 32 s noneDo p) ≡ (ok (some-folded (record { uses = d .uses; names = d .names })), q)
     folded-past d q g = rw (← told, g)
 
     pub folded-refused : (x : InsideAt) (n : ℕ) (q : Place) → f ≡ L.Refused n q → x ≡ refusedHere q n → keptFold (foldedAt 32 s noneDo p) ≡ insideAnswer (x .what) (x .place)

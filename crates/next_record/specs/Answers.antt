@@ -72,7 +72,7 @@ insideAnswer N.Data q = (ok (an-instr false name-data), q)
 insideAnswer (N.Opens u e) q = (ok (an-instr u (open-one e)), q)
 insideAnswer N.Elses q = (ok (an-instr false else-one), q)
 insideAnswer N.Ends q = (ok (an-instr false end-one), q)
-insideAnswer (N.Folded d) q = (ok (some-folded d), q)
+insideAnswer (N.Folded u n) q = (ok (some-folded (record { uses = u; names = n })), q)
 insideAnswer N.End q = (ok an-end, q)
 insideAnswer (N.Refused n) q = (refused n (q .rec), q)
 

@@ -52,8 +52,8 @@ pub enum Inside {
     Opens(bool, bool),
     Elses,
     Ends,
-    // a folded record, with all its operands
-    Folded(Does),
+    // a folded record, with all its operands: may one use a type, and does one name a data segment?
+    Folded(bool, bool),
     // the body's end
     End,
     Refused(u8),

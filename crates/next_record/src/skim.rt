@@ -128,12 +128,12 @@ pub fn folded(s: &[u8], p: Place) -> InsideAt
     };
     match read_straight(s, p, none) {
         Straight::Past(does, place) => {
-            let what = Inside::Folded(does);
+            let what = Inside::Folded(does.uses, does.names);
             return InsideAt { what, place };
         }
         Straight::Unsure => match read_folded(s, p, 32, none) {
             Fold::Past(does, place) => {
-                let what = Inside::Folded(does);
+                let what = Inside::Folded(does.uses, does.names);
                 return InsideAt { what, place };
             }
             Fold::Refused(n, place) => {

@@ -583,18 +583,18 @@ module _ (s : Bytes) (w₀ : List ℕ) (p : Place) (m : Marks) (c : Seen) (ended
           let y = subst (Turned s (v .seen) (marksIn (p .depth - 1) (bitsOf m)) in-body used named (v .ends) (pass (4096 - p .rec) (p .rec) (v .seen) used named (v .ends) s (p .at))) (a .is) x in
           subst (λ z. Turned s (v .seen) (marksIn (p .depth - 1) (bitsOf m)) in-body used named (v .ends) z f) (sym (v .same)) y
 
-      was-folded : (f : Does) → what ≡ N.Folded f → Folded-as p m s q (L.Past f q)
-      was-folded f k = folded-as p m s q f h (e ∙ ap (λ y. insideAnswer y q) k)
+      was-folded : (i j : Bool) → what ≡ N.Folded i j → Folded-as p m s q (L.Past (record { uses = i; names = j }) q)
+      was-folded i j k = folded-as p m s q (record { uses = i; names = j }) h (e ∙ ap (λ y. insideAnswer y q) k)
 
-      moves : (f : Does) → what ≡ N.Folded f → Moved p q × (p .rec < q .rec)
-      moves f k = subst (PassedBy p) (was-folded f k .is) (folded-passes 32 s noneDo p)
+      moves : (i j : Bool) → what ≡ N.Folded i j → Moved p q × (p .rec < q .rec)
+      moves i j k = subst (PassedBy p) (was-folded i j k .is) (folded-passes 32 s noneDo p)
 
-      pub less-folded : (f : Does) → what ≡ N.Folded f → 4097 - q .rec < 4097 - p .rec
-      less-folded f k = let a = moves f k in omega (arith, a .1, a .0 .most)
+      pub less-folded : (i j : Bool) → what ≡ N.Folded i j → 4097 - q .rec < 4097 - p .rec
+      less-folded i j k = let a = moves i j k in omega (arith, a .1, a .0 .most)
 
-      pub again-folded : (f : Does) (m′ : Marks) (u n : Bool) → what ≡ N.Folded f → m ≡ m′ → u ≡ (used || f .uses) → n ≡ (named || f .names) → Going s w₀ q m′ c ended u n w
-      again-folded f m′ u n k g a b =
-          let y = moves f k in
+      pub again-folded : (i j : Bool) (m′ : Marks) (u n : Bool) → what ≡ N.Folded i j → m ≡ m′ → u ≡ (used || i) → n ≡ (named || j) → Going s w₀ q m′ c ended u n w
+      again-folded i j m′ u n k g a b =
+          let y = moves i j k in
           let z = y .0 .deep in
           record {
             seen = v .seen;
@@ -602,7 +602,7 @@ module _ (s : Bytes) (w₀ : List ℕ) (p : Place) (m : Marks) (c : Seen) (ended
             few = y .0 .most;
             body = v .body ∙ rw (g, ← z);
             counts = v .counts;
-            same = rw (← a, ← b) at (turn-is (L.Past f q) (was-folded f k));
+            same = rw (← a, ← b) at (turn-is (L.Past (record { uses = i; names = j }) q) (was-folded i j k));
             area = v .area;
             number = v .number;
             fewer = omega (arith, y .1, v .fewer);

@@ -138,9 +138,9 @@ fn read_records(s: &[u8], work: &mut [u32]) -> Count
                 Inside::Ends => {
                     marks = without_block(marks);
                 }
-                Inside::Folded(does) => {
-                    used = either(used, does.uses);
-                    named = either(named, does.names);
+                Inside::Folded(uses, names) => {
+                    used = either(used, uses);
+                    named = either(named, names);
                 }
                 Inside::End => {
                     put_end(work, ended, p, used);
