@@ -7,6 +7,15 @@ use crate::template::Chance;
 /// How many operands an instruction takes at most; the ceiling is 16.
 const WIDEST: usize = 4;
 
+/// How the trees are made.
+#[derive(Clone, Copy)]
+pub enum Trees {
+    /// Each instruction on up to `WIDEST` of the last trees, by chance.
+    Small,
+    /// Two in five on none, the others on two, as deep as nesting goes.
+    Large,
+}
+
 /// A folded record with its operands, and how deep it goes.
 struct Tree {
     bytes: Vec<u8>,
@@ -14,7 +23,7 @@ struct Tree {
 }
 
 /// The stream must have no reading fault.
-pub fn folded(stream: &[u8], seed: u64) -> Vec<u8> {
+pub fn folded(stream: &[u8], seed: u64, trees: Trees) -> Vec<u8> {
     let mut reader = Reader::new(stream).expect("it is not too long");
     let mut chance = Chance::new(seed);
     let mut out = Vec::new();
@@ -23,13 +32,15 @@ pub fn folded(stream: &[u8], seed: u64) -> Vec<u8> {
         let has_body = reader.check_record().expect("it is fine");
         out.extend_from_slice(&stream[start..reader.bytes_read()]);
         if has_body {
-            fold_body(stream, &mut reader, &mut chance, &mut out).expect("it is fine");
+            fold_body(stream, &mut reader, &mut chance, trees, &mut out).expect("it is fine");
         }
     }
     out
 }
 
-fn fold_body(stream: &[u8], reader: &mut Reader, chance: &mut Chance, out: &mut Vec<u8>) -> Step<()> {
+fn fold_body(
+    stream: &[u8], reader: &mut Reader, chance: &mut Chance, sort: Trees, out: &mut Vec<u8>,
+) -> Step<()> {
     let mut trees: Vec<Tree> = Vec::new();
     loop {
         let start = reader.bytes_read();
@@ -46,16 +57,20 @@ fn fold_body(stream: &[u8], reader: &mut Reader, chance: &mut Chance, out: &mut 
                 return Ok(());
             }
         } else {
-            let tree = fold(record, &mut trees, chance);
+            let operands = match sort {
+                Trees::Small => chance.below(trees.len().min(WIDEST) + 1),
+                Trees::Large if chance.below(5) < 2 => 0,
+                Trees::Large => trees.iter().rev().take(2).take_while(|tree| tree.nesting < NESTING - 1).count(),
+            };
+            let tree = fold(record, &mut trees, operands);
             trees.push(tree);
         }
     }
 }
 
-/// An operator on some of the last trees.
-fn fold(operator: &[u8], trees: &mut Vec<Tree>, chance: &mut Chance) -> Tree {
-    let first = trees.len() - chance.below(trees.len().min(WIDEST) + 1);
-    let operands = trees.drain(first..);
+/// An operator on so many of the last trees.
+fn fold(operator: &[u8], trees: &mut Vec<Tree>, operands: usize) -> Tree {
+    let operands = trees.drain(trees.len() - operands..);
     let mut bytes = vec![FOLDED];
     bytes.extend_from_slice(operator);
     bytes.push(operands.len() as u8);

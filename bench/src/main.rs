@@ -25,10 +25,12 @@ mod rivals;
 mod template;
 mod tree;
 
+use folding::Trees;
 use rivals::{rivals, Rival};
 use std::hint::black_box;
 use std::io::{Read, Write};
 use std::time::{Duration, Instant};
+use template::Bodies;
 
 const SIZES: [usize; 4] = [1_024, 5 * 1_024, 20 * 1_024, 40 * 1_024];
 /// Bytes of different streams of one size.
@@ -43,7 +45,11 @@ type Rivals = Vec<(&'static str, Box<dyn Rival>)>;
 
 /// The streams of a size, always the same.
 fn streams(size: usize) -> Vec<Vec<u8>> {
-    (1..=ALL / size).map(|seed| template::stream(size, seed as u64)).collect()
+    streams_with(size, Bodies::Blocks)
+}
+
+fn streams_with(size: usize, bodies: Bodies) -> Vec<Vec<u8>> {
+    (1..=ALL / size).map(|seed| template::stream(size, seed as u64, bodies)).collect()
 }
 
 fn line(rival: &mut dyn Rival, stream: &[u8]) -> String {
@@ -143,9 +149,12 @@ fn measure(rivals: &mut Rivals, rounds: usize) {
 
 /// Flat streams beside the same ones folded, in turn. Both give the same modules.
 fn measure_folding(rivals: &mut Rivals, rounds: usize) {
-    for size in SIZES {
-        let flat = streams(size);
-        let folded: Vec<Vec<u8>> = (1..).zip(&flat).map(|(seed, stream)| folding::folded(stream, seed)).collect();
+    let small = SIZES.map(|size| (size, Bodies::Blocks, Trees::Small, "folded"));
+    let large = [(20 * 1_024, Bodies::Long, Trees::Large, "long bodies in large trees")];
+    for (size, bodies, trees, sort) in small.into_iter().chain(large) {
+        let flat = streams_with(size, bodies);
+        let folded: Vec<Vec<u8>> =
+            (1..).zip(&flat).map(|(seed, stream)| folding::folded(stream, seed, trees)).collect();
         for (_, rival) in rivals.iter_mut() {
             for (flat, folded) in flat.iter().zip(&folded) {
                 assert!(line(&mut **rival, flat) == line(&mut **rival, folded), "a folded stream differs");
@@ -159,7 +168,7 @@ fn measure_folding(rivals: &mut Rivals, rounds: usize) {
             }
         }
         let bytes = |streams: &[Vec<u8>]| streams.iter().map(Vec::len).sum::<usize>();
-        print!("{size:6} bytes, folded {:6}", bytes(&folded) / folded.len());
+        print!("{size:6} bytes, {sort} {:6}", bytes(&folded) / folded.len());
         for ((name, _), [of_flat, of_folded]) in rivals.iter().zip(&best) {
             let time = |best: &[Duration], streams: &[Vec<u8>]| {
                 best.iter().sum::<Duration>().as_nanos() as f64 / bytes(streams) as f64

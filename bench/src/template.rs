@@ -28,16 +28,24 @@ const WORDS: [&str; 24] = [
 ];
 const TEXT: &[u8] = b"<li class=\"row\"><a href=\"/page/{{id}}\">{{title}}</a></li>\n<p>{{text}}</p>\n";
 
+/// What the bodies are like: with blocks, or long and without one.
+#[derive(Clone, Copy, PartialEq)]
+pub enum Bodies {
+    Blocks,
+    Long,
+}
+
 struct Template {
     out: Vec<u8>,
     chance: Chance,
     functions: Vec<String>,
+    bodies: Bodies,
 }
 
 /// A stream of exactly `size` bytes without a refusal: functions and texts as
 /// long as there is room, and a last text that fills it.
-pub fn stream(size: usize, seed: u64) -> Vec<u8> {
-    let mut template = Template { out: Vec::new(), chance: Chance::new(seed), functions: Vec::new() };
+pub fn stream(size: usize, seed: u64, bodies: Bodies) -> Vec<u8> {
+    let mut template = Template { out: Vec::new(), chance: Chance::new(seed), functions: Vec::new(), bodies };
     template.head();
     let mut misses = 0;
     while misses < 8 {
@@ -152,9 +160,13 @@ impl Template {
 
     fn body(&mut self, names: &[String]) {
         let mut labels: Vec<String> = Vec::new();
-        for _ in 0..10 + self.chance.below(18) {
+        let length = match self.bodies {
+            Bodies::Blocks => 10 + self.chance.below(18),
+            Bodies::Long => 150,
+        };
+        for _ in 0..length {
             match self.chance.below(16) {
-                0 | 1 => {
+                0 | 1 if self.bodies == Bodies::Blocks => {
                     let label = if self.chance.below(3) == 0 { String::new() } else { self.word() };
                     self.out.push(*self.chance.pick(&[2, 3, 4]));
                     self.name(&label);
