@@ -14,6 +14,11 @@ pub enum Trees {
     Small,
     /// Two in five on none, the others on two, as deep as nesting goes.
     Large,
+    /// One in sixteen on sixteen, the others on none.
+    Wide,
+    /// One in three on three, the first of which goes as deep as nesting does, the
+    /// others on none.
+    Deep,
 }
 
 /// A folded record with its operands, and how deep it goes.
@@ -61,6 +66,13 @@ fn fold_body(
                 Trees::Small => chance.below(trees.len().min(WIDEST) + 1),
                 Trees::Large if chance.below(5) < 2 => 0,
                 Trees::Large => trees.iter().rev().take(2).take_while(|tree| tree.nesting < NESTING - 1).count(),
+                Trees::Wide if chance.below(16) > 0 => 0,
+                Trees::Wide => trees.iter().rev().take(16).take_while(|tree| tree.nesting < NESTING).count(),
+                Trees::Deep => match trees[..] {
+                    [.., ref first, ref second, ref third]
+                        if first.nesting < NESTING && second.nesting == 1 && third.nesting == 1 => 3,
+                    _ => 0,
+                },
             };
             let tree = fold(record, &mut trees, operands);
             trees.push(tree);

@@ -150,7 +150,8 @@ fn measure(rivals: &mut Rivals, rounds: usize) {
 /// Flat streams beside the same ones folded, in turn. Both give the same modules.
 fn measure_folding(rivals: &mut Rivals, rounds: usize) {
     let small = SIZES.map(|size| (size, Bodies::Blocks, Trees::Small, "folded"));
-    let large = [(20 * 1_024, Bodies::Long, Trees::Large, "long bodies in large trees")];
+    let large = [(Trees::Large, "in large trees"), (Trees::Wide, "in wide trees"), (Trees::Deep, "in deep trees")]
+        .map(|(trees, sort)| (20 * 1_024, Bodies::Long, trees, sort));
     for (size, bodies, trees, sort) in small.into_iter().chain(large) {
         let flat = streams_with(size, bodies);
         let folded: Vec<Vec<u8>> =

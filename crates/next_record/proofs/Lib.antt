@@ -3,7 +3,8 @@ pub mod Bits
 pub mod Naming
 pub mod Records
 pub mod Skims
-pub mod Straight
+pub mod Heads
+pub mod Along
 pub mod Steps
 pub mod Lent
 pub mod LentTypes

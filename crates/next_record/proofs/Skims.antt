@@ -36,12 +36,10 @@ use Rattle.syntax.specs.declared.Form.the-variants as FM
 use Rattle.next_record.specs.Uses.{mayUse, sortNames}
 use Rattle.next_record.specs.Places.{recordPast, placeAfter, movedBy, bodyRecordAt}
 use Rattle.next_record.specs.Answers.{Kept, an-instr, some-folded, an-end, keptOf, keptAt, keptInstr, stay, name-data, open-one, opensIn, elsesIn, endsIn, plainInside, insideAnswer, onPast, refusedHere}
-use Rattle.next_record.specs.Folds.{noneDo, foldedAt, Surely, keptFold, turnAt}
+use Rattle.next_record.specs.Folds.{noneDo, foldedAt, keptFold, turnAt}
 use Rattle.next_record.specs.declared.record.Does.{Does}
 use Rattle.next_record.specs.declared.fold.Fold.{Fold}
 use Rattle.next_record.specs.declared.fold.Fold.the-variants as L
-use Rattle.next_record.specs.declared.fold.Straight.{Straight}
-use Rattle.next_record.specs.declared.fold.Straight.the-variants as T
 use Rattle.next_record.specs.declared.record.Inside.{Inside}
 use Rattle.next_record.specs.declared.record.Inside.the-variants as N
 use Rattle.next_record.specs.declared.record.InsideAt.{InsideAt}
@@ -190,12 +188,6 @@ pub ruleset forms-passed = (form-none, form-opening, form-elsing, form-ending, f
 -- ## A folded record
 
 module _ (p : Place) (s : Bytes) where
-  -- read straight on
-  pub folded-surely : (r : Straight) (d : Does) (q : Place) → Surely s noneDo p r → r ≡ T.Past d q → keptFold (foldedAt 32 s noneDo p) ≡ (ok (some-folded (record { uses = d .uses; names = d .names })), q)
-  unfolding Surely
-  folded-surely r d q h g = let e = rw g at h in rw e
-
-  -- and exactly
   module _ (f : Fold) (told : f ≡ foldedAt 32 s noneDo p) where
     pub folded-past : (d : Does) (q : Place) → f ≡ L.Past d q → keptFold (foldedAt 32 s noneDo p) ≡ (ok (some-folded (record { uses = d .uses; names = d .names })), q)
     folded-past d q g = rw (← told, g)
@@ -204,7 +196,7 @@ module _ (p : Place) (s : Bytes) where
     unfolding refusedHere
     folded-refused x n q g a = rw (← told, g, a)
 
-pub ruleset folded-ways = (folded-surely, folded-past, folded-refused, refl)
+pub ruleset folded-ways = (folded-past, folded-refused, refl)
 
 -- ## A record of a body
 

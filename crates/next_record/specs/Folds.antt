@@ -1,6 +1,6 @@
 -- Folded records in the reading pass: one is read with all its operands.
 use mathlib.Core.Path.{_≡_}
-use Prim.Native.Nat.{ℕ, zero, suc, _-_}
+use Prim.Native.Nat.{ℕ, zero, suc, _-_, _*_, _^_, _≤_, _<_}
 use mathlib.Core.Bool.{true, false, _||_}
 use mathlib.Core.Option.{Option, none, some}
 use lib.Dec.{eqb, leb}
@@ -17,10 +17,10 @@ use Rattle.next_record.specs.Answers.{Kept, some-folded, keptAt}
 use Rattle.next_record.specs.declared.record.Does.{Does}
 use Rattle.next_record.specs.declared.fold.Fold.{Fold}
 use Rattle.next_record.specs.declared.fold.Fold.the-variants as L
-use Rattle.next_record.specs.declared.fold.Straight.{Straight}
-use Rattle.next_record.specs.declared.fold.Straight.the-variants as S
 use Rattle.next_record.specs.declared.fold.HeadAt.{HeadAt}
 use Rattle.next_record.specs.declared.fold.HeadAt.the-variants as H
+use Rattle.next_record.specs.declared.straight.Next.{Next}
+use Rattle.next_record.specs.declared.straight.Next.the-variants as N
 
 -- ## What instructions do
 
@@ -99,15 +99,26 @@ foldedAt (suc left) s does p =
     afterF0
     (λ a. onHead (headAt s a) (λ d n next. operandsBy (foldedAt left s) n (bothDo does d) (recordPast p next (p .depth))) (λ n. L.Refused n p)) s p
 
--- how many may still be nested after a record with so many operands, if no more than those with operands are counted
-abbrev pub lessNested : ℕ → ℕ → ℕ
-lessNested left zero = left
-lessNested left (suc n) = left - 1
+-- ## One record of it
 
--- what a quick reading that may leave it open says of a folded record
-unfoldable pub Surely : Bytes → Does → Place → Straight → Type 0
-Surely s does p (S.Past d q) = foldedAt 32 s does p ≡ L.Past d q
-Surely s does p S.Unsure = Unit {0}
+-- a record with all its operands: none of them is due after it
+abbrev pub wholeOf : Fold → Next
+wholeOf (L.Past d q) = N.Past d 0 q
+wholeOf (L.Refused n q) = N.Refused n q
+
+-- one that was passed: `n` of its operands are due from `q` on, nested one deeper, and fit into 64 bits together with what was due
+pub record PastAt (left : ℕ) (s : Bytes) (does : Does) (p : Place) (due : ℕ) (d : Does) (n : ℕ) (q : Place) : Type 0 where
+  pub same : foldedAt left s does p ≡ operandsBy (foldedAt (left - 1) s) n d q
+  pub nests : 1 ≤ left
+  pub few : n ≤ 16
+  pub room : due * 2 ^ n < 2 ^ 64
+  pub later : p .rec < q .rec
+  pub most : q .rec ≤ 4096
+  pub deep : q .depth ≡ p .depth
+
+unfoldable pub NextAt : ℕ → Bytes → Does → Place → ℕ → Next → Type 0
+NextAt left s does p due (N.Past d n q) = PastAt left s does p due d n q
+NextAt left s does p due (N.Refused n q) = foldedAt left s does p ≡ L.Refused n q
 
 -- ## A turn of the pass
 

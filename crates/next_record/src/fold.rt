@@ -4,13 +4,11 @@ use crate::record::after_record;
 use crate::record::names_data;
 use syntax::ByteAt;
 use syntax::Form;
-use syntax::Operands;
 use syntax::Place;
-use syntax::Skip;
 use syntax::U32;
 ghost use mathlib.Core.Path.{_≡_};
 ghost use Prim.Native.Nat.{_≤_};
-ghost use Rattle.next_record.specs.Folds.{bothDo, doesAt, headAt, headWith, operandsBy, foldedAt, lessNested, Surely};
+ghost use Rattle.next_record.specs.Folds.{bothDo, doesAt, headAt, headWith, operandsBy, foldedAt};
 
 pub enum Fold {
     Past(Does, Place),
@@ -55,7 +53,7 @@ fn operator_does(s: &[u8], at: usize, does: Does) -> Does
     }
 }
 
-fn read_head(s: &[u8], at: usize, does: Does) -> HeadAt
+pub fn read_head(s: &[u8], at: usize, does: Does) -> HeadAt
     ensures { λ r. ⌜ r ≡ headWith does (headAt (now (s .entry)) at) ⌝ }
 {
     match instr::pass_fold(s, at) {
@@ -126,105 +124,4 @@ fn read_operands(s: &[u8], p: Place, n: u32, left: u32, does: Does) -> Fold
         due -= 1;
     }
     Fold::Past(d, q)
-}
-
-// What came of folded records that were read straight on.
-pub enum Straight {
-    Past(Does, Place),
-    // the exact readers say what is there
-    Unsure,
-}
-
-// The same as `read_head`, quicker for the operators that do nothing here. It has one caller, so that it is taken into the loop below.
-fn straight_head(s: &[u8], at: usize, does: Does) -> HeadAt
-    ensures { λ r. ⌜ r ≡ headWith does (headAt (now (s .entry)) at) ⌝ }
-{
-    match token::read_byte(s, at) {
-        ByteAt::Got(b, a) => match instr::opcode_form(b) {
-            Form::Operands(what) => match what {
-                Operands::Bulk => {
-                    return read_head(s, at, does);
-                }
-                _ => match instr::pass_often(s, a, what) {
-                    Skip::Past(c) => match token::up_to(s, c, 7, 16) {
-                        U32::Got(n, next) => {
-                            return HeadAt::Got(does, n, next);
-                        }
-                        U32::Fault(e) => {
-                            return HeadAt::Fault(e);
-                        }
-                    },
-                    Skip::Fault(e) => {
-                        return HeadAt::Fault(e);
-                    }
-                },
-            },
-            _ => {
-                return read_head(s, at, does);
-            }
-        },
-        ByteAt::Fault(e) => {
-            return HeadAt::Fault(e);
-        }
-    }
-}
-
-// How many may still be nested after a record with so many operands, if no more than those with operands are counted.
-fn less_nested(left: u32, n: u32) -> u32
-    requires { ⌜ 1 ≤ left ⌝ }
-    ensures { λ r. ⌜ r ≡ lessNested left n ⌝ }
-{
-    if n < 1 {
-        return left;
-    }
-    left - 1
-}
-
-// A folded record at `p` with all its operands, read one after the other as they stand: only how many are still due is counted. Where fewer than 32
-// of them have operands none is nested too deep; where there are more, or anything is at fault, the exact readers decide.
-pub fn read_straight(s: &[u8], p: Place, does: Does) -> Straight
-    requires { ⌜ p .rec ≤ 4096 ⌝ }
-    ensures { λ r. ⌜ Surely (now (s .entry)) does p r ⌝ }
-{
-    let mut at = p.at;
-    let mut rec = p.rec;
-    let mut due: u32 = 1;
-    let mut left: u32 = 32;
-    let mut d = does;
-    while 0 < due {
-        if 4096 <= rec {
-            return Straight::Unsure;
-        }
-        if left < 1 {
-            return Straight::Unsure;
-        }
-        match token::read_byte(s, at) {
-            ByteAt::Got(b, a) => {
-                if b != 0xF0 {
-                    return Straight::Unsure;
-                }
-                match straight_head(s, a, d) {
-                    HeadAt::Got(e, n, next) => {
-                        d = e;
-                        at = next;
-                        rec += 1;
-                        due = due - 1 + n;
-                        left = less_nested(left, n);
-                    }
-                    HeadAt::Fault(_) => {
-                        return Straight::Unsure;
-                    }
-                }
-            }
-            ByteAt::Fault(_) => {
-                return Straight::Unsure;
-            }
-        }
-    }
-    let q = Place {
-        at,
-        rec,
-        depth: p.depth,
-    };
-    Straight::Past(d, q)
 }

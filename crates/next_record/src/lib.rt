@@ -3,6 +3,7 @@ mod fold;
 pub mod marks;
 pub mod record;
 mod skim;
+mod straight;
 mod thin;
 
 pub use marks::with_block;

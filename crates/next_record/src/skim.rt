@@ -1,9 +1,6 @@
 // An instruction that is passed over. The pass needs where it ends, how deep the place is then, whether it may use a type, what it does to the
 // open blocks, and whether it names a data segment; nothing else of it is built.
 use crate::fold::Fold;
-use crate::fold::Straight;
-use crate::fold::read_folded;
-use crate::fold::read_straight;
 use crate::marks::Innermost;
 use crate::marks::may_else;
 use crate::record::Does;
@@ -12,6 +9,7 @@ use crate::record::InsideAt;
 use crate::record::names_data;
 use crate::record::on;
 use crate::record::refused;
+use crate::straight::read_straight;
 use syntax::Form;
 use syntax::Operands;
 use syntax::Place;
@@ -127,19 +125,13 @@ pub fn folded(s: &[u8], p: Place) -> InsideAt
         names: false,
     };
     match read_straight(s, p, none) {
-        Straight::Past(does, place) => {
+        Fold::Past(does, place) => {
             let what = Inside::Folded(does.uses, does.names);
             return InsideAt { what, place };
         }
-        Straight::Unsure => match read_folded(s, p, 32, none) {
-            Fold::Past(does, place) => {
-                let what = Inside::Folded(does.uses, does.names);
-                return InsideAt { what, place };
-            }
-            Fold::Refused(n, place) => {
-                return refused(place, n);
-            }
-        },
+        Fold::Refused(n, place) => {
+            return refused(place, n);
+        }
     }
 }
 

@@ -10,19 +10,7 @@ enum-known-does : tie.Need-enum-known-does
 enum-known-does c = search needs
 
 returns : tie.Need-returns
-returns c = search (folded-ways) depth 8
-
-enum-told : tie.Need-enum-told
-enum-told c = search needs
-
-read-folded-requires : tie.Need-read-folded-requires
-read-folded-requires c κs = search needs
-
-enum-known-does-2 : tie.Need-enum-known-does-2
-enum-known-does-2 c = search needs
-
-returns-2 : tie.Need-returns-2
-returns-2 c = search (folded-ways) depth 8
+returns c = search folded-ways depth 8
 
 enum-known-n : tie.Need-enum-known-n
 enum-known-n c = search needs
@@ -30,8 +18,8 @@ enum-known-n c = search needs
 refused-requires : tie.Need-refused-requires
 refused-requires c κs = search needs
 
-returns-3 : tie.Need-returns-3
-returns-3 c = search (folded-ways) depth 8
+returns-2 : tie.Need-returns-2
+returns-2 c = search folded-ways depth 8
 
 pub folded-spec : {M : Type 1} → statement M
 folded-spec =
@@ -40,10 +28,6 @@ folded-spec =
     read-straight-requires
     enum-known-does
     returns
-    enum-told
-    read-folded-requires
-    enum-known-does-2
-    returns-2
     enum-known-n
     refused-requires
-    returns-3)
+    returns-2)

@@ -1,7 +1,7 @@
-use Rattle.next_record.proofs.Straight.{straight-heads}
+use Rattle.next_record.proofs.Heads.{straight-heads}
 use borrow.Author.Needs.{needs}
-use Rattle.next_record.proofs.fold.straight_head.Statement.{statement}
-use Rattle.next_record.proofs.fold.straight_head.Tie as tie
+use Rattle.next_record.proofs.straight.straight_head.Statement.{statement}
+use Rattle.next_record.proofs.straight.straight_head.Tie as tie
 
 read-byte-requires : tie.Need-read-byte-requires
 read-byte-requires c κs = search needs
