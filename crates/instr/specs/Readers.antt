@@ -7,7 +7,7 @@ use Rattle.definition.specs.Basic.{if_then_else_}
 use Rattle.definition.specs.Syntax.{Bytes, Identifier, Instr, Rec, field, instr, folded, bodyEnd}
 use Rattle.definition.specs.Reader.{Step, got, fault}
 use Rattle.definition.specs.Instructions as Instructions
-use Rattle.definition.specs.Instructions.{opening, elsing, ending, calling, operands}
+use Rattle.definition.specs.Instructions.{operands}
 use Rattle.syntax.specs.Instructions.{formIs, instrIs}
 use Rattle.syntax.specs.declared.BodyAt.{BodyAt}
 use Rattle.syntax.specs.declared.BodyAt.the-variants as BA

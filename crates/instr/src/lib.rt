@@ -334,35 +334,6 @@ fn read_past(s: &[u8], at: usize, what: Operands) -> Skip
     }
 }
 
-// Operands passed over, the frequent sorts without building anything. It has one caller, so that it is taken into that loop.
-pub fn pass_often(s: &[u8], at: usize, what: Operands) -> Skip
-    ensures { λ r. ⌜ stops (Instructions.plainOf 0 (operandsIs what) (now (s .entry)) at) ≡ skip r ⌝ }
-{
-    match what {
-        Operands::Bare => {
-            return Skip::Past(at);
-        }
-        Operands::LabelIdx => {
-            return token::pass_present(s, at);
-        }
-        Operands::LocalIdx => {
-            return token::pass_present(s, at);
-        }
-        Operands::FuncIdx => {
-            return token::pass_present(s, at);
-        }
-        Operands::GlobalIdx => {
-            return token::pass_present(s, at);
-        }
-        Operands::I32 => {
-            return token::pass_u32(s, at);
-        }
-        _ => {
-            return read_past(s, at, what);
-        }
-    }
-}
-
 // The operator passed over.
 fn pass_operator(s: &[u8], at: usize) -> Skip
     ensures { λ r. ⌜ stops (Instructions.operator (now (s .entry)) at) ≡ skip r ⌝ }

@@ -3,11 +3,11 @@ use mathlib.Core.Path.{_≡_, refl, sym, ap, _∙_}
 use Prim.Native.Nat.{ℕ, zero, suc, _+_, _*_, _-_, _/_, _%_, _^_, _≤_, _<_}
 use mathlib.Core.Bool.{Bool, true, false}
 use mathlib.Core.List.{List, [], _∷_}
-use lib.Count.{trailingZeros, under, trailing-le}
+use lib.Count.{trailingZeros, trailing-le}
 use lib.Pow.{pow-pos, shr-shr}
 use mir.Syntax.{w32, w64}
 use mir.Val.{Fits}
-use native.Mathlib.Nat.{pow-suc, mul-assoc, mul-one, div-one, mod-eq-of-lt, mul-div-right, le-div-iff-mul-le}
+use native.Mathlib.Nat.{pow-suc, mul-assoc, mul-one, div-one, mod-eq-of-lt, le-div-iff-mul-le}
 use native.Mathlib.Omega.{arith}
 use Rattle.definition.specs.Syntax.{Bytes}
 use Rattle.definition.specs.Reader.{byte}
@@ -154,6 +154,7 @@ ended s (suc k) (false ∷ bs) h l =
 
 -- ## The loop
 
+-- what is due, and that it comes to what the record at `p` comes to
 pub record Straight·Inv (s : Bytes) (does : Does) (p : Place) (at rec left due : ℕ) (d : Does) : Type 0 where
   pub bits : List Bool
   pub is : due ≡ value bits
@@ -222,12 +223,12 @@ module _ {s : Bytes} {does : Does} {p : Place} {at rec left due : ℕ} {d : Does
         pub left-some : 1 ≤ left + zeros
         left-some = passed .nests
 
+        -- its operands have taken its place
+        taken : (due / 2 ^ zeros * 2 ^ n) % 2 ^ 64 ≡ value (after n (begun .rest)) + 1
+        taken = mod-eq-of-lt (passed .room) ∙ ap (λ k. k * 2 ^ n) (begun .is) ∙ sym (after-value n (begun .rest))
+
         pub one-due : 1 ≤ (due / 2 ^ zeros * 2 ^ n) % 2 ^ 64
-        one-due =
-            let z = after-value n (begun .rest) in
-            let y : (due / 2 ^ zeros * 2 ^ n) % 2 ^ 64 ≡ due / 2 ^ zeros * 2 ^ n = mod-eq-of-lt (passed .room) in
-            let w : due / 2 ^ zeros * 2 ^ n ≡ value (true ∷ begun .rest) * 2 ^ n = ap (λ k. k * 2 ^ n) (begun .is) in
-            rw y (omega (arith, w, z))
+        one-due = omega (arith, taken)
 
         pub straight-less : 4096 - q .rec < 4096 - rec
         straight-less = omega (arith, passed .later, passed .most)
@@ -236,12 +237,8 @@ module _ {s : Bytes} {does : Does} {p : Place} {at rec left due : ℕ} {d : Does
         straight-again =
             record {
               bits = after n (begun .rest);
-              is =
-                  let z = after-value n (begun .rest) in
-                  let y : (due / 2 ^ zeros * 2 ^ n) % 2 ^ 64 ≡ due / 2 ^ zeros * 2 ^ n = mod-eq-of-lt (passed .room) in
-                  let w : due / 2 ^ zeros * 2 ^ n ≡ value (true ∷ begun .rest) * 2 ^ n = ap (λ k. k * 2 ^ n) (begun .is) in
-                  rw y (omega (arith, w, z));
-              room = let y : (due / 2 ^ zeros * 2 ^ n) % 2 ^ 64 ≡ due / 2 ^ zeros * 2 ^ n = mod-eq-of-lt (passed .room) in rw y (omega (arith, passed .room));
+              is = omega (arith, taken);
+              room = omega arith;
               same =
                   let y : suc (left + zeros - 1) ≡ left + zeros = omega (arith, passed .nests) in
                   let o : _≡_ {A = Place} (record { at = q .at; rec = q .rec; depth = p .depth }) q = rw (← passed .deep) refl in

@@ -12,7 +12,7 @@ use Rattle.definition.specs.Syntax as Syntax
 use Rattle.definition.specs.Syntax.{Bytes, Identifier, folded}
 use Rattle.definition.specs.Reader.{Step, got, fault, onward, require, byte}
 use Rattle.definition.specs.Token.{u32, upTo}
-use Rattle.definition.specs.Instructions.{formOf, plainOf, operator, fold}
+use Rattle.definition.specs.Instructions.{operator, fold}
 use Rattle.laws.specs.Steps.{stops}
 use Rattle.syntax.specs.Numbers.{u32At}
 use Rattle.syntax.specs.declared.U32.{U32}
@@ -22,19 +22,17 @@ use Rattle.syntax.specs.declared.ByteAt.{ByteAt}
 use Rattle.syntax.specs.declared.ByteAt.the-variants as B
 use Rattle.syntax.specs.declared.Skip.{Skip}
 use Rattle.syntax.specs.declared.Skip.the-variants as K
-use Rattle.syntax.specs.Plain.{operandsIs}
-use Rattle.syntax.specs.declared.Operands.{Operands}
-use Rattle.syntax.proofs.Operands as OperandsOf
-use Rattle.syntax.specs.Instructions.{formIs}
-use Rattle.syntax.specs.declared.Form.{Form}
 use Rattle.syntax.specs.declared.Form.the-variants as FM
 use Rattle.instr.specs.Readers.{countOf}
 use Rattle.instr.proofs.Folds.{operator-none, operator-plain, fold-counts, fold-not}
+use Rattle.next_record.specs.Often.{OftenIs, oftenStops}
 use Rattle.next_record.specs.Folds.{headOf, headAt, headWith}
 use Rattle.next_record.specs.declared.record.Does.{Does}
 use Rattle.next_record.specs.declared.fold.HeadAt.{HeadAt}
 use Rattle.next_record.specs.declared.fold.HeadAt.the-variants as H
-use Rattle.next_record.proofs.Naming.{Others, others-not}
+use Rattle.next_record.specs.declared.often.Often.{Often}
+use Rattle.next_record.proofs.often.Often as OftenOf
+use Rattle.next_record.proofs.Frequent.{Met, Frequent, met-often}
 use Rattle.next_record.proofs.Folding.{does-plain, head-got, head-not}
 
 module _ (s : Bytes) (at : ℕ) (does : Does) (x : HeadAt) (q : ByteAt) (told : byte s at ≡ byteAt q) where
@@ -42,25 +40,27 @@ module _ (s : Bytes) (at : ℕ) (does : Does) (x : HeadAt) (q : ByteAt) (told : 
   pub no-operator : (n : ℕ) → q ≡ B.Fault n → x ≡ H.Fault n → x ≡ headWith does (headAt s at)
   no-operator n d a = head-not s at does x (U32.Fault n) (fold-not s at (K.Fault n) (operator-none s at (skip (K.Fault n)) q told n d refl) n (fault n) refl refl) n refl a
 
-  -- operands, of which none but those after FC name a data segment: the operator does nothing
-  module _ (b a : ℕ) (d : q ≡ B.Got b a) (f : Form) (says : formOf b ≡ formIs f) (w : Operands) (e : f ≡ FM.Operands w) (h : OneOf Others (tagOf OperandsOf.the-type w)) (u : Skip)
-      (past : stops (plainOf 0 (operandsIs w) s a) ≡ skip u) where
+  -- operands that are met often: the operator does nothing
+  module _ (b a : ℕ) (d : q ≡ B.Got b a) (r : Often) (is : OftenIs b r) (h : OneOf Frequent (tagOf OftenOf.the-type r)) (u : Skip) (past : oftenStops r s a ≡ skip u) where
+    met : Met b s a (skip u)
+    met = met-often b r is h s a (skip u) past
+
     operands-past : stops (operator s at) ≡ skip u
-    operands-past = operator-plain s at (skip u) q told b a d f says w e past
+    operands-past = operator-plain s at (skip u) q told b a d (FM.Operands (met .what)) (met .says) (met .what) refl (met .past)
 
     pub no-operands : (n : ℕ) → u ≡ K.Fault n → x ≡ H.Fault n → x ≡ headWith does (headAt s at)
     no-operands n g i = head-not s at does x (U32.Fault n) (fold-not s at u operands-past n (fault n) g refl) n refl i
 
-    module _ (c : ℕ) (g : u ≡ K.Past c) (r : U32) (up : upTo 7 16 s c ≡ u32At r) where
-      counted-at : countOf (fold s at) ≡ u32At r
-      counted-at = fold-counts s at u operands-past c (u32At r) g up
+    module _ (c : ℕ) (g : u ≡ K.Past c) (v : U32) (up : upTo 7 16 s c ≡ u32At v) where
+      counted-at : countOf (fold s at) ≡ u32At v
+      counted-at = fold-counts s at u operands-past c (u32At v) g up
 
-      pub no-count : (n : ℕ) → r ≡ U32.Fault n → x ≡ H.Fault n → x ≡ headWith does (headAt s at)
-      no-count n i j = head-not s at does x r counted-at n i j
+      pub no-count : (n : ℕ) → v ≡ U32.Fault n → x ≡ H.Fault n → x ≡ headWith does (headAt s at)
+      no-count n i j = head-not s at does x v counted-at n i j
 
-      pub with-count : (n next : ℕ) → r ≡ U32.Got n next → x ≡ H.Got does n next → x ≡ headWith does (headAt s at)
+      pub with-count : (n next : ℕ) → v ≡ U32.Got n next → x ≡ H.Got does n next → x ≡ headWith does (headAt s at)
       with-count n next i j =
-          head-got s at does x r counted-at n next does i (does-plain s at does q told b a d f says w false e (others-not w (getD s a 0) h) refl) j
+          head-got s at does x v counted-at n next does i (does-plain s at does q told b a d (FM.Operands (met .what)) (met .says) (met .what) false refl (met .calm (getD s a 0)) refl) j
 
 pub ruleset straight-heads = (no-operator, no-operands, no-count, with-count, refl)
 

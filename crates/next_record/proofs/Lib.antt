@@ -3,6 +3,7 @@ pub mod Bits
 pub mod Naming
 pub mod Records
 pub mod Skims
+pub mod Frequent
 pub mod Heads
 pub mod Along
 pub mod Steps

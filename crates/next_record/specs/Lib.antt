@@ -3,3 +3,4 @@ pub mod Marks
 pub mod Places
 pub mod Answers
 pub mod Folds
+pub mod Often

@@ -1,6 +1,7 @@
 // One record at the running place: outside a body a field, inside one an instruction or the body's end.
 mod fold;
 pub mod marks;
+mod often;
 pub mod record;
 mod skim;
 mod straight;

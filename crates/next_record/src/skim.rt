@@ -115,7 +115,7 @@ fn plain_inside(s: &[u8], at: usize, what: Operands) -> Inside
     Inside::On(false)
 }
 
-// A folded record with all its operands: straight on where that is sure, which most are.
+// A folded record with all its operands.
 pub fn folded(s: &[u8], p: Place) -> InsideAt
     requires { ⌜ p .rec < 4096 ⌝ }
     ensures { λ r. ⌜ keptFold (foldedAt 32 (now (s .entry)) noneDo p) ≡ insideAnswer (r .what) (r .place) ⌝ }

@@ -3,11 +3,12 @@ use crate::fold::Fold;
 use crate::fold::HeadAt;
 use crate::fold::read_folded;
 use crate::fold::read_head;
+use crate::often::Often;
+use crate::often::often_after;
+use crate::often::pass_often;
 use crate::record::Does;
 use crate::record::after_record;
 use syntax::ByteAt;
-use syntax::Form;
-use syntax::Operands;
 use syntax::Place;
 use syntax::Skip;
 use syntax::U32;
@@ -15,17 +16,18 @@ ghost use mathlib.Core.Path.{_≡_};
 ghost use Prim.Native.Nat.{_≤_};
 ghost use Rattle.next_record.specs.Folds.{headAt, headWith, foldedAt, wholeOf, NextAt};
 
-// The same as `read_head`, quicker for the operators that do nothing here. It has one caller, so that it is taken into the loop below.
+// The same as `read_head`, quicker for what is met often. It has one caller, so that it is taken into the loop below.
 fn straight_head(s: &[u8], at: usize, does: Does) -> HeadAt
     ensures { λ r. ⌜ r ≡ headWith does (headAt (now (s .entry)) at) ⌝ }
 {
     match token::read_byte(s, at) {
-        ByteAt::Got(b, a) => match instr::opcode_form(b) {
-            Form::Operands(what) => match what {
-                Operands::Bulk => {
+        ByteAt::Got(b, a) => {
+            let what = often_after(b);
+            match what {
+                Often::Rare => {
                     return read_head(s, at, does);
                 }
-                _ => match instr::pass_often(s, a, what) {
+                _ => match pass_often(s, a, what) {
                     Skip::Past(c) => match token::up_to(s, c, 7, 16) {
                         U32::Got(n, next) => {
                             return HeadAt::Got(does, n, next);
@@ -38,11 +40,8 @@ fn straight_head(s: &[u8], at: usize, does: Does) -> HeadAt
                         return HeadAt::Fault(e);
                     }
                 },
-            },
-            _ => {
-                return read_head(s, at, does);
             }
-        },
+        }
         ByteAt::Fault(e) => {
             return HeadAt::Fault(e);
         }

@@ -1,5 +1,4 @@
 use mathlib.Core.Path.{ap}
-use borrow.Author.Needs.{needs}
 use Rattle.definition.specs.Basic.{between}
 use Rattle.definition.specs.Instructions.{formOf, formIn, opcodes}
 use Rattle.instr.proofs.Forms.{no-early}

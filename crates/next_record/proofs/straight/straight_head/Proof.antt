@@ -9,11 +9,8 @@ read-byte-requires c κs = search needs
 enum-known-b : tie.Need-enum-known-b
 enum-known-b c = search needs
 
-opcode-form-requires : tie.Need-opcode-form-requires
-opcode-form-requires c κs = search needs
-
-enum-known-what : tie.Need-enum-known-what
-enum-known-what c = search needs
+often-after-requires : tie.Need-often-after-requires
+often-after-requires c κs = search needs
 
 enum-told : tie.Need-enum-told
 enum-told c = search needs
@@ -37,31 +34,25 @@ enum-known-n : tie.Need-enum-known-n
 enum-known-n c = search needs
 
 returns-2 : tie.Need-returns-2
-returns-2 c = search (straight-heads) depth 8
+returns-2 c = search straight-heads depth 8
 
 enum-known-e : tie.Need-enum-known-e
 enum-known-e c = search needs
 
 returns-3 : tie.Need-returns-3
-returns-3 c = search (straight-heads) depth 8
+returns-3 c = search straight-heads depth 8
 
 enum-known-e-2 : tie.Need-enum-known-e-2
 enum-known-e-2 c = search needs
 
 returns-4 : tie.Need-returns-4
-returns-4 c = search (straight-heads) depth 8
-
-read-head-requires-2 : tie.Need-read-head-requires-2
-read-head-requires-2 c κs = search needs
-
-returns-5 : tie.Need-returns-5
-returns-5 c = search needs
+returns-4 c = search straight-heads depth 8
 
 enum-known-e-3 : tie.Need-enum-known-e-3
 enum-known-e-3 c = search needs
 
-returns-6 : tie.Need-returns-6
-returns-6 c = search (straight-heads) depth 8
+returns-5 : tie.Need-returns-5
+returns-5 c = search straight-heads depth 8
 
 pub straight-head-spec : {M : Type 1} → statement M
 straight-head-spec =
@@ -69,8 +60,7 @@ straight-head-spec =
     (tie.spec
     read-byte-requires
     enum-known-b
-    opcode-form-requires
-    enum-known-what
+    often-after-requires
     enum-told
     read-head-requires
     returns
@@ -83,7 +73,5 @@ straight-head-spec =
     returns-3
     enum-known-e-2
     returns-4
-    read-head-requires-2
-    returns-5
     enum-known-e-3
-    returns-6)
+    returns-5)
