@@ -965,7 +965,7 @@ def folded_ceilings(func):
     yield Case('16 operands, one more after them', in_body(fold(*[leaf] * 16) + leaf), accepted(20))
     for depth in (31, 32, 33):
         fine = depth < 33
-        for before, after in ((0, 0), (1, 0), (0, 1), (2, 1)):
+        for before, after in ((0, 0), (1, 0), (0, 1), (2, 1), (0, 2), (0, 15), (3, 12)):
             records = depth + (depth - 1) * (before + after)
             refusal = refused(7, 33 + 31 * before)
             yield Case('%d deep, %d operands before and %d after' % (depth, before, after),
@@ -982,8 +982,20 @@ def folded_ceilings(func):
     yield Case('33 deep, no F0 there', func + deep + b'\x01', refused(4, 33))
     yield Case('33 deep, nothing there', func + deep, refused(2, 33))
 
-    # the 4,096th record and the next
+    # 16 operands each, the first nested: up to hundreds are due at once
     nops = lambda count: b'\x01' * count
+    for depth in (4, 5, 6, 12):
+        records = depth + (depth - 1) * 15
+        heads = hexed('F0 01 10') * (depth - 1)
+        yield Case('%d deep and wide, one more after them' % depth, in_body(chain(depth, 0, 15) + leaf), accepted(records + 3))
+        yield Case('%d deep and wide, one missing' % depth, in_body(chain(depth, 0, 15)[:-3]), refused(4, records))
+        for what, last, number in (('nothing', b'', 2), ('no F0', b'\x01', 4), ('FF', b'\xFF', 4), ('a block folded', hexed('F0 02'), 4),
+                                   ('17 operands', hexed('F0 01 11'), 7)):
+            yield Case('%d deep and wide, the innermost %s' % (depth, what), func + heads + last, refused(number, depth))
+        for what, last, number in (('an operand', b'\xF0', 7), ('none', b'\x01', 4), ('nothing', b'', 2)):
+            yield Case('%d deep and wide, the 4,097th is %s' % (depth, what), func + nops(4096 - depth) + heads + last, refused(number, 4096))
+
+    # the 4,096th record and the next
     due = fold(leaf)[:-3]
     yield Case('4,096 records, the last folded', in_body(nops(4092) + fold(leaf)), accepted(4096))
     yield Case('4,097 records, the last but one an operand', in_body(nops(4093) + fold(leaf)), refused(7, 4096))
