@@ -119,6 +119,7 @@ pub fn read_straight(s: &[u8], p: Place, does: Does) -> Fold
     let mut due: u64 = 1;
     let mut d = does;
     while 0 < due {
+        // so many records have had all their operands
         let ends = u64::trailing_zeros(due);
         left += ends;
         due = due >> ends;
@@ -132,6 +133,7 @@ pub fn read_straight(s: &[u8], p: Place, does: Does) -> Fold
                 at = next.at;
                 rec = next.rec;
                 d = e;
+                // its own operands take its place
                 left -= 1;
                 due = (due << n) - 1;
             }
