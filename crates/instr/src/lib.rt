@@ -321,7 +321,7 @@ pub fn known_folded(s: &[u8], at: usize) -> FoldAt
 
 // Where operands end: they are read and dropped. `expr::pass_plain` is kept for records that are not folded, into whose loop it is taken while it has
 // one caller.
-fn read_past(s: &[u8], at: usize, what: Operands) -> Skip
+pub fn read_past(s: &[u8], at: usize, what: Operands) -> Skip
     ensures { λ r. ⌜ stops (Instructions.plainOf 0 (operandsIs what) (now (s .entry)) at) ≡ skip r ⌝ }
 {
     match expr::read_plain(s, at, 0, what) {

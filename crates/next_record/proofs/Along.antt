@@ -1,13 +1,13 @@
--- A folded record read straight on: what is due is kept in the bits of a number, and the exact readers come to the same.
+-- The loop over operands: what is due is kept in the bits of a number.
 use mathlib.Core.Path.{_≡_, refl, sym, ap, _∙_}
 use Prim.Native.Nat.{ℕ, zero, suc, _+_, _*_, _-_, _/_, _%_, _^_, _≤_, _<_}
 use mathlib.Core.Bool.{Bool, true, false}
 use mathlib.Core.List.{List, [], _∷_}
 use lib.Count.{trailingZeros, trailing-le}
-use lib.Pow.{pow-pos, shr-shr}
+use lib.Pow.{pow-pos, pow-lt, shr-shr, shr-le}
 use mir.Syntax.{w32, w64}
 use mir.Val.{Fits}
-use native.Mathlib.Nat.{pow-suc, mul-assoc, mul-one, div-one, mod-eq-of-lt, le-div-iff-mul-le}
+use native.Mathlib.Nat.{pow-suc, mul-assoc, mul-one, one-mul, div-one, mod-eq-of-lt, le-div-iff-mul-le}
 use native.Mathlib.Omega.{arith}
 use Rattle.definition.specs.Syntax.{Bytes}
 use Rattle.definition.specs.Reader.{byte}
@@ -16,40 +16,27 @@ use Rattle.syntax.specs.declared.ByteAt.{ByteAt}
 use Rattle.syntax.specs.declared.ByteAt.the-variants as B
 use Rattle.syntax.specs.declared.Place.{Place}
 use Rattle.next_record.specs.Places.{recordPast}
-use Rattle.next_record.specs.Folds.{headAt, headWith, onFold, operandsBy, foldedAt, wholeOf, PastAt, NextAt}
+use Rattle.next_record.specs.Folds.{headAt, headWith, onFold, operandsBy, foldedAt, PastAt, NextAt}
 use Rattle.next_record.specs.declared.record.Does.{Does}
 use Rattle.next_record.specs.declared.fold.Fold.{Fold}
 use Rattle.next_record.specs.declared.fold.Fold.the-variants as L
-use Rattle.next_record.specs.declared.fold.HeadAt.{HeadAt}
-use Rattle.next_record.specs.declared.fold.HeadAt.the-variants as H
-use Rattle.next_record.specs.declared.straight.Next.{Next}
-use Rattle.next_record.specs.declared.straight.Next.the-variants as N
+use Rattle.next_record.specs.declared.head.HeadAt.{HeadAt}
+use Rattle.next_record.specs.declared.head.HeadAt.the-variants as H
+use Rattle.next_record.specs.declared.head.Next.{Next}
+use Rattle.next_record.specs.declared.head.Next.the-variants as N
 use Rattle.next_record.proofs.Folding.{foldings, with-operands, PassedBy, folded-passes}
 use Rattle.next_record.proofs.Heads.{head-few}
 
 -- ## One record
-
--- with all its operands
-module _ (f g : Fold) (told : f ≡ g) where
-  pub whole-past : (d : Does) (q : Place) → f ≡ L.Past d q → N.Past d 0 q ≡ wholeOf g
-  whole-past d q e = rw (← told, e)
-
-  pub whole-refused : (n : ℕ) (q : Place) → f ≡ L.Refused n q → N.Refused n q ≡ wholeOf g
-  whole-refused n q e = rw (← told, e)
 
 module _ (left : ℕ) (s : Bytes) (does : Does) (p : Place) (due : ℕ) where
   pub next-refused : (n : ℕ) (q : Place) → L.Refused n q ≡ foldedAt left s does p → NextAt left s does p due (N.Refused n q)
   unfolding NextAt
   next-refused n q e = sym e
 
-  pub next-whole : (x : Next) → 1 ≤ left → Fits w64 due → x ≡ wholeOf (foldedAt left s does p) → NextAt left s does p due x
-  unfolding NextAt operandsBy
-  next-whole x h f e = rw e (go (foldedAt left s does p) refl (folded-passes left s does p))
-    where
-      go : (y : Fold) → foldedAt left s does p ≡ y → PassedBy p y → NextAt left s does p due (wholeOf y)
-      go (L.Past d q) is m =
-          record { same = is; nests = h; few = omega arith; room = let z = mul-one due in omega (arith, f); later = m .1; most = m .0 .most; deep = m .0 .deep }
-      go (L.Refused n q) is m = is
+  pub next-full : 1 ≤ left → NextAt left s does p due N.Full
+  unfolding NextAt
+  next-full h = h
 
 -- what there is room for
 fits-in : (due n : ℕ) → due ≤ 18446744073709551615 / 2 ^ n → due * 2 ^ n < 2 ^ 64
@@ -71,11 +58,18 @@ module _ (left : ℕ) (s : Bytes) (does : Does) (p : Place) (due : ℕ) (q : Byt
         deep = ap (λ (x : Place). x .depth) j;
       }
 
+-- its count was read
+pub few-count : (s : Bytes) (at : ℕ) (does : Does) (r : HeadAt) → r ≡ headWith does (headAt s at) → (m : Does) (n next : ℕ) → r ≡ H.Got m n next → n ≤ 16
+few-count s at does r head m n next g = head-few s at does m n next (sym head ∙ g)
+
+pub one-less : (left : ℕ) → left ≤ 32 → left - 1 ≤ 32
+one-less left h = omega arith
+
 -- no shift is too far
 pub few-bits : (s : Bytes) (at : ℕ) (does : Does) (r : HeadAt) → r ≡ headWith does (headAt s at) → (m : Does) (n next : ℕ) → r ≡ H.Got m n next → n < 64
-few-bits s at does r head m n next g = omega (arith, head-few s at does m n next (sym head ∙ g))
+few-bits s at does r head m n next g = omega (arith, few-count s at does r head m n next g)
 
-pub ruleset nexts = (next-refused, next-whole, next-here, foldings)
+pub ruleset nexts = (next-refused, next-full, next-here, foldings)
 
 -- ## What is due, in bits
 
@@ -97,153 +91,258 @@ none-due s [] left d p h = refl
 none-due s (true ∷ bs) left d p h = absurd (omega arith)
 none-due s (false ∷ bs) left d p h = none-due s bs (suc left) d p (omega arith)
 
--- so many operands of one record, and then what was due before
-abbrev after : ℕ → List Bool → List Bool
-after zero bs = false ∷ bs
-after (suc n) bs = true ∷ after n bs
+-- so many operands, and then what was due before
+abbrev puts : ℕ → List Bool → List Bool
+puts zero bs = bs
+puts (suc n) bs = true ∷ puts n bs
 
-after-value : (n : ℕ) (bs : List Bool) → value (after n bs) + 1 ≡ value (true ∷ bs) * 2 ^ n
-after-value zero bs = let z = mul-one (1 + 2 * value bs) in omega arith
-after-value (suc n) bs =
-    let i = after-value n bs in
-    let z : value (true ∷ bs) * 2 ^ suc n ≡ value (true ∷ bs) * 2 ^ n * 2 = ap (λ k. value (true ∷ bs) * k) (pow-suc 2 n) ∙ sym (mul-assoc (value (true ∷ bs)) (2 ^ n) 2) in
+puts-value : (n : ℕ) (bs : List Bool) → value (puts n bs) + 1 ≡ (value bs + 1) * 2 ^ n
+puts-value zero bs = let z = mul-one (value bs + 1) in omega arith
+puts-value (suc n) bs =
+    let i = puts-value n bs in
+    let z : (value bs + 1) * 2 ^ suc n ≡ (value bs + 1) * 2 ^ n * 2 = ap (λ k. (value bs + 1) * k) (pow-suc 2 n) ∙ sym (mul-assoc (value bs + 1) (2 ^ n) 2) in
     omega arith
 
-along-after : (s : Bytes) (n : ℕ) (bs : List Bool) (left : ℕ) (d : Does) (p : Place)
-    → along s (after n bs) left d p ≡ onFold (operandsBy (foldedAt left s) n d p) (λ e q. along s bs (suc left) e q)
+along-puts : (s : Bytes) (n : ℕ) (bs : List Bool) (left : ℕ) (d : Does) (p : Place)
+    → along s (puts n bs) left d p ≡ onFold (operandsBy (foldedAt left s) n d p) (λ e q. along s bs left e q)
 unfolding operandsBy
-along-after s zero bs left d p = refl
-along-after s (suc n) bs left d p = go (foldedAt left s d p) (λ e q. along-after s n bs left e q)
+along-puts s zero bs left d p = refl
+along-puts s (suc n) bs left d p = go (foldedAt left s d p) (λ e q. along-puts s n bs left e q)
   where
-    go : (x : Fold) → ((e : Does) (q : Place) → along s (after n bs) left e q ≡ onFold (operandsBy (foldedAt left s) n e q) (λ o r. along s bs (suc left) o r))
-        → onFold x (λ e q. along s (after n bs) left e q) ≡ onFold (onFold x (λ e q. operandsBy (foldedAt left s) n e q)) (λ e q. along s bs (suc left) e q)
+    go : (x : Fold) → ((e : Does) (q : Place) → along s (puts n bs) left e q ≡ onFold (operandsBy (foldedAt left s) n e q) (λ o r. along s bs left o r))
+        → onFold x (λ e q. along s (puts n bs) left e q) ≡ onFold (onFold x (λ e q. operandsBy (foldedAt left s) n e q)) (λ e q. along s bs left e q)
     go (L.Past e q) h = h e q
     go (L.Refused k q) h = refl
 
--- `t` records have no more operands: what is due then begins with one
+-- how many records wait for the end of their operands
+abbrev pub levels : List Bool → ℕ
+levels [] = 0
+levels (true ∷ bs) = levels bs
+levels (false ∷ bs) = suc (levels bs)
+
+puts-levels : (n : ℕ) (bs : List Bool) → levels (puts n bs) ≡ levels bs
+puts-levels zero bs = refl
+puts-levels (suc n) bs = puts-levels n bs
+
+-- `t` records have had all their operands: what is due then begins with one
 record Ended (s : Bytes) (bs : List Bool) (t : ℕ) : Type 0 where
   rest : List Bool
   is : value bs / 2 ^ t ≡ value (true ∷ rest)
   same : (left : ℕ) (d : Does) (p : Place) → along s (true ∷ rest) (left + t) d p ≡ along s bs left d p
+  fewer : levels bs ≡ t + levels rest
 
-ended : (s : Bytes) (k : ℕ) (bs : List Bool) → 0 < value bs → value bs < 2 ^ k → Ended s bs (trailingZeros k (value bs)) × (trailingZeros k (value bs) < k)
+-- a number that is odd has none, and twice a number one more
+odd-none : (k v : ℕ) → trailingZeros (suc k) (1 + 2 * v) ≡ 0
 unfolding trailingZeros
+odd-none k v = let z : (1 + 2 * v) % 2 ≡ 1 = omega arith in rw z
+
+twice-more : (k v : ℕ) → trailingZeros (suc k) (2 * v) ≡ suc (trailingZeros k v)
+unfolding trailingZeros
+twice-more k v = let z : 2 * v % 2 ≡ 0 = omega arith in let y : 2 * v / 2 ≡ v = omega arith in rw (z, y)
+
+ended-now : (s : Bytes) (bs : List Bool) → Ended s (true ∷ bs) 0
+ended-now s bs = record { rest = bs; is = div-one (1 + 2 * value bs); same = λ left d p. let y : left + 0 ≡ left = omega arith in rw y; fewer = omega arith }
+
+ended-more : (s : Bytes) (bs : List Bool) (t : ℕ) → Ended s bs t → Ended s (false ∷ bs) (suc t)
+ended-more s bs t e =
+    record {
+      rest = e .rest;
+      is =
+          let y : 2 * value bs / 2 ≡ value bs = omega arith in
+          let z : 1 + t ≡ suc t = omega arith in
+          (rw z at (sym (shr-shr (2 * value bs) 1 t))) ∙ ap (λ v. v / 2 ^ t) y ∙ e .is;
+      same = λ left d p. let y : left + suc t ≡ suc left + t = omega arith in rw y (e .same (suc left) d p);
+      fewer = omega (arith, e .fewer);
+    }
+
+-- the zeros at the low end
+ended : (s : Bytes) (k : ℕ) (bs : List Bool) → 0 < value bs → value bs < 2 ^ k → Ended s bs (trailingZeros k (value bs))
 ended s k [] h l = absurd (omega arith)
 ended s zero (b ∷ bs) h l = absurd (omega arith)
-ended s (suc k) (true ∷ bs) h l =
-    let z : (1 + 2 * value bs) % 2 ≡ 1 = omega arith in
-    rw z (record { rest = bs; is = div-one (1 + 2 * value bs); same = λ left d p. let y : left + 0 ≡ left = omega arith in rw y }, omega arith)
+ended s (suc k) (true ∷ bs) h l = rw (odd-none k (value bs)) (ended-now s bs)
 ended s (suc k) (false ∷ bs) h l =
-    let z : 2 * value bs % 2 ≡ 0 = omega arith in
-    let y : 2 * value bs / 2 ≡ value bs = omega arith in
     let g : 2 ^ suc k ≡ 2 ^ k * 2 = pow-suc 2 k in
-    rw (z, y) (go (trailingZeros k (value bs)) (ended s k bs (omega arith) (omega arith)))
-  where
-    go : (t : ℕ) → Ended s bs t × (t < k) → Ended s (false ∷ bs) (suc t) × (suc t < suc k)
-    go t (e, f) = (
-      record {
-        rest = e .rest;
-        is =
-            let y : 2 * value bs / 2 ≡ value bs = omega arith in
-            let z : 1 + t ≡ suc t = omega arith in
-            (rw z at (sym (shr-shr (2 * value bs) 1 t))) ∙ ap (λ v. v / 2 ^ t) y ∙ e .is;
-        same = λ left d p. let y : left + suc t ≡ suc left + t = omega arith in rw y (e .same (suc left) d p);
-      },
-      omega arith,
-    )
+    rw (twice-more k (value bs)) (ended-more s bs (trailingZeros k (value bs)) (ended s k bs (omega arith) (omega arith)))
+
+-- are fewer than all
+ended-few : (k : ℕ) (bs : List Bool) → 0 < value bs → value bs < 2 ^ k → trailingZeros k (value bs) < k
+ended-few k [] h l = absurd (omega arith)
+ended-few zero (b ∷ bs) h l = absurd (omega arith)
+ended-few (suc k) (true ∷ bs) h l = rw (odd-none k (value bs)) (omega arith)
+ended-few (suc k) (false ∷ bs) h l =
+    let g : 2 ^ suc k ≡ 2 ^ k * 2 = pow-suc 2 k in
+    let i = ended-few k bs (omega arith) (omega arith) in
+    rw (twice-more k (value bs)) (omega (arith, i))
 
 -- ## The loop
 
--- what is due, and that it comes to what the record at `p` comes to
-pub record Straight·Inv (s : Bytes) (does : Does) (p : Place) (at rec left due : ℕ) (d : Does) : Type 0 where
+-- what is due, and that it comes to what the operands from `p` on come to
+pub record Due (nesting : ℕ) (s : Bytes) (p : Place) (n : ℕ) (does : Does) (at rec left due : ℕ) (d : Does) : Type 0 where
   pub bits : List Bool
   pub is : due ≡ value bits
   pub room : due < 2 ^ 64
-  pub same : along s bits left d (record { at = at; rec = rec; depth = p .depth }) ≡ foldedAt 32 s does p
+  pub same : along s bits left d (record { at = at; rec = rec; depth = p .depth }) ≡ operandsBy (foldedAt nesting s) n does p
   pub low : rec ≤ 4096
-  pub few : left ≤ 64 * rec + 32
+  pub level : left + levels bits ≡ nesting
+  pub shallow : nesting ≤ 32
 
 onward-is : (x : Fold) → onFold x (λ d q. L.Past d q) ≡ x
 onward-is (L.Past d q) = refl
 onward-is (L.Refused n q) = refl
 
-pub straight-begin : (s : Bytes) (does : Does) (p : Place) → p .rec ≤ 4096 → Straight·Inv s does p (p .at) (p .rec) 32 1 does
-straight-begin s does p h = record { bits = true ∷ []; is = refl; room = omega arith; same = onward-is (foldedAt 32 s does p); low = h; few = omega arith }
+-- all of them
+one-shifted : (n : ℕ) → n ≤ 16 → (1 * 2 ^ n) % 2 ^ 64 ≡ value (puts n []) + 1
+one-shifted n h =
+    let z : 1 * 2 ^ n ≡ value (puts n []) + 1 = sym (puts-value n []) in
+    mod-eq-of-lt (rw z (let y = pow-lt (lt-64 h) in let w = one-mul (2 ^ n) in omega (arith, z))) ∙ z
+  where
+    lt-64 : n ≤ 16 → n < 64
+    lt-64 g = omega arith
 
-module _ {s : Bytes} {does : Does} {p : Place} {at rec left due : ℕ} {d : Does} (v : Straight·Inv s does p at rec left due d) where
+pub first-due : (n : ℕ) → n ≤ 16 → 1 ≤ (1 * 2 ^ n) % 2 ^ 64
+first-due n h = omega (arith, one-shifted n h)
+
+pub due-begin : (nesting : ℕ) (s : Bytes) (p : Place) (n : ℕ) (does : Does) → p .rec ≤ 4096 → n ≤ 16 → nesting ≤ 32
+    → Due nesting s p n does (p .at) (p .rec) nesting ((1 * 2 ^ n) % 2 ^ 64 - 1) does
+due-begin nesting s p n does l h g =
+    record {
+      bits = puts n [];
+      is = omega (arith, one-shifted n h);
+      room = omega arith;
+      same = along-puts s n [] nesting does p ∙ onward-is (operandsBy (foldedAt nesting s) n does p);
+      low = l;
+      level = omega (arith, puts-levels n []);
+      shallow = g;
+    }
+
+module _ {nesting : ℕ} {s : Bytes} {p : Place} {n : ℕ} {does : Does} {at rec left due : ℕ} {d : Does} (v : Due nesting s p n does at rec left due d) where
   abbrev Here : Place
   Here = record { at = at; rec = rec; depth = p .depth }
 
   abbrev zeros : ℕ
   zeros = trailingZeros 64 due
 
-  pub straight-low : rec ≤ 4096
-  straight-low = v .low
+  pub due-low : rec ≤ 4096
+  due-low = v .low
 
-  pub straight-done : (o : Place) → due ≤ 0 → o ≡ Here → L.Past d o ≡ foldedAt 32 s does p
-  straight-done o h i = let z : value (v .bits) ≡ 0 = omega (arith, v .is) in rw i (sym (none-due s (v .bits) left d Here z) ∙ v .same)
+  pub due-none : (o : Place) → due ≤ 0 → o ≡ Here → L.Past d o ≡ operandsBy (foldedAt nesting s) n does p
+  due-none o h i = let z : value (v .bits) ≡ 0 = omega (arith, v .is) in rw i (sym (none-due s (v .bits) left d Here z) ∙ v .same)
 
   pub left-fits : Fits w32 (left + zeros)
-  left-fits = let z = trailing-le 64 due in omega (arith, v .low, v .few)
+  left-fits = let z = trailing-le 64 due in omega (arith, v .level, v .shallow)
 
   pub zeros-fit : Fits w64 zeros
   zeros-fit = let z = trailing-le 64 due in omega arith
 
   module _ (h : 0 < due) where
-    begins : Ended s (v .bits) zeros × (zeros < 64)
+    begins : Ended s (v .bits) zeros
     begins = let e = v .is in rw (← e) at (ended s 64 (v .bits) (omega (arith, e)) (omega (arith, e, v .room)))
 
     pub zeros-few : zeros < 64
-    zeros-few = begins .1
+    zeros-few = let e = v .is in rw (← e) at (ended-few 64 (v .bits) (omega (arith, e)) (omega (arith, e, v .room)))
 
     -- what is due begins with an operand
     record Begun : Type 0 where
       rest : List Bool
       is : due / 2 ^ zeros ≡ value (true ∷ rest)
-      same : onFold (foldedAt (left + zeros) s d Here) (λ e q. along s rest (left + zeros) e q) ≡ foldedAt 32 s does p
+      same : onFold (foldedAt (left + zeros) s d Here) (λ e q. along s rest (left + zeros) e q) ≡ operandsBy (foldedAt nesting s) n does p
+      level : left + zeros + levels rest ≡ nesting
 
     begun : Begun
-    begun = let e = begins .0 in record { rest = e .rest; is = ap (λ x. x / 2 ^ zeros) (v .is) ∙ e .is; same = e .same left d Here ∙ v .same }
+    begun =
+        let e = begins in
+        record {
+          rest = e .rest;
+          is = ap (λ x. x / 2 ^ zeros) (v .is) ∙ e .is;
+          same = e .same left d Here ∙ v .same;
+          level = omega (arith, v .level, e .fewer);
+        }
+
+    left-nested : left + zeros ≤ nesting
+    left-nested = omega (arith, begun .level)
+
+    pub left-falls : (t : ℕ) → 2 * nesting + 1 ≡ t → 2 * (left + zeros) < t
+    left-falls t e = omega (arith, left-nested)
+
+    pub left-shallow : left + zeros ≤ 32
+    left-shallow = omega (arith, begun .level, v .shallow)
+
+    pub some-due : 1 ≤ due / 2 ^ zeros
+    some-due = omega (arith, begun .is)
+
+    stops-there : (k : ℕ) (q : Place) → foldedAt (left + zeros) s d Here ≡ L.Refused k q → L.Refused k q ≡ operandsBy (foldedAt nesting s) n does p
+    stops-there k q g = sym (ap (λ y. onFold y (λ o r. along s (begun .rest) (left + zeros) o r)) g) ∙ begun .same
+
+    -- the operands of a record have taken its place
+    goes-on : (e : Does) (m : ℕ) (q : Place) (x : ℕ) → foldedAt (left + zeros) s d Here ≡ operandsBy (foldedAt (left + zeros - 1) s) m e q → 1 ≤ left + zeros → q .rec ≤ 4096
+        → q .depth ≡ p .depth → x < 2 ^ 64 → x ≡ value (puts m (false ∷ begun .rest)) → Due nesting s p n does (q .at) (q .rec) (left + zeros - 1) x e
+    goes-on e m q x f w l g r i =
+        record {
+          bits = puts m (false ∷ begun .rest);
+          is = i;
+          room = r;
+          same =
+              let y : suc (left + zeros - 1) ≡ left + zeros = omega arith in
+              let o : _≡_ {A = Place} (record { at = q .at; rec = q .rec; depth = p .depth }) q = rw (← g) refl in
+              let u : along s (puts m (false ∷ begun .rest)) (left + zeros - 1) e q ≡ onFold (operandsBy (foldedAt (left + zeros - 1) s) m e q) (λ o r. along s (begun .rest) (suc (left + zeros - 1)) o r) =
+              along-puts s m (false ∷ begun .rest) (left + zeros - 1) e q in
+              rw o (u ∙ rw y (ap (λ x. onFold x (λ o r. along s (begun .rest) (left + zeros) o r)) (sym f) ∙ begun .same));
+          low = l;
+          level = omega (arith, begun .level, puts-levels m (false ∷ begun .rest));
+          shallow = v .shallow;
+        }
 
     module _ (x : Next) (told : NextAt (left + zeros) s d Here (due / 2 ^ zeros) x) where
-      pub straight-refused : (n : ℕ) (q : Place) → x ≡ N.Refused n q → L.Refused n q ≡ foldedAt 32 s does p
+      pub due-refused : (k : ℕ) (q : Place) → x ≡ N.Refused k q → L.Refused k q ≡ operandsBy (foldedAt nesting s) n does p
       unfolding NextAt
-      straight-refused n q e =
-          let g : foldedAt (left + zeros) s d Here ≡ L.Refused n q = rw e at told in
-          sym (ap (λ y. onFold y (λ o r. along s (begun .rest) (left + zeros) o r)) g) ∙ begun .same
+      due-refused k q e = let g : foldedAt (left + zeros) s d Here ≡ L.Refused k q = rw e at told in stops-there k q g
 
-      module _ (e : Does) (n : ℕ) (q : Place) (g : x ≡ N.Past e n q) where
-        passed : PastAt (left + zeros) s d Here (due / 2 ^ zeros) e n q
+      module _ (e : Does) (m : ℕ) (q : Place) (g : x ≡ N.Past e m q) where
+        passed : PastAt (left + zeros) s d Here (due / 2 ^ zeros) e m q
         unfolding NextAt
         passed = rw g at told
 
-        pub few-operands : n < 64
+        pub few-operands : m < 64
         few-operands = omega (arith, passed .few)
 
         pub left-some : 1 ≤ left + zeros
         left-some = passed .nests
 
-        -- its operands have taken its place
-        taken : (due / 2 ^ zeros * 2 ^ n) % 2 ^ 64 ≡ value (after n (begun .rest)) + 1
-        taken = mod-eq-of-lt (passed .room) ∙ ap (λ k. k * 2 ^ n) (begun .is) ∙ sym (after-value n (begun .rest))
+        taken : (due / 2 ^ zeros * 2 ^ m) % 2 ^ 64 ≡ value (puts m (false ∷ begun .rest)) + 1
+        taken = mod-eq-of-lt (passed .room) ∙ ap (λ k. k * 2 ^ m) (begun .is ∙ one-more (value (begun .rest))) ∙ sym (puts-value m (false ∷ begun .rest))
+          where
+            one-more : (k : ℕ) → 1 + 2 * k ≡ 2 * k + 1
+            one-more k = omega arith
 
-        pub one-due : 1 ≤ (due / 2 ^ zeros * 2 ^ n) % 2 ^ 64
+        pub one-due : 1 ≤ (due / 2 ^ zeros * 2 ^ m) % 2 ^ 64
         one-due = omega (arith, taken)
 
-        pub straight-less : 4096 - q .rec < 4096 - rec
-        straight-less = omega (arith, passed .later, passed .most)
+        pub due-less : 4096 - q .rec < 4096 - rec
+        due-less = omega (arith, passed .later, passed .most)
 
-        pub straight-again : Straight·Inv s does p (q .at) (q .rec) (left + zeros - 1) ((due / 2 ^ zeros * 2 ^ n) % 2 ^ 64 - 1) e
-        straight-again =
-            record {
-              bits = after n (begun .rest);
-              is = omega (arith, taken);
-              room = omega arith;
-              same =
-                  let y : suc (left + zeros - 1) ≡ left + zeros = omega (arith, passed .nests) in
-                  let o : _≡_ {A = Place} (record { at = q .at; rec = q .rec; depth = p .depth }) q = rw (← passed .deep) refl in
-                  rw o
-                  (along-after s n (begun .rest) (left + zeros - 1) e q ∙ rw y (ap (λ x. onFold x (λ o r. along s (begun .rest) (left + zeros) o r)) (sym (passed .same)) ∙ begun .same));
-              low = passed .most;
-              few = let z = trailing-le 64 due in omega (arith, v .few, passed .later);
-            }
+        pub due-again : Due nesting s p n does (q .at) (q .rec) (left + zeros - 1) ((due / 2 ^ zeros * 2 ^ m) % 2 ^ 64 - 1) e
+        due-again = goes-on e m q _ (passed .same) (passed .nests) (passed .most) (passed .deep) (omega arith) (omega (arith, taken))
+
+      -- there is no room: it is read with all its operands
+      module _ (g : x ≡ N.Full) where
+        pub full-nests : 1 ≤ left + zeros
+        unfolding NextAt
+        full-nests = rw g at told
+
+        module _ (f : Fold) (is : f ≡ foldedAt (left + zeros) s d Here) where
+          pub full-refused : (k : ℕ) (q : Place) → f ≡ L.Refused k q → L.Refused k q ≡ operandsBy (foldedAt nesting s) n does p
+          full-refused k q e = stops-there k q (sym is ∙ e)
+
+          module _ (e : Does) (q : Place) (i : f ≡ L.Past e q) where
+            after-it : PassedBy Here (L.Past e q)
+            after-it = rw (sym is ∙ i) at (folded-passes (left + zeros) s d Here)
+
+            pub full-less : 4096 - q .rec < 4096 - rec
+            full-less = omega (arith, after-it .1, after-it .0 .most)
+
+            pub full-again : Due nesting s p n does (q .at) (q .rec) (left + zeros - 1) (due / 2 ^ zeros - 1) e
+            unfolding operandsBy
+            full-again = goes-on e 0 q _ (sym is ∙ i) full-nests (after-it .0 .most) (after-it .0 .deep) (omega (arith, v .room, smaller)) (omega (arith, begun .is))
+              where
+                smaller : due / 2 ^ zeros ≤ due
+                smaller = shr-le due zeros

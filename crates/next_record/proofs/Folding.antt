@@ -37,8 +37,8 @@ use Rattle.next_record.specs.Folds.{doesOf, noneDo, bothDo, formDoes, by
 use Rattle.next_record.specs.declared.record.Does.{Does}
 use Rattle.next_record.specs.declared.fold.Fold.{Fold}
 use Rattle.next_record.specs.declared.fold.Fold.the-variants as L
-use Rattle.next_record.specs.declared.fold.HeadAt.{HeadAt}
-use Rattle.next_record.specs.declared.fold.HeadAt.the-variants as H
+use Rattle.next_record.specs.declared.head.HeadAt.{HeadAt}
+use Rattle.next_record.specs.declared.head.HeadAt.the-variants as H
 use Rattle.next_record.proofs.Naming.{read-names}
 
 -- ## What instructions do
@@ -293,36 +293,3 @@ unfolding foldedAt
 folded-passes zero s does p = f0-passes s p (λ a. L.Refused 7 p) (λ a l. tt)
 folded-passes (suc left) s does p =
     f0-passes s p _ (λ a l. head-passes s p (foldedAt left s) (λ d q h. passed-moved q (foldedAt left s d q) (folded-passes left s d q)) does (headAt s a) l)
-
--- ## The loop over operands
-
-pub record Operands·Inv (left : ℕ) (s : Bytes) (p : Place) (n : ℕ) (does : Does) (q : Place) (due : ℕ) (d : Does) : Type 0 where
-  pub same : operandsBy (foldedAt left s) due d q ≡ operandsBy (foldedAt left s) n does p
-  pub low : q .rec ≤ 4096
-
-one-more : (f : Does → Place → Fold) (due : ℕ) (d : Does) (q : Place) → 0 < due → operandsBy f due d q ≡ onFold (f d q) (λ e o. operandsBy f (due - 1) e o)
-unfolding operandsBy
-one-more f zero d q h = absurd (omega arith)
-one-more f (suc m) d q h = let z : suc m - 1 ≡ m = omega arith in rw z
-
-pub operands-begin : (left : ℕ) (s : Bytes) (p : Place) (n : ℕ) (does : Does) → p .rec ≤ 4096 → Operands·Inv left s p n does p n does
-operands-begin left s p n does h = record { same = refl; low = h }
-
-module _ {left : ℕ} {s : Bytes} {p : Place} {n : ℕ} {does : Does} {q : Place} {due : ℕ} {d : Does} (v : Operands·Inv left s p n does q due d) where
-  pub operands-low : q .rec ≤ 4096
-  operands-low = v .low
-
-  pub operands-done : due ≤ 0 → L.Past d q ≡ operandsBy (foldedAt left s) n does p
-  unfolding operandsBy
-  operands-done h = let z : due ≡ 0 = omega arith in let e = v .same in rw z at e
-
-  turn : (x : Fold) → 0 < due → x ≡ foldedAt left s d q → operandsBy (foldedAt left s) n does p ≡ onFold x (λ e o. operandsBy (foldedAt left s) (due - 1) e o)
-  turn x h e = sym (v .same) ∙ one-more (foldedAt left s) due d q h ∙ ap (λ y. onFold y (λ e o. operandsBy (foldedAt left s) (due - 1) e o)) (sym e)
-
-  pub operands-again : (x : Fold) (e : Does) (o : Place) → 0 < due → x ≡ foldedAt left s d q → x ≡ L.Past e o → Operands·Inv left s p n does o (due - 1) e
-  operands-again x e o h told is =
-      let m : MovedBy q (L.Past e o) = rw (sym told ∙ is) at (passed-moved q (foldedAt left s d q) (folded-passes left s d q)) in
-      record { same = sym (turn x h told ∙ rw is); low = m .most }
-
-  pub operands-refused : (x : Fold) (e : ℕ) (o : Place) → 0 < due → x ≡ foldedAt left s d q → x ≡ L.Refused e o → L.Refused e o ≡ operandsBy (foldedAt left s) n does p
-  operands-refused x e o h told is = sym (turn x h told ∙ rw is)

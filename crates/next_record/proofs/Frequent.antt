@@ -36,12 +36,14 @@ told-nothing b = tt
 abbrev isNothing : Often → Bool
 isNothing O.Nothing = true
 isNothing O.Index = false
+isNothing O.Access = false
 isNothing O.Number = false
 isNothing O.Rare = false
 
 is-nothing : (r : Often) → isNothing r ≡ true → r ≡ O.Nothing
 is-nothing O.Nothing e = refl
 is-nothing O.Index e = absurd (false≢true e)
+is-nothing O.Access e = absurd (false≢true e)
 is-nothing O.Number e = absurd (false≢true e)
 is-nothing O.Rare e = absurd (false≢true e)
 
@@ -64,15 +66,16 @@ pub record Met (b : ℕ) (s : Bytes) (at : ℕ) (x : Step (Unit {0})) : Type 0 w
   pub calm : (n : ℕ) → false ≡ sortNames (operandsIs what) n
 
 abbrev pub Frequent : List ℕ
-Frequent = 0 ∷ 1 ∷ 2 ∷ []
+Frequent = 0 ∷ 1 ∷ 2 ∷ 3 ∷ []
 
 not-rare : (r : Often) → O.Rare ≡ r → OneOf Frequent (tagOf OftenOf.the-type r) → ⊥
-not-rare r e h = miss Frequent 3 tt (rw (← e) at h)
+not-rare r e h = miss Frequent 4 tt (rw (← e) at h)
 
 is-sort : (b : ℕ) (r : Often) → OftenIs b r → OneOf Frequent (tagOf OftenOf.the-type r) → sort b ≡ r
 unfolding OftenIs
 is-sort b O.Nothing e h = e
 is-sort b O.Index e h = e
+is-sort b O.Access e h = e
 is-sort b O.Number e h = e
 is-sort b O.Rare e h = absurd (not-rare O.Rare refl h)
 
@@ -95,7 +98,7 @@ met-often b r e h s at x p = go (formOf b) refl (is-sort b r e h)
     go (some (operands Instructions.funcidx)) f i = by W.FuncIdx f (func-past 0 s at x (rw (← i) at p)) (λ n. refl)
     go (some (operands Instructions.globalidx)) f i = by W.GlobalIdx f (global-past 0 s at x (rw (← i) at p)) (λ n. refl)
     go (some (operands Instructions.memidx)) f i = absurd (not-rare r i h)
-    go (some (operands Instructions.memarg)) f i = absurd (not-rare r i h)
+    go (some (operands Instructions.memarg)) f i = by W.MemArg f (rw (← i) at p) (λ n. refl)
     go (some (operands Instructions.i32)) f i = by W.I32 f (i32-past 0 s at x (rw (← i) at p)) (λ n. refl)
     go (some (operands Instructions.i64)) f i = absurd (not-rare r i h)
     go (some (operands Instructions.f32)) f i = absurd (not-rare r i h)

@@ -28,8 +28,8 @@ use Rattle.instr.proofs.Folds.{operator-none, operator-plain, fold-counts, fold
 use Rattle.next_record.specs.Often.{OftenIs, oftenStops}
 use Rattle.next_record.specs.Folds.{headOf, headAt, headWith}
 use Rattle.next_record.specs.declared.record.Does.{Does}
-use Rattle.next_record.specs.declared.fold.HeadAt.{HeadAt}
-use Rattle.next_record.specs.declared.fold.HeadAt.the-variants as H
+use Rattle.next_record.specs.declared.head.HeadAt.{HeadAt}
+use Rattle.next_record.specs.declared.head.HeadAt.the-variants as H
 use Rattle.next_record.specs.declared.often.Often.{Often}
 use Rattle.next_record.proofs.often.Often as OftenOf
 use Rattle.next_record.proofs.Frequent.{Met, Frequent, met-often}
@@ -62,7 +62,7 @@ module _ (s : Bytes) (at : ℕ) (does : Does) (x : HeadAt) (q : ByteAt) (told : 
       with-count n next i j =
           head-got s at does x v counted-at n next does i (does-plain s at does q told b a d (FM.Operands (met .what)) (met .says) (met .what) false refl (met .calm (getD s a 0)) refl) j
 
-pub ruleset straight-heads = (no-operator, no-operands, no-count, with-count, refl)
+pub ruleset quick-heads = (no-operator, no-operands, no-count, with-count, refl)
 
 -- it has at most 16 operands: so its count was read
 up-to-few : (s : Bytes) (at n next : ℕ) → upTo 7 16 s at ≡ got n next → n ≤ 16

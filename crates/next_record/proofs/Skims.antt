@@ -36,7 +36,7 @@ use Rattle.syntax.specs.declared.Form.the-variants as FM
 use Rattle.next_record.specs.Uses.{mayUse, sortNames}
 use Rattle.next_record.specs.Places.{recordPast, placeAfter, movedBy, bodyRecordAt}
 use Rattle.next_record.specs.Answers.{Kept, an-instr, some-folded, an-end, keptOf, keptAt, keptInstr, stay, name-data, open-one, opensIn, elsesIn, endsIn, plainInside, insideAnswer, onPast, refusedHere}
-use Rattle.next_record.specs.Folds.{noneDo, foldedAt, keptFold, turnAt}
+use Rattle.next_record.specs.Folds.{noneDo, onFold, operandsBy, foldedAt, keptFold, turnAt}
 use Rattle.next_record.specs.declared.record.Does.{Does}
 use Rattle.next_record.specs.declared.fold.Fold.{Fold}
 use Rattle.next_record.specs.declared.fold.Fold.the-variants as L
@@ -188,13 +188,22 @@ pub ruleset forms-passed = (form-none, form-opening, form-elsing, form-ending, f
 -- ## A folded record
 
 module _ (p : Place) (s : Bytes) where
-  module _ (f : Fold) (told : f ≡ foldedAt 32 s noneDo p) where
+  -- as a list of one
+  module _ (f : Fold) (told : f ≡ operandsBy (foldedAt 32 s) 1 noneDo p) where
+    list-of-one : f ≡ foldedAt 32 s noneDo p
+    unfolding operandsBy
+    list-of-one = told ∙ go (foldedAt 32 s noneDo p)
+      where
+        go : (x : Fold) → onFold x (λ d q. L.Past d q) ≡ x
+        go (L.Past d q) = refl
+        go (L.Refused n q) = refl
+
     pub folded-past : (d : Does) (q : Place) → f ≡ L.Past d q → keptFold (foldedAt 32 s noneDo p) ≡ (ok (some-folded (record { uses = d .uses; names = d .names })), q)
-    folded-past d q g = rw (← told, g)
+    folded-past d q g = rw (← list-of-one, g)
 
     pub folded-refused : (x : InsideAt) (n : ℕ) (q : Place) → f ≡ L.Refused n q → x ≡ refusedHere q n → keptFold (foldedAt 32 s noneDo p) ≡ insideAnswer (x .what) (x .place)
     unfolding refusedHere
-    folded-refused x n q g a = rw (← told, g, a)
+    folded-refused x n q g a = rw (← list-of-one, g, a)
 
 pub ruleset folded-ways = (folded-past, folded-refused, refl)
 

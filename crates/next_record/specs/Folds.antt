@@ -17,10 +17,10 @@ use Rattle.next_record.specs.Answers.{Kept, some-folded, keptAt}
 use Rattle.next_record.specs.declared.record.Does.{Does}
 use Rattle.next_record.specs.declared.fold.Fold.{Fold}
 use Rattle.next_record.specs.declared.fold.Fold.the-variants as L
-use Rattle.next_record.specs.declared.fold.HeadAt.{HeadAt}
-use Rattle.next_record.specs.declared.fold.HeadAt.the-variants as H
-use Rattle.next_record.specs.declared.straight.Next.{Next}
-use Rattle.next_record.specs.declared.straight.Next.the-variants as N
+use Rattle.next_record.specs.declared.head.HeadAt.{HeadAt}
+use Rattle.next_record.specs.declared.head.HeadAt.the-variants as H
+use Rattle.next_record.specs.declared.head.Next.{Next}
+use Rattle.next_record.specs.declared.head.Next.the-variants as N
 
 -- ## What instructions do
 
@@ -101,11 +101,6 @@ foldedAt (suc left) s does p =
 
 -- ## One record of it
 
--- a record with all its operands: none of them is due after it
-abbrev pub wholeOf : Fold → Next
-wholeOf (L.Past d q) = N.Past d 0 q
-wholeOf (L.Refused n q) = N.Refused n q
-
 -- one that was passed: `n` of its operands are due from `q` on, nested one deeper, and fit into 64 bits together with what was due
 pub record PastAt (left : ℕ) (s : Bytes) (does : Does) (p : Place) (due : ℕ) (d : Does) (n : ℕ) (q : Place) : Type 0 where
   pub same : foldedAt left s does p ≡ operandsBy (foldedAt (left - 1) s) n d q
@@ -118,6 +113,7 @@ pub record PastAt (left : ℕ) (s : Bytes) (does : Does) (p : Place) (due : ℕ)
 
 unfoldable pub NextAt : ℕ → Bytes → Does → Place → ℕ → Next → Type 0
 NextAt left s does p due (N.Past d n q) = PastAt left s does p due d n q
+NextAt left s does p due N.Full = 1 ≤ left
 NextAt left s does p due (N.Refused n q) = foldedAt left s does p ≡ L.Refused n q
 
 -- ## A turn of the pass

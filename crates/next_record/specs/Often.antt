@@ -6,7 +6,7 @@ use Rattle.definition.specs.Syntax.{Bytes}
 use Rattle.definition.specs.Reader.{Step, got, fault}
 use Rattle.definition.specs.Token.{u32, present}
 use Rattle.definition.specs.Instructions as Instructions
-use Rattle.definition.specs.Instructions.{Form, Operands, opening, elsing, ending, calling, operands, formOf}
+use Rattle.definition.specs.Instructions.{Form, Operands, opening, elsing, ending, calling, operands, formOf, plainOf}
 use Rattle.laws.specs.Steps.{stops}
 use Rattle.next_record.specs.declared.often.Often.{Often}
 use Rattle.next_record.specs.declared.often.Often.the-variants as O
@@ -19,7 +19,7 @@ sortOf Instructions.localidx = O.Index
 sortOf Instructions.funcidx = O.Index
 sortOf Instructions.globalidx = O.Index
 sortOf Instructions.memidx = O.Rare
-sortOf Instructions.memarg = O.Rare
+sortOf Instructions.memarg = O.Access
 sortOf Instructions.i32 = O.Number
 sortOf Instructions.i64 = O.Rare
 sortOf Instructions.f32 = O.Rare
@@ -42,6 +42,7 @@ sort b = formSort (formOf b)
 unfoldable pub OftenIs : ℕ → Often → Type 0
 OftenIs b O.Nothing = sort b ≡ O.Nothing
 OftenIs b O.Index = sort b ≡ O.Index
+OftenIs b O.Access = sort b ≡ O.Access
 OftenIs b O.Number = sort b ≡ O.Number
 OftenIs b O.Rare = Unit {0}
 
@@ -49,5 +50,6 @@ OftenIs b O.Rare = Unit {0}
 abbrev pub oftenStops : Often → Bytes → ℕ → Step (Unit {0})
 oftenStops O.Nothing s at = got tt at
 oftenStops O.Index s at = stops (present s at)
+oftenStops O.Access s at = stops (plainOf 0 Instructions.memarg s at)
 oftenStops O.Number s at = stops (u32 s at)
 oftenStops O.Rare s at = fault 0

@@ -1,14 +1,15 @@
-// Folded records in the reading pass: one is read with all its operands, each of which is a folded record again, nested one deeper.
+// Folded records in the reading pass: a folded record and its operands, each of which is a folded record again, nested one deeper.
+use crate::head::HeadAt;
+use crate::head::Next;
+use crate::head::read_head;
+use crate::head::read_next;
 use crate::record::Does;
 use crate::record::after_record;
-use crate::record::names_data;
 use syntax::ByteAt;
-use syntax::Form;
 use syntax::Place;
-use syntax::U32;
 ghost use mathlib.Core.Path.{_≡_};
 ghost use Prim.Native.Nat.{_≤_};
-ghost use Rattle.next_record.specs.Folds.{bothDo, doesAt, headAt, headWith, operandsBy, foldedAt};
+ghost use Rattle.next_record.specs.Folds.{operandsBy, foldedAt};
 
 pub enum Fold {
     Past(Does, Place),
@@ -16,59 +17,9 @@ pub enum Fold {
     Refused(u8, Place),
 }
 
-// What stands after F0: what the operator does together with what came before it, the count of operands, and where they begin.
-pub enum HeadAt {
-    Got(Does, u32, usize),
-    Fault(u8),
-}
-
-// What the operator at a place does together with what came before it, if it can be read: call_indirect may use a type.
-fn operator_does(s: &[u8], at: usize, does: Does) -> Does
-    ensures { λ r. ⌜ r ≡ bothDo does (doesAt (now (s .entry)) at) ⌝ }
-{
-    match token::read_byte(s, at) {
-        ByteAt::Got(b, a) => match instr::opcode_form(b) {
-            Form::Calling => {
-                return Does {
-                    uses: true,
-                    names: does.names,
-                };
-            }
-            Form::Operands(what) => {
-                if names_data(s, a, what) {
-                    return Does {
-                        uses: does.uses,
-                        names: true,
-                    };
-                }
-                return does;
-            }
-            _ => {
-                return does;
-            }
-        },
-        ByteAt::Fault(_) => {
-            return does;
-        }
-    }
-}
-
-pub fn read_head(s: &[u8], at: usize, does: Does) -> HeadAt
-    ensures { λ r. ⌜ r ≡ headWith does (headAt (now (s .entry)) at) ⌝ }
-{
-    match instr::pass_fold(s, at) {
-        U32::Got(n, next) => {
-            return HeadAt::Got(operator_does(s, at, does), n, next);
-        }
-        U32::Fault(e) => {
-            return HeadAt::Fault(e);
-        }
-    }
-}
-
 // A folded record at `p`, with all its operands: so many may be nested, itself included. `does` is what came before it does.
-pub fn read_folded(s: &[u8], p: Place, left: u32, does: Does) -> Fold
-    requires { ⌜ p .rec ≤ 4096 ⌝ }
+fn read_folded(s: &[u8], p: Place, left: u32, does: Does) -> Fold
+    requires { ⌜ (p .rec ≤ 4096) × (left ≤ 32) ⌝ }
     ensures { λ r. ⌜ r ≡ foldedAt left (now (s .entry)) does p ⌝ }
 {
     match token::read_byte(s, p.at) {
@@ -98,30 +49,58 @@ pub fn read_folded(s: &[u8], p: Place, left: u32, does: Does) -> Fold
     }
 }
 
-// So many operands from `p` on, each a folded record again.
-fn read_operands(s: &[u8], p: Place, n: u32, left: u32, does: Does) -> Fold
-    requires { ⌜ p .rec ≤ 4096 ⌝ }
-    ensures { λ r. ⌜ r ≡ operandsBy (foldedAt left (now (s .entry))) n does p ⌝ }
+// So many operands from `p` on, each a folded record again; a folded record that is no operand is a list of one. Their own operands are read
+// straight on with them: what is due is kept in the bits of one number, from the lowest on, where a one is an operand and a zero the end of the
+// operands of a record, after which one more may be nested.
+pub fn read_operands(s: &[u8], p: Place, n: u32, nesting: u32, does: Does) -> Fold
+    requires { ⌜ (p .rec ≤ 4096) × (n ≤ 16) × (nesting ≤ 32) ⌝ }
+    ensures { λ r. ⌜ r ≡ operandsBy (foldedAt nesting (now (s .entry))) n does p ⌝ }
 {
-    let mut q = p;
-    let mut due = n;
+    let mut at = p.at;
+    let mut rec = p.rec;
+    let mut left = nesting;
+    let mut due: u64 = (1 << n) - 1;
     let mut d = does;
     while 0 < due {
-        match read_folded(s, q, left, d) {
-            Fold::Past(e, next) => {
+        // so many records have had all their operands
+        let ends = u64::trailing_zeros(due);
+        left += ends;
+        due = due >> ends;
+        let here = Place {
+            at,
+            rec,
+            depth: p.depth,
+        };
+        match read_next(s, here, left, due, d) {
+            Next::Past(e, m, next) => {
+                // its own operands take its place
+                at = next.at;
+                rec = next.rec;
                 d = e;
-                // by its fields: a copy of the whole waits for all three to be stored
-                q = Place {
-                    at: next.at,
-                    rec: next.rec,
-                    depth: next.depth,
-                };
+                left -= 1;
+                due = (due << m) - 1;
             }
-            Fold::Refused(e, r) => {
-                return Fold::Refused(e, r);
+            Next::Full => match read_folded(s, here, left, d) {
+                Fold::Past(e, next) => {
+                    at = next.at;
+                    rec = next.rec;
+                    d = e;
+                    left -= 1;
+                    due -= 1;
+                }
+                Fold::Refused(e, q) => {
+                    return Fold::Refused(e, q);
+                }
+            },
+            Next::Refused(e, q) => {
+                return Fold::Refused(e, q);
             }
         }
-        due -= 1;
     }
+    let q = Place {
+        at,
+        rec,
+        depth: p.depth,
+    };
     Fold::Past(d, q)
 }

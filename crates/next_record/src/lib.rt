@@ -1,10 +1,10 @@
 // One record at the running place: outside a body a field, inside one an instruction or the body's end.
 mod fold;
+mod head;
 pub mod marks;
 mod often;
 pub mod record;
 mod skim;
-mod straight;
 mod thin;
 
 pub use marks::with_block;

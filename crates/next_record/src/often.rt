@@ -1,13 +1,15 @@
 // What stands after the opcodes that are met most.
+use syntax::Operands;
 use syntax::Skip;
 ghost use mathlib.Core.Path.{_≡_};
 ghost use Rattle.syntax.specs.Tokens.{skip};
 ghost use Rattle.next_record.specs.Often.{OftenIs, oftenStops};
 
-// It is nothing, an index that must be present, or a number of 32 bits; of the other opcodes nothing is said.
+// It is nothing, an index that must be present, what a load or store has, or a number of 32 bits; of the other opcodes nothing is said.
 pub enum Often {
     Nothing,
     Index,
+    Access,
     Number,
     Rare,
 }
@@ -35,6 +37,29 @@ pub fn often_after(opcode: u8) -> Often
         0x22 => Often::Index,
         0x23 => Often::Index,
         0x24 => Often::Index,
+        0x28 => Often::Access,
+        0x29 => Often::Access,
+        0x2A => Often::Access,
+        0x2B => Often::Access,
+        0x2C => Often::Access,
+        0x2D => Often::Access,
+        0x2E => Often::Access,
+        0x2F => Often::Access,
+        0x30 => Often::Access,
+        0x31 => Often::Access,
+        0x32 => Often::Access,
+        0x33 => Often::Access,
+        0x34 => Often::Access,
+        0x35 => Often::Access,
+        0x36 => Often::Access,
+        0x37 => Often::Access,
+        0x38 => Often::Access,
+        0x39 => Often::Access,
+        0x3A => Often::Access,
+        0x3B => Often::Access,
+        0x3C => Often::Access,
+        0x3D => Often::Access,
+        0x3E => Often::Access,
         0x41 => Often::Number,
         _ => Often::Rare,
     }
@@ -50,6 +75,9 @@ pub fn pass_often(s: &[u8], at: usize, what: Often) -> Skip
         }
         Often::Index => {
             return token::pass_present(s, at);
+        }
+        Often::Access => {
+            return instr::read_past(s, at, Operands::MemArg);
         }
         Often::Number => {
             return token::pass_u32(s, at);

@@ -1,6 +1,7 @@
 // An instruction that is passed over. The pass needs where it ends, how deep the place is then, whether it may use a type, what it does to the
 // open blocks, and whether it names a data segment; nothing else of it is built.
 use crate::fold::Fold;
+use crate::fold::read_operands;
 use crate::marks::Innermost;
 use crate::marks::may_else;
 use crate::record::Does;
@@ -9,7 +10,6 @@ use crate::record::InsideAt;
 use crate::record::names_data;
 use crate::record::on;
 use crate::record::refused;
-use crate::straight::read_straight;
 use syntax::Form;
 use syntax::Operands;
 use syntax::Place;
@@ -115,7 +115,7 @@ fn plain_inside(s: &[u8], at: usize, what: Operands) -> Inside
     Inside::On(false)
 }
 
-// A folded record with all its operands.
+// A folded record with all its operands, as a list of one.
 pub fn folded(s: &[u8], p: Place) -> InsideAt
     requires { ⌜ p .rec < 4096 ⌝ }
     ensures { λ r. ⌜ keptFold (foldedAt 32 (now (s .entry)) noneDo p) ≡ insideAnswer (r .what) (r .place) ⌝ }
@@ -124,7 +124,7 @@ pub fn folded(s: &[u8], p: Place) -> InsideAt
         uses: false,
         names: false,
     };
-    match read_straight(s, p, none) {
+    match read_operands(s, p, 1, 32, none) {
         Fold::Past(does, place) => {
             let what = Inside::Folded(does.uses, does.names);
             return InsideAt { what, place };

@@ -1,6 +1,7 @@
-use Prim.Native.Nat.{_+_, _*_}
+use Prim.Native.Nat.{_+_, _*_, _-_}
 use borrow.Author.Needs.{needs}
-use Rattle.next_record.proofs.Folding.{foldings, past-low, Operands·Inv, operands-begin, operands-again, operands-refused, operands-done}
+use Rattle.next_record.proofs.Folding.{foldings, past-low}
+use Rattle.next_record.proofs.Along.{few-count, one-less, Due, first-due, due-begin, due-low, due-none, left-fits, zeros-fit, zeros-few, left-falls, left-shallow, some-due, due-refused, few-operands, left-some, one-due, due-less, due-again, full-nests, full-refused, full-less, full-again}
 use Prim.Native.Nat.{ℕ, _<_}
 use borrow.Fn.Kinds.{In}
 use borrow.Fn.PlainCycle.{Measures, is, falls, and}
@@ -10,7 +11,8 @@ use Rattle.next_record.proofs.fold.+read_folded+read_operands.Lts-read_
 use Rattle.next_record.proofs.fold.read_operands.Reads as read-operands
 use Rattle.next_record.proofs.fold.read_operands.Kinds as read-operands-kinds
 use Rattle.next_record.proofs.fold.+read_folded+read_operands.Lts-read_operands as read-operands-lts
-use Rattle.next_record.proofs.fold.read_head.Reads as read-head-reads
+use Rattle.next_record.proofs.head.read_head.Reads as read-head-reads
+use Rattle.next_record.proofs.head.read_next.Reads as read-next-reads
 use Rattle.next_record.proofs.record.after_record.Reads as after-record-reads
 use Rattle.token.proofs.read_byte.Reads as read-byte-reads
 use Rattle.next_record.proofs.fold.+read_folded+read_operands.{statement}
@@ -148,7 +150,7 @@ read-folded-read-operands-requires : (t : ℕ) → read-folded-lts.Need-read-ope
   read-operands-below t,
   read-operands.Post,
 ) (read-folded-at t) read-folded.Post
-read-folded-read-operands-requires t c κs = search (needs, past-low)
+read-folded-read-operands-requires t c κs = search (needs, past-low, few-count, one-less)
 
 read-folded-returns-4 : (t : ℕ) → read-folded-lts.Need-returns-4 (
   read-byte-reads.Asked,
@@ -211,64 +213,218 @@ read-folded-returns-6 : (t : ℕ) → read-folded-lts.Need-returns-6 (
 read-folded-returns-6 t c = search foldings depth 12
 
 abbrev read-operands-Inv-loop : read-operands-lts.InvT-loop
-read-operands-Inv-loop s n left q₀ due₀ d₀ q due d = Operands·Inv left s q₀ n d₀ q due d
+read-operands-Inv-loop s p n nesting at₀ rec₀ left₀ due₀ d₀ at rec left due d = Due nesting s p n d₀ at rec left due d
 
 abbrev read-operands-μ-loop : read-operands-lts.MeasureT-loop
-read-operands-μ-loop s n left q₀ due₀ d₀ q due d = due
+read-operands-μ-loop s p n nesting at₀ rec₀ left₀ due₀ d₀ at rec left due d = 4096 - rec
+
+read-operands-shl-due : (t : ℕ) → read-operands-lts.Need-shl-due (
+  read-next-reads.Asked,
+  read-next-reads.Learnt,
+  read-folded-below t,
+  read-folded.Post,
+) (read-operands-at t) read-operands.Post read-operands-Inv-loop read-operands-μ-loop
+read-operands-shl-due t c = search needs
+
+read-operands-sub-due : (t : ℕ) → read-operands-lts.Need-sub-due (
+  read-next-reads.Asked,
+  read-next-reads.Learnt,
+  read-folded-below t,
+  read-folded.Post,
+) (read-operands-at t) read-operands.Post read-operands-Inv-loop read-operands-μ-loop
+read-operands-sub-due t c = search first-due
 
 read-operands-loop-holds : (t : ℕ) → read-operands-lts.Need-loop-holds (
+  read-next-reads.Asked,
+  read-next-reads.Learnt,
   read-folded-below t,
   read-folded.Post,
 ) (read-operands-at t) read-operands.Post read-operands-Inv-loop read-operands-μ-loop
-read-operands-loop-holds t c = search operands-begin
+read-operands-loop-holds t c = search due-begin
 
-read-operands-read-folded-requires : (t : ℕ) → read-operands-lts.Need-read-folded-requires (
+read-operands-add-left : (t : ℕ) → read-operands-lts.Need-add-left (
+  read-next-reads.Asked,
+  read-next-reads.Learnt,
   read-folded-below t,
   read-folded.Post,
 ) (read-operands-at t) read-operands.Post read-operands-Inv-loop read-operands-μ-loop
-read-operands-read-folded-requires t c κs = search needs
+read-operands-add-left t c = search left-fits
+
+read-operands-cast-due : (t : ℕ) → read-operands-lts.Need-cast-due (
+  read-next-reads.Asked,
+  read-next-reads.Learnt,
+  read-folded-below t,
+  read-folded.Post,
+) (read-operands-at t) read-operands.Post read-operands-Inv-loop read-operands-μ-loop
+read-operands-cast-due t c = search zeros-fit
+
+read-operands-shr-due : (t : ℕ) → read-operands-lts.Need-shr-due (
+  read-next-reads.Asked,
+  read-next-reads.Learnt,
+  read-folded-below t,
+  read-folded.Post,
+) (read-operands-at t) read-operands.Post read-operands-Inv-loop read-operands-μ-loop
+read-operands-shr-due t c = search zeros-few
+
+read-operands-read-next-requires : (t : ℕ) → read-operands-lts.Need-read-next-requires (
+  read-next-reads.Asked,
+  read-next-reads.Learnt,
+  read-folded-below t,
+  read-folded.Post,
+) (read-operands-at t) read-operands.Post read-operands-Inv-loop read-operands-μ-loop
+read-operands-read-next-requires t c κs = search due-low
 
 read-operands-enum-known-e : (t : ℕ) → read-operands-lts.Need-enum-known-e (
+  read-next-reads.Asked,
+  read-next-reads.Learnt,
   read-folded-below t,
   read-folded.Post,
 ) (read-operands-at t) read-operands.Post read-operands-Inv-loop read-operands-μ-loop
 read-operands-enum-known-e t c = search needs
 
+read-operands-sub-left : (t : ℕ) → read-operands-lts.Need-sub-left (
+  read-next-reads.Asked,
+  read-next-reads.Learnt,
+  read-folded-below t,
+  read-folded.Post,
+) (read-operands-at t) read-operands.Post read-operands-Inv-loop read-operands-μ-loop
+read-operands-sub-left t c = search left-some
+
+read-operands-cast-due-2 : (t : ℕ) → read-operands-lts.Need-cast-due-2 (
+  read-next-reads.Asked,
+  read-next-reads.Learnt,
+  read-folded-below t,
+  read-folded.Post,
+) (read-operands-at t) read-operands.Post read-operands-Inv-loop read-operands-μ-loop
+read-operands-cast-due-2 t c = search needs
+
+read-operands-shl-due-2 : (t : ℕ) → read-operands-lts.Need-shl-due-2 (
+  read-next-reads.Asked,
+  read-next-reads.Learnt,
+  read-folded-below t,
+  read-folded.Post,
+) (read-operands-at t) read-operands.Post read-operands-Inv-loop read-operands-μ-loop
+read-operands-shl-due-2 t c = search few-operands
+
+read-operands-sub-due-2 : (t : ℕ) → read-operands-lts.Need-sub-due-2 (
+  read-next-reads.Asked,
+  read-next-reads.Learnt,
+  read-folded-below t,
+  read-folded.Post,
+) (read-operands-at t) read-operands.Post read-operands-Inv-loop read-operands-μ-loop
+read-operands-sub-due-2 t c = search one-due
+
+read-operands-loop-less : (t : ℕ) → read-operands-lts.Need-loop-less (
+  read-next-reads.Asked,
+  read-next-reads.Learnt,
+  read-folded-below t,
+  read-folded.Post,
+) (read-operands-at t) read-operands.Post read-operands-Inv-loop read-operands-μ-loop
+read-operands-loop-less t c = search due-less
+
+read-operands-loop-again : (t : ℕ) → read-operands-lts.Need-loop-again (
+  read-next-reads.Asked,
+  read-next-reads.Learnt,
+  read-folded-below t,
+  read-folded.Post,
+) (read-operands-at t) read-operands.Post read-operands-Inv-loop read-operands-μ-loop
+read-operands-loop-again t c = search due-again
+
+read-operands-enum-told : (t : ℕ) → read-operands-lts.Need-enum-told (
+  read-next-reads.Asked,
+  read-next-reads.Learnt,
+  read-folded-below t,
+  read-folded.Post,
+) (read-operands-at t) read-operands.Post read-operands-Inv-loop read-operands-μ-loop
+read-operands-enum-told t c = search needs
+
+read-operands-read-folded-requires : (t : ℕ) → read-operands-lts.Need-read-folded-requires (
+  read-next-reads.Asked,
+  read-next-reads.Learnt,
+  read-folded-below t,
+  read-folded.Post,
+) (read-operands-at t) read-operands.Post read-operands-Inv-loop read-operands-μ-loop
+read-operands-read-folded-requires t c κs = search (needs, left-shallow, left-falls)
+
 read-operands-enum-known-e-2 : (t : ℕ) → read-operands-lts.Need-enum-known-e-2 (
+  read-next-reads.Asked,
+  read-next-reads.Learnt,
   read-folded-below t,
   read-folded.Post,
 ) (read-operands-at t) read-operands.Post read-operands-Inv-loop read-operands-μ-loop
 read-operands-enum-known-e-2 t c = search needs
 
+read-operands-sub-left-2 : (t : ℕ) → read-operands-lts.Need-sub-left-2 (
+  read-next-reads.Asked,
+  read-next-reads.Learnt,
+  read-folded-below t,
+  read-folded.Post,
+) (read-operands-at t) read-operands.Post read-operands-Inv-loop read-operands-μ-loop
+read-operands-sub-left-2 t c = search full-nests
+
+read-operands-sub-due-3 : (t : ℕ) → read-operands-lts.Need-sub-due-3 (
+  read-next-reads.Asked,
+  read-next-reads.Learnt,
+  read-folded-below t,
+  read-folded.Post,
+) (read-operands-at t) read-operands.Post read-operands-Inv-loop read-operands-μ-loop
+read-operands-sub-due-3 t c = search some-due
+
+read-operands-loop-less-2 : (t : ℕ) → read-operands-lts.Need-loop-less-2 (
+  read-next-reads.Asked,
+  read-next-reads.Learnt,
+  read-folded-below t,
+  read-folded.Post,
+) (read-operands-at t) read-operands.Post read-operands-Inv-loop read-operands-μ-loop
+read-operands-loop-less-2 t c = search full-less
+
+read-operands-loop-again-2 : (t : ℕ) → read-operands-lts.Need-loop-again-2 (
+  read-next-reads.Asked,
+  read-next-reads.Learnt,
+  read-folded-below t,
+  read-folded.Post,
+) (read-operands-at t) read-operands.Post read-operands-Inv-loop read-operands-μ-loop
+read-operands-loop-again-2 t c = search full-again
+
+read-operands-enum-known-e-3 : (t : ℕ) → read-operands-lts.Need-enum-known-e-3 (
+  read-next-reads.Asked,
+  read-next-reads.Learnt,
+  read-folded-below t,
+  read-folded.Post,
+) (read-operands-at t) read-operands.Post read-operands-Inv-loop read-operands-μ-loop
+read-operands-enum-known-e-3 t c = search needs
+
 read-operands-returns : (t : ℕ) → read-operands-lts.Need-returns (
+  read-next-reads.Asked,
+  read-next-reads.Learnt,
   read-folded-below t,
   read-folded.Post,
 ) (read-operands-at t) read-operands.Post read-operands-Inv-loop read-operands-μ-loop
-read-operands-returns t c = search operands-refused
+read-operands-returns t c = search full-refused
 
-read-operands-sub-due : (t : ℕ) → read-operands-lts.Need-sub-due (
+read-operands-enum-known-e-4 : (t : ℕ) → read-operands-lts.Need-enum-known-e-4 (
+  read-next-reads.Asked,
+  read-next-reads.Learnt,
   read-folded-below t,
   read-folded.Post,
 ) (read-operands-at t) read-operands.Post read-operands-Inv-loop read-operands-μ-loop
-read-operands-sub-due t c = search needs
-
-read-operands-loop-less : (t : ℕ) → read-operands-lts.Need-loop-less (
-  read-folded-below t,
-  read-folded.Post,
-) (read-operands-at t) read-operands.Post read-operands-Inv-loop read-operands-μ-loop
-read-operands-loop-less t c = search needs
-
-read-operands-loop-again : (t : ℕ) → read-operands-lts.Need-loop-again (
-  read-folded-below t,
-  read-folded.Post,
-) (read-operands-at t) read-operands.Post read-operands-Inv-loop read-operands-μ-loop
-read-operands-loop-again t c = search operands-again
+read-operands-enum-known-e-4 t c = search needs
 
 read-operands-returns-2 : (t : ℕ) → read-operands-lts.Need-returns-2 (
+  read-next-reads.Asked,
+  read-next-reads.Learnt,
   read-folded-below t,
   read-folded.Post,
 ) (read-operands-at t) read-operands.Post read-operands-Inv-loop read-operands-μ-loop
-read-operands-returns-2 t c = search operands-done
+read-operands-returns-2 t c = search due-refused
+
+read-operands-returns-3 : (t : ℕ) → read-operands-lts.Need-returns-3 (
+  read-next-reads.Asked,
+  read-next-reads.Learnt,
+  read-folded-below t,
+  read-folded.Post,
+) (read-operands-at t) read-operands.Post read-operands-Inv-loop read-operands-μ-loop
+read-operands-returns-3 t c = search due-none
 
 pub +read-folded+read-operands-spec : {M : Type 1} → statement M
 +read-folded+read-operands-spec = close μ-read-folded μ-read-operands (λ t. read-folded-lts.spec (
@@ -298,17 +454,34 @@ pub +read-folded+read-operands-spec : {M : Type 1} → statement M
     (read-folded-enum-known-e-2 t)
     (read-folded-returns-6 t))
     λ t. read-operands-lts.spec
-    (read-folded-below t, read-folded.Post)
+    (read-next-reads.Asked, read-next-reads.Learnt, read-folded-below t, read-folded.Post)
     (read-operands-at t)
     read-operands.Post
     read-operands-Inv-loop
     read-operands-μ-loop
-    (read-operands-loop-holds t)
-    (read-operands-read-folded-requires t)
-    (read-operands-enum-known-e t)
-    (read-operands-enum-known-e-2 t)
-    (read-operands-returns t)
+    (read-operands-shl-due t)
     (read-operands-sub-due t)
+    (read-operands-loop-holds t)
+    (read-operands-add-left t)
+    (read-operands-cast-due t)
+    (read-operands-shr-due t)
+    (read-operands-read-next-requires t)
+    (read-operands-enum-known-e t)
+    (read-operands-sub-left t)
+    (read-operands-cast-due-2 t)
+    (read-operands-shl-due-2 t)
+    (read-operands-sub-due-2 t)
     (read-operands-loop-less t)
     (read-operands-loop-again t)
+    (read-operands-enum-told t)
+    (read-operands-read-folded-requires t)
+    (read-operands-enum-known-e-2 t)
+    (read-operands-sub-left-2 t)
+    (read-operands-sub-due-3 t)
+    (read-operands-loop-less-2 t)
+    (read-operands-loop-again-2 t)
+    (read-operands-enum-known-e-3 t)
+    (read-operands-returns t)
+    (read-operands-enum-known-e-4 t)
     (read-operands-returns-2 t)
+    (read-operands-returns-3 t)

@@ -21,8 +21,8 @@ returns-2 c = search often-past
 enum-told-3 : tie.Need-enum-told-3
 enum-told-3 c = search needs
 
-pass-u32-requires : tie.Need-pass-u32-requires
-pass-u32-requires c κs = search needs
+read-past-requires : tie.Need-read-past-requires
+read-past-requires c κs = search needs
 
 returns-3 : tie.Need-returns-3
 returns-3 c = search often-past
@@ -30,8 +30,17 @@ returns-3 c = search often-past
 enum-told-4 : tie.Need-enum-told-4
 enum-told-4 c = search needs
 
+pass-u32-requires : tie.Need-pass-u32-requires
+pass-u32-requires c κs = search needs
+
 returns-4 : tie.Need-returns-4
-returns-4 c = search needs
+returns-4 c = search often-past
+
+enum-told-5 : tie.Need-enum-told-5
+enum-told-5 c = search needs
+
+returns-5 : tie.Need-returns-5
+returns-5 c = search needs
 
 pub pass-often-spec : {M : Type 1} → statement M
 pass-often-spec =
@@ -43,7 +52,10 @@ pass-often-spec =
     pass-present-requires
     returns-2
     enum-told-3
-    pass-u32-requires
+    read-past-requires
     returns-3
     enum-told-4
-    returns-4)
+    pass-u32-requires
+    returns-4
+    enum-told-5
+    returns-5)

@@ -3,8 +3,8 @@ use borrow.Author.Needs.{needs}
 use Rattle.next_record.proofs.skim.folded.Statement.{statement}
 use Rattle.next_record.proofs.skim.folded.Tie as tie
 
-read-straight-requires : tie.Need-read-straight-requires
-read-straight-requires c κs = search needs
+read-operands-requires : tie.Need-read-operands-requires
+read-operands-requires c κs = search needs
 
 enum-known-does : tie.Need-enum-known-does
 enum-known-does c = search needs
@@ -25,7 +25,7 @@ pub folded-spec : {M : Type 1} → statement M
 folded-spec =
     tie.close
     (tie.spec
-    read-straight-requires
+    read-operands-requires
     enum-known-does
     returns
     enum-known-n

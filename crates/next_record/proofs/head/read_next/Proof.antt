@@ -1,7 +1,7 @@
 use Rattle.next_record.proofs.Along.{nexts, few-bits}
 use borrow.Author.Needs.{needs}
-use Rattle.next_record.proofs.straight.read_next.Statement.{statement}
-use Rattle.next_record.proofs.straight.read_next.Tie as tie
+use Rattle.next_record.proofs.head.read_next.Statement.{statement}
+use Rattle.next_record.proofs.head.read_next.Tie as tie
 
 read-byte-requires : tie.Need-read-byte-requires
 read-byte-requires c κs = search needs
@@ -18,8 +18,8 @@ returns-2 c = search (nexts) depth 12
 returns-3 : tie.Need-returns-3
 returns-3 c = search (nexts) depth 12
 
-straight-head-requires : tie.Need-straight-head-requires
-straight-head-requires c κs = search needs
+quick-head-requires : tie.Need-quick-head-requires
+quick-head-requires c κs = search needs
 
 enum-known-d : tie.Need-enum-known-d
 enum-known-d c = search needs
@@ -29,9 +29,6 @@ cast-if4 c = search needs
 
 shr-if4 : tie.Need-shr-if4
 shr-if4 c = search (few-bits)
-
-read-whole-requires : tie.Need-read-whole-requires
-read-whole-requires c κs = search needs
 
 returns-4 : tie.Need-returns-4
 returns-4 c = search (nexts) depth 12
@@ -63,11 +60,10 @@ read-next-spec =
     returns
     returns-2
     returns-3
-    straight-head-requires
+    quick-head-requires
     enum-known-d
     cast-if4
     shr-if4
-    read-whole-requires
     returns-4
     after-record-requires
     returns-5

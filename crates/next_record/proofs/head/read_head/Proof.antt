@@ -1,7 +1,7 @@
 use Rattle.next_record.proofs.Folding.{heads}
 use borrow.Author.Needs.{needs}
-use Rattle.next_record.proofs.fold.read_head.Statement.{statement}
-use Rattle.next_record.proofs.fold.read_head.Tie as tie
+use Rattle.next_record.proofs.head.read_head.Statement.{statement}
+use Rattle.next_record.proofs.head.read_head.Tie as tie
 
 pass-fold-requires : tie.Need-pass-fold-requires
 pass-fold-requires c κs = search needs

@@ -1,7 +1,7 @@
-use Rattle.next_record.proofs.Heads.{straight-heads}
+use Rattle.next_record.proofs.Heads.{quick-heads}
 use borrow.Author.Needs.{needs}
-use Rattle.next_record.proofs.straight.straight_head.Statement.{statement}
-use Rattle.next_record.proofs.straight.straight_head.Tie as tie
+use Rattle.next_record.proofs.head.quick_head.Statement.{statement}
+use Rattle.next_record.proofs.head.quick_head.Tie as tie
 
 read-byte-requires : tie.Need-read-byte-requires
 read-byte-requires c κs = search needs
@@ -34,28 +34,28 @@ enum-known-n : tie.Need-enum-known-n
 enum-known-n c = search needs
 
 returns-2 : tie.Need-returns-2
-returns-2 c = search straight-heads depth 8
+returns-2 c = search quick-heads depth 8
 
 enum-known-e : tie.Need-enum-known-e
 enum-known-e c = search needs
 
 returns-3 : tie.Need-returns-3
-returns-3 c = search straight-heads depth 8
+returns-3 c = search quick-heads depth 8
 
 enum-known-e-2 : tie.Need-enum-known-e-2
 enum-known-e-2 c = search needs
 
 returns-4 : tie.Need-returns-4
-returns-4 c = search straight-heads depth 8
+returns-4 c = search quick-heads depth 8
 
 enum-known-e-3 : tie.Need-enum-known-e-3
 enum-known-e-3 c = search needs
 
 returns-5 : tie.Need-returns-5
-returns-5 c = search straight-heads depth 8
+returns-5 c = search quick-heads depth 8
 
-pub straight-head-spec : {M : Type 1} → statement M
-straight-head-spec =
+pub quick-head-spec : {M : Type 1} → statement M
+quick-head-spec =
     tie.close
     (tie.spec
     read-byte-requires

@@ -1,7 +1,7 @@
 use Rattle.next_record.proofs.Folding.{operators}
 use borrow.Author.Needs.{needs}
-use Rattle.next_record.proofs.fold.operator_does.Statement.{statement}
-use Rattle.next_record.proofs.fold.operator_does.Tie as tie
+use Rattle.next_record.proofs.head.operator_does.Statement.{statement}
+use Rattle.next_record.proofs.head.operator_does.Tie as tie
 
 read-byte-requires : tie.Need-read-byte-requires
 read-byte-requires c κs = search needs
