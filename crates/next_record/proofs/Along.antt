@@ -182,7 +182,6 @@ pub record Due (nesting : ℕ) (s : Bytes) (p : Place) (n : ℕ) (does : Does) (
   pub is : due ≡ value bits
   pub room : due < 2 ^ 64
   pub same : along s bits left d (record { at = at; rec = rec; depth = p .depth }) ≡ operandsBy (foldedAt nesting s) n does p
-  pub low : rec ≤ 4096
   pub level : left + levels bits ≡ nesting
   pub shallow : nesting ≤ 32
 
@@ -202,15 +201,14 @@ one-shifted n h =
 pub first-due : (n : ℕ) → n ≤ 16 → 1 ≤ (1 * 2 ^ n) % 2 ^ 64
 first-due n h = omega (arith, one-shifted n h)
 
-pub due-begin : (nesting : ℕ) (s : Bytes) (p : Place) (n : ℕ) (does : Does) → p .rec ≤ 4096 → n ≤ 16 → nesting ≤ 32
+pub due-begin : (nesting : ℕ) (s : Bytes) (p : Place) (n : ℕ) (does : Does) → n ≤ 16 → nesting ≤ 32
     → Due nesting s p n does (p .at) (p .rec) nesting ((1 * 2 ^ n) % 2 ^ 64 - 1) does
-due-begin nesting s p n does l h g =
+due-begin nesting s p n does h g =
     record {
       bits = puts n [];
       is = omega (arith, one-shifted n h);
       room = omega arith;
       same = along-puts s n [] nesting does p ∙ onward-is (operandsBy (foldedAt nesting s) n does p);
-      low = l;
       level = omega (arith, puts-levels n []);
       shallow = g;
     }
@@ -221,9 +219,6 @@ module _ {nesting : ℕ} {s : Bytes} {p : Place} {n : ℕ} {does : Does} {at rec
 
   abbrev zeros : ℕ
   zeros = trailingZeros 64 due
-
-  pub due-low : rec ≤ 4096
-  due-low = v .low
 
   pub due-none : (o : Place) → due ≤ 0 → o ≡ Here → L.Past d o ≡ operandsBy (foldedAt nesting s) n does p
   due-none o h i = let z : value (v .bits) ≡ 0 = omega (arith, v .is) in rw i (sym (none-due s (v .bits) left d Here z) ∙ v .same)
@@ -274,9 +269,9 @@ module _ {nesting : ℕ} {s : Bytes} {p : Place} {n : ℕ} {does : Does} {at rec
     stops-there k q g = sym (ap (λ y. onFold y (λ o r. along s (begun .rest) (left + zeros) o r)) g) ∙ begun .same
 
     -- the operands of a record have taken its place
-    goes-on : (e : Does) (m : ℕ) (q : Place) (x : ℕ) → foldedAt (left + zeros) s d Here ≡ operandsBy (foldedAt (left + zeros - 1) s) m e q → 1 ≤ left + zeros → q .rec ≤ 4096
+    goes-on : (e : Does) (m : ℕ) (q : Place) (x : ℕ) → foldedAt (left + zeros) s d Here ≡ operandsBy (foldedAt (left + zeros - 1) s) m e q → 1 ≤ left + zeros
         → q .depth ≡ p .depth → x < 2 ^ 64 → x ≡ value (puts m (false ∷ begun .rest)) → Due nesting s p n does (q .at) (q .rec) (left + zeros - 1) x e
-    goes-on e m q x f w l g r i =
+    goes-on e m q x f w g r i =
         record {
           bits = puts m (false ∷ begun .rest);
           is = i;
@@ -287,7 +282,6 @@ module _ {nesting : ℕ} {s : Bytes} {p : Place} {n : ℕ} {does : Does} {at rec
               let u : along s (puts m (false ∷ begun .rest)) (left + zeros - 1) e q ≡ onFold (operandsBy (foldedAt (left + zeros - 1) s) m e q) (λ o r. along s (begun .rest) (suc (left + zeros - 1)) o r) =
               along-puts s m (false ∷ begun .rest) (left + zeros - 1) e q in
               rw o (u ∙ rw y (ap (λ x. onFold x (λ o r. along s (begun .rest) (left + zeros) o r)) (sym f) ∙ begun .same));
-          low = l;
           level = omega (arith, begun .level, puts-levels m (false ∷ begun .rest));
           shallow = v .shallow;
         }
@@ -321,7 +315,7 @@ module _ {nesting : ℕ} {s : Bytes} {p : Place} {n : ℕ} {does : Does} {at rec
         due-less = omega (arith, passed .later, passed .most)
 
         pub due-again : Due nesting s p n does (q .at) (q .rec) (left + zeros - 1) ((due / 2 ^ zeros * 2 ^ m) % 2 ^ 64 - 1) e
-        due-again = goes-on e m q _ (passed .same) (passed .nests) (passed .most) (passed .deep) (omega arith) (omega (arith, taken))
+        due-again = goes-on e m q _ (passed .same) (passed .nests) (passed .deep) (omega arith) (omega (arith, taken))
 
       -- there is no room: it is read with all its operands
       module _ (g : x ≡ N.Full) where
@@ -342,7 +336,7 @@ module _ {nesting : ℕ} {s : Bytes} {p : Place} {n : ℕ} {does : Does} {at rec
 
             pub full-again : Due nesting s p n does (q .at) (q .rec) (left + zeros - 1) (due / 2 ^ zeros - 1) e
             unfolding operandsBy
-            full-again = goes-on e 0 q _ (sym is ∙ i) full-nests (after-it .0 .most) (after-it .0 .deep) (omega (arith, v .room, smaller)) (omega (arith, begun .is))
+            full-again = goes-on e 0 q _ (sym is ∙ i) full-nests (after-it .0 .deep) (omega (arith, v .room, smaller)) (omega (arith, begun .is))
               where
                 smaller : due / 2 ^ zeros ≤ due
                 smaller = shr-le due zeros

@@ -219,11 +219,6 @@ module _ (left : ℕ) (s : Bytes) (does : Does) (p : Place) (x : Fold) (q : Byte
               → x ≡ operandsBy (foldedAt (left - 1) s) n m o → x ≡ foldedAt left s does p
           with-operands m n next o g j a = deeper (rw (g, ← j) a)
 
--- the first operand's record is within what there may be
-pub past-low : (p q : Place) (next depth : ℕ) → q ≡ recordPast p next depth → p .rec < 4096 → q .rec ≤ 4096
-unfolding recordPast
-past-low p q next depth e l = let d : q .rec ≡ p .rec + 1 = ap (λ (x : Place). x .rec) e in omega arith
-
 pub ruleset foldings = (no-byte, not-folded, one-too-many, too-deep, no-head, with-operands, refl)
 
 -- ## How far the place has moved

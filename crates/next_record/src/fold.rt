@@ -19,7 +19,7 @@ pub enum Fold {
 
 // A folded record at `p`, with all its operands: so many may be nested, itself included. `does` is what came before it does.
 fn read_folded(s: &[u8], p: Place, left: u32, does: Does) -> Fold
-    requires { ⌜ (p .rec ≤ 4096) × (left ≤ 32) ⌝ }
+    requires { ⌜ left ≤ 32 ⌝ }
     ensures { λ r. ⌜ r ≡ foldedAt left (now (s .entry)) does p ⌝ }
 {
     match token::read_byte(s, p.at) {
@@ -53,7 +53,7 @@ fn read_folded(s: &[u8], p: Place, left: u32, does: Does) -> Fold
 // straight on with them: what is due is kept in the bits of one number, from the lowest on, where a one is an operand and a zero the end of the
 // operands of a record, after which one more may be nested.
 pub fn read_operands(s: &[u8], p: Place, n: u32, nesting: u32, does: Does) -> Fold
-    requires { ⌜ (p .rec ≤ 4096) × (n ≤ 16) × (nesting ≤ 32) ⌝ }
+    requires { ⌜ (n ≤ 16) × (nesting ≤ 32) ⌝ }
     ensures { λ r. ⌜ r ≡ operandsBy (foldedAt nesting (now (s .entry))) n does p ⌝ }
 {
     let mut at = p.at;

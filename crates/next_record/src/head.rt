@@ -11,7 +11,6 @@ use syntax::Place;
 use syntax::Skip;
 use syntax::U32;
 ghost use mathlib.Core.Path.{_≡_};
-ghost use Prim.Native.Nat.{_≤_};
 ghost use Rattle.next_record.specs.Folds.{bothDo, doesAt, headAt, headWith, NextAt};
 
 // What stands after F0: what the operator does together with what came before it, the count of operands, and where they begin.
@@ -110,7 +109,6 @@ pub enum Next {
 
 // The record at `p`, in which so many may be nested, itself included.
 pub fn read_next(s: &[u8], p: Place, left: u32, due: u64, does: Does) -> Next
-    requires { ⌜ p .rec ≤ 4096 ⌝ }
     ensures { λ r. ⌜ NextAt left (now (s .entry)) does p due r ⌝ }
 {
     match token::read_byte(s, p.at) {

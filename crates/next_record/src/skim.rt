@@ -117,7 +117,6 @@ fn plain_inside(s: &[u8], at: usize, what: Operands) -> Inside
 
 // A folded record with all its operands, as a list of one.
 pub fn folded(s: &[u8], p: Place) -> InsideAt
-    requires { ⌜ p .rec < 4096 ⌝ }
     ensures { λ r. ⌜ keptFold (foldedAt 32 (now (s .entry)) noneDo p) ≡ insideAnswer (r .what) (r .place) ⌝ }
 {
     let none = Does {

@@ -1,7 +1,7 @@
 use Prim.Native.Nat.{_+_, _*_, _-_}
 use borrow.Author.Needs.{needs}
-use Rattle.next_record.proofs.Folding.{foldings, past-low}
-use Rattle.next_record.proofs.Along.{few-count, one-less, Due, first-due, due-begin, due-low, due-none, left-fits, zeros-fit, zeros-few, left-falls, left-shallow, some-due, due-refused, few-operands, left-some, one-due, due-less, due-again, full-nests, full-refused, full-less, full-again}
+use Rattle.next_record.proofs.Folding.{foldings}
+use Rattle.next_record.proofs.Along.{few-count, one-less, Due, first-due, due-begin, due-none, left-fits, zeros-fit, zeros-few, left-falls, left-shallow, some-due, due-refused, few-operands, left-some, one-due, due-less, due-again, full-nests, full-refused, full-less, full-again}
 use Prim.Native.Nat.{ℕ, _<_}
 use borrow.Fn.Kinds.{In}
 use borrow.Fn.PlainCycle.{Measures, is, falls, and}
@@ -150,7 +150,7 @@ read-folded-read-operands-requires : (t : ℕ) → read-folded-lts.Need-read-ope
   read-operands-below t,
   read-operands.Post,
 ) (read-folded-at t) read-folded.Post
-read-folded-read-operands-requires t c κs = search (needs, past-low, few-count, one-less)
+read-folded-read-operands-requires t c κs = search (needs, few-count, one-less)
 
 read-folded-returns-4 : (t : ℕ) → read-folded-lts.Need-returns-4 (
   read-byte-reads.Asked,
@@ -272,7 +272,7 @@ read-operands-read-next-requires : (t : ℕ) → read-operands-lts.Need-read-nex
   read-folded-below t,
   read-folded.Post,
 ) (read-operands-at t) read-operands.Post read-operands-Inv-loop read-operands-μ-loop
-read-operands-read-next-requires t c κs = search due-low
+read-operands-read-next-requires t c κs = search needs
 
 read-operands-enum-known-e : (t : ℕ) → read-operands-lts.Need-enum-known-e (
   read-next-reads.Asked,
