@@ -1,4 +1,6 @@
 // The work area: where things stand in it, one word of it, and how it is cleared. docs/ARCHITECTURE.md has the layout as a table.
+#![tactic(auto)]
+
 ghost use Rattle.std.specs.Prelude.{◌≡◌, ◌<◌, length, get_or, replicate};
 ghost use Rattle.area.specs.Flags.{flag_in, flag_word, flag_put};
 

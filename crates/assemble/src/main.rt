@@ -1,5 +1,7 @@
 // Reads a stream from standard input, and writes its module, or the line "refused N at R", and of a name that comes twice "refused 13 at R,
 // first at F". With --names the module has a name section; with --strict every number must point somewhere.
+#![tactic(auto)]
+
 ghost use Rattle.std.specs.Prelude.{◌≡◌, length};
 
 use assembler::Said;
@@ -53,7 +55,7 @@ fn with_buffers(strict: bool, names: bool) {
     run(&mut buf, &mut work, &mut out, strict, names);
 }
 
-#[derive(Drop)]
+#[derive(Clone, Copy)]
 enum Word {
     Names,
     Strict,

@@ -1,5 +1,7 @@
 // Reads streams from standard input, each preceded by its length in seven-bit groups, and prints two lines for each, of the call without names
 // and of the one with them: `ok` and the module in hex, or the refusal. A list that ends inside a stream is said to be cut.
+#![tactic(auto)]
+
 ghost use Rattle.std.specs.Prelude.{◌≡◌, length};
 
 use assembler::Said;

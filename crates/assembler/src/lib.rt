@@ -1,4 +1,6 @@
 // The assembler: the passes, and after them the writers.
+#![tactic(auto)]
+
 pub mod export;
 
 ghost use Rattle.definition.specs.Assemble.{call_by};

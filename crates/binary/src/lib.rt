@@ -1,4 +1,6 @@
 // The binary format (the standard, chapter 5): emitters of what is already resolved.
+#![tactic(auto)]
+
 pub mod instructions;
 pub mod names;
 
@@ -10,7 +12,7 @@ pub use names::{put_export, put_import_name, put_name, put_part};
 // Where an emitter that also resolves came to, or a refusal's number and record.
 use syntax::Refusal;
 
-#[derive(Drop)]
+#[derive(Clone, Copy)]
 pub enum Emitted {
     To(usize),
     Refused(Refusal),

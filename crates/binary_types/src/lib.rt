@@ -1,4 +1,6 @@
 // Limits, table types, global types.
+#![tactic(auto)]
+
 ghost use Rattle.std.specs.Prelude.{◌+◌, ◌≡◌};
 ghost use Rattle.std.proofs.Math.Option.{none, some};
 ghost use Rattle.definition.specs.Basic.{if◌then◌else◌};

@@ -1,4 +1,6 @@
 // What the programs share: what they lend, text and numbers to standard output, and a list of streams from standard input.
+#![tactic(auto)]
+
 ghost use Rattle.std.specs.Prelude.{◌≡◌, length};
 
 use libc::{STDIN_FILENO, STDOUT_FILENO};
@@ -46,7 +48,7 @@ pub fn refused(n: u8, rec: u32, first: u32) {
     text(b"\n");
 }
 
-#[derive(Drop)]
+#[derive(Clone, Copy)]
 enum Length {
     Is(u32),
     // the list is at its end, or ends inside a length
@@ -83,7 +85,7 @@ fn next_length() -> Length {
     length_of(&groups, n)
 }
 
-#[derive(Drop)]
+#[derive(Clone, Copy)]
 pub enum Next {
     // so many bytes of the buffer
     Stream(usize),

@@ -1,4 +1,6 @@
 // Value types, limits, table and global types, as the stream has them.
+#![tactic(auto)]
+
 ghost use Rattle.std.specs.Prelude.{◌≡◌};
 ghost use Rattle.definition.specs.Token as Token;
 ghost use Rattle.syntax.specs.Numbers.{u64_at};

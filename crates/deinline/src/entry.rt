@@ -6,7 +6,7 @@ use crate::section;
 use syntax::{Entry, Field, List, Own, Seen, Source, Space};
 
 // Where a field stands: what was seen before it, where its head ends, and its record.
-#[derive(Drop)]
+#[derive(Clone, Copy)]
 pub struct Spot {
     pub seen: Seen,
     pub here: usize,
@@ -69,7 +69,7 @@ pub fn first_of(f: Field, seen: Seen) -> Entry
 }
 
 // An item has entries after its exports; other fields have one entry.
-#[derive(Drop)]
+#[derive(Clone, Copy)]
 pub enum ItemIn {
     Item(Source),
     Other,

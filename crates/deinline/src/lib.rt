@@ -1,4 +1,6 @@
 // What a field puts into the sections: up to three entries, each of one section.
+#![tactic(auto)]
+
 pub mod entry;
 pub mod section;
 

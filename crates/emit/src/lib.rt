@@ -1,4 +1,6 @@
 // Writing bytes. One emitter both measures and writes: what has no room is not stored, and the place moves on all the same.
+#![tactic(auto)]
+
 ghost use Rattle.std.specs.Prelude.{◌≡◌, [], ◌∷◌, ◌+◌, ◌-◌, ◌≤◌, min, length, take, drop};
 ghost use Rattle.std.proofs.lemmas.List.Edits.{sets};
 ghost use Rattle.emit.specs.Put.{Put, past};

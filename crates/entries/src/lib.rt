@@ -1,4 +1,6 @@
 // The bytes of an entry: each is resolved, put, and counted.
+#![tactic(auto)]
+
 ghost use Rattle.std.specs.Prelude.{◌≡◌, ◌≤◌, length};
 ghost use Rattle.area.specs.Layout.{WORDS};
 ghost use Rattle.definition.specs.Token as Token;
@@ -21,7 +23,7 @@ use scope::TypeAt;
 use syntax::{Entry, List, Part, Refusal, TypeUse};
 
 // The place after some entries and how many there are, or a refusal's number and record.
-#[derive(Drop)]
+#[derive(Clone, Copy)]
 pub enum EndsAt {
     Ends(usize, u64),
     Refused(Refusal),

@@ -1,4 +1,6 @@
 // Instructions that open and close no block and have no type use, and constants.
+#![tactic(auto)]
+
 pub mod bulk;
 pub mod constant;
 pub mod pass;
@@ -18,7 +20,7 @@ use syntax::{
 };
 
 // What an index refers to.
-#[derive(Drop)]
+#[derive(Clone, Copy)]
 pub enum Refers {
     Label,
     Local,

@@ -1,4 +1,6 @@
 // The field records 01 to 0A of document 01, by their first bytes.
+#![tactic(auto)]
+
 pub mod export;
 pub mod segment;
 pub mod table;

@@ -14,7 +14,7 @@ use scope::Locals;
 use syntax::{List, LocalAt, Part, Refusal, TypeNo, TypeUse};
 
 // How many entries there are now, or a refusal's number and record.
-#[derive(Drop)]
+#[derive(Clone, Copy)]
 pub enum EntriesAt {
     Now(u32),
     Refused(Refusal),
@@ -61,7 +61,7 @@ fn put_locals(s: &[u8], work: &mut [u32], from: u32, l: List, rec: u32) -> Entri
     EntriesAt::Now(count)
 }
 
-#[derive(Drop)]
+#[derive(Clone, Copy)]
 pub enum LocalsAt {
     Set(Locals),
     Refused(Refusal),

@@ -1,4 +1,6 @@
 // A function's entry in the code section: its locals in runs and its body, after their length.
+#![tactic(auto)]
+
 ghost use Rattle.std.specs.Prelude.{◌+◌, ◌-◌, ◌≤◌, ◌<◌, ◌≡◌, ◌++◌, length, take, drop};
 ghost use Rattle.area.specs.Lent.{At, Lent};
 ghost use Rattle.definition.specs.Types as Types;

@@ -15,7 +15,7 @@ use name_table::Resolved;
 use syntax::{Index, List, Part, PartAt, Space};
 
 // The place after some entries, and how many there are.
-#[derive(Drop)]
+#[derive(Clone, Copy)]
 pub struct Ends {
     pub to: usize,
     pub count: u64,

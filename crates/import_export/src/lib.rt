@@ -1,5 +1,7 @@
 // The entries of types, imports, globals, exports and the start: each emitter resolves what it has to, and then puts its bytes. On an
 // empty part it only checks, and measures.
+#![tactic(auto)]
+
 pub mod export;
 pub mod global;
 pub mod import;

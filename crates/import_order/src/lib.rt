@@ -1,12 +1,14 @@
 // Import order (document 01's module 4; the crate's resolve/mod.rs): no import after an own function, table, memory or global. A pass
 // over all fields asks of each whether it is too late, and whether imports after it are.
+#![tactic(auto)]
+
 ghost use Rattle.std.specs.Prelude.{◌≡◌};
 ghost use Rattle.import_order.specs.Order.{source_standing, standing, is_late, late_after};
 
 use syntax::{Field, Source};
 
 // What a field is to the order of imports.
-#[derive(Drop)]
+#[derive(Clone, Copy)]
 pub enum Standing {
     Import,
     Own,

@@ -1,4 +1,6 @@
 // The records of a body: instructions, folded ones, and its end.
+#![tactic(auto)]
+
 ghost use Rattle.std.specs.Prelude.{◌≡◌, ◌<◌};
 ghost use Rattle.definition.specs.Instructions as Instructions;
 ghost use Rattle.laws.specs.Depths.{deep};

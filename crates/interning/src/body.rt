@@ -13,7 +13,7 @@ use syntax::{BodyAt, FoldAt, Instr, Refusal, TypeUse};
 use walk::Stop;
 
 // How many types there are after a stretch of a body, and where it stops; or a refusal.
-#[derive(Drop)]
+#[derive(Clone, Copy)]
 pub enum UsedTo {
     Types(u32, Stop),
     Refused(Refusal),

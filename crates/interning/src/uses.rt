@@ -15,7 +15,7 @@ use syntax::{Index, Instr, Refusal, TypeUse};
 use type_table::Interned;
 
 // How many types there are now, or a refusal's number and record.
-#[derive(Drop)]
+#[derive(Clone, Copy)]
 pub enum Used {
     Types(u32),
     Refused(Refusal),

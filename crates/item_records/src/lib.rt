@@ -1,4 +1,6 @@
 // The field records of types, imports and items, and what they share with the others.
+#![tactic(auto)]
+
 pub mod export;
 pub mod item;
 pub mod segment;

@@ -1,4 +1,6 @@
 // The kept bytes: an entry emitted into its section's part of them, and how large the sections are.
+#![tactic(auto)]
+
 pub mod entry;
 pub mod parts;
 pub mod tally;

@@ -7,19 +7,19 @@ use crate::SECTIONS;
 use syntax::Refusal;
 
 // The bytes of each section's entries, and how many entries there are, by the section's number.
-#[derive(Drop)]
+#[derive(Clone, Copy)]
 pub struct Tally {
     pub sizes: [u64; SECTIONS],
     pub counts: [u64; SECTIONS],
 }
 
-#[derive(Drop)]
+#[derive(Clone, Copy)]
 pub enum Verdict {
     Fine,
     Refused(Refusal),
 }
 
-#[derive(Drop)]
+#[derive(Clone, Copy)]
 pub struct Checked {
     pub tally: Tally,
     pub verdict: Verdict,

@@ -1,4 +1,6 @@
 // Numbers in groups of seven bits, low first (LEB128): read from the record stream, and written in their shortest form.
+#![tactic(auto)]
+
 pub mod read;
 pub mod signed;
 pub mod unsigned;

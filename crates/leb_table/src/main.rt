@@ -1,4 +1,6 @@
 // Prints numbers in groups as the functions of leb write and read them, a line for each.
+#![tactic(auto)]
+
 use libc::STDOUT_FILENO;
 use syntax::{U32, U64};
 

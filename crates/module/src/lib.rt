@@ -1,4 +1,6 @@
 // The module: its length, and its bytes section by section.
+#![tactic(auto)]
+
 pub mod length;
 pub mod write;
 

@@ -21,7 +21,7 @@ use syntax::{Extern, Field, List, Own, Source, TypeNo, TypeUse};
 use walk::What;
 
 // The function that a field brings.
-#[derive(Drop)]
+#[derive(Clone, Copy)]
 pub enum Function {
     Nothing,
     Imported,

@@ -1,4 +1,6 @@
 // The maps of the name section: the names of functions, and those of each function's parameters and locals.
+#![tactic(auto)]
+
 pub mod functions;
 pub mod map;
 

@@ -11,7 +11,7 @@ ghost use Rattle.name_maps.specs.Maps.{Few, Names, first};
 use syntax::{List, LocalAt, Part, Space};
 
 // Where the next entry of a map goes, the number of the next place, and how many entries came before.
-#[derive(Drop)]
+#[derive(Clone, Copy)]
 pub struct Reached {
     pub at: usize,
     pub number: u64,

@@ -8,7 +8,7 @@ ghost use Rattle.name_table.specs.Definers.{definers_base, holder_in, held_by, i
 use crate::table::Found;
 use syntax::{Part, Space};
 
-#[derive(Drop)]
+#[derive(Clone, Copy)]
 pub enum Held {
     At(u32),
     Nobody,

@@ -1,4 +1,6 @@
 // Tables of names in the lent work area, three words to an entry: the place of an identifier in the stream, its length (0: none), and its tag, which tells nearly every other name apart by one comparison.
+#![tactic(auto)]
+
 pub mod definers;
 pub mod entry;
 pub mod label;

@@ -8,14 +8,14 @@ ghost use Rattle.name_table.specs.Area.{names, found, resolved};
 
 use syntax::{Index, Part, Refusal};
 
-#[derive(Drop)]
+#[derive(Clone, Copy)]
 pub enum Found {
     At(usize),
     Nothing,
 }
 
 // A number, or a refusal's number and record.
-#[derive(Drop)]
+#[derive(Clone, Copy)]
 pub enum Resolved {
     To(u32),
     Refused(Refusal),
@@ -67,7 +67,7 @@ pub fn below(work: &[u32], limit: u32, n: u32, rec: u32) -> Resolved
 }
 
 // An index space: where its names begin and how many there are, and how many items it has.
-#[derive(Drop)]
+#[derive(Clone, Copy)]
 pub struct Table {
     pub base: usize,
     pub count: usize,

@@ -6,7 +6,7 @@ use crate::head::{HeadAt, Next, read_head, read_next};
 use crate::record::{Does, after_record};
 use syntax::{ByteAt, Place};
 
-#[derive(Drop)]
+#[derive(Clone, Copy)]
 pub enum Fold {
     Past(Does, Place),
     // the place is that of the record at fault

@@ -7,7 +7,7 @@ use crate::record::{Does, after_record, names_data};
 use syntax::{ByteAt, Form, Place, Skip, U32};
 
 // What stands after F0: what the operator does together with what came before it, the count of operands, and where they begin.
-#[derive(Drop)]
+#[derive(Clone, Copy)]
 pub enum HeadAt {
     Got(Does, u32, usize),
     Fault(u8),
@@ -93,7 +93,7 @@ fn quick_head(s: &[u8], at: usize, does: Does) -> HeadAt
 const FULL: u64 = 18446744073709551615;
 
 // What came of one record: what it and those before it do, how many of its operands are due next, and where they begin.
-#[derive(Drop)]
+#[derive(Clone, Copy)]
 pub enum Next {
     Past(Does, u32, Place),
     // its operands have no room beside what is due

@@ -1,4 +1,6 @@
 // One record at the running place: outside a body a field, inside one an instruction or the body's end.
+#![tactic(auto)]
+
 mod fold;
 mod head;
 pub mod marks;

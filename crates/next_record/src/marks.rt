@@ -10,7 +10,7 @@ use syntax::Marks;
 const TOP: u64 = 9223372036854775808;
 
 // What a record's reader needs of the marks: whether an else may come in the innermost block.
-#[derive(Drop)]
+#[derive(Clone, Copy)]
 pub struct Innermost {
     pub may: bool,
 }

@@ -6,7 +6,7 @@ ghost use Rattle.next_record.specs.Often.{OftenIs, often_stops};
 use syntax::{Operands, Skip};
 
 // It is nothing, an index that must be present, what a load or store has, or a number of 32 bits; of the other opcodes nothing is said.
-#[derive(Drop)]
+#[derive(Clone, Copy)]
 pub enum Often {
     Nothing,
     Index,

@@ -15,21 +15,21 @@ use crate::marks::Innermost;
 use syntax::{ByteAt, Field, FieldAt, Form, Operands, Own, Place, Seen, Source};
 
 // What stands outside a body: a field.
-#[derive(Drop)]
+#[derive(Clone, Copy)]
 pub enum Outside {
     Field(Field),
     Refused(u8),
 }
 
 // What was read outside a body, and the place after it. A refusal leaves the place where it was.
-#[derive(Drop)]
+#[derive(Clone, Copy)]
 pub struct OutsideAt {
     pub what: Outside,
     pub place: Place,
 }
 
 // What the instructions of a folded record do, its own and those of its operands: may one use a type, and does one name a data segment?
-#[derive(Drop)]
+#[derive(Clone, Copy)]
 pub struct Does {
     pub uses: bool,
     pub names: bool,
@@ -37,7 +37,7 @@ pub struct Does {
 
 // What stands in a body. Of an instruction the pass keeps whether it may use a type, what it does to the open blocks, and whether it names a data
 // segment, so nothing larger is handed on.
-#[derive(Drop)]
+#[derive(Clone, Copy)]
 pub enum Inside {
     // an instruction that leaves the blocks as they are: may it use a type?
     On(bool),
@@ -55,7 +55,7 @@ pub enum Inside {
 }
 
 // What was read in a body, and the place after it. A refusal leaves the place at the record at fault.
-#[derive(Drop)]
+#[derive(Clone, Copy)]
 pub struct InsideAt {
     pub what: Inside,
     pub place: Place,

@@ -78,7 +78,7 @@ pub fn emit_depth(
 }
 
 // What the indices of a list refer to: functions, or labels of so many open blocks.
-#[derive(Drop)]
+#[derive(Clone, Copy)]
 pub enum Target {
     Func,
     Label(u32),

@@ -1,5 +1,7 @@
 // What entries and instructions have in common: operands, lists of functions or labels, and constants. Each emitter resolves what it has to,
 // and then puts its bytes.
+#![tactic(auto)]
+
 pub mod constant;
 pub mod indices;
 pub mod items;

@@ -1,4 +1,6 @@
 // The passes in document 01's order, up to what a writer needs.
+#![tactic(auto)]
+
 ghost use Rattle.std.specs.Prelude.{◌≡◌};
 ghost use Rattle.area.specs.Flags.{strict_in};
 ghost use Rattle.walk.specs.Walk.{fields_in};
@@ -11,7 +13,7 @@ use survey::Surveyed;
 use syntax::Refusal;
 
 // What the passes leave for a writer, beside the kept bytes: how many records there are and how large the sections are; or their refusal.
-#[derive(Drop)]
+#[derive(Clone, Copy)]
 pub struct Passed {
     pub count: u32,
     pub tally: Tally,

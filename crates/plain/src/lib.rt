@@ -1,4 +1,6 @@
 // The instructions without blocks: each is read, resolved and written.
+#![tactic(auto)]
+
 pub mod record;
 pub mod turn;
 

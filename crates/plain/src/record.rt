@@ -19,7 +19,7 @@ use scope::Locals;
 use syntax::{Index, IndexAt, Operands, Place, PlainAt, Space};
 
 // What an index refers to.
-#[derive(Drop)]
+#[derive(Clone, Copy)]
 pub enum Target {
     Label,
     Local,
@@ -27,7 +27,7 @@ pub enum Target {
 }
 
 // What stands after an opcode: one index, nothing, or something else.
-#[derive(Drop)]
+#[derive(Clone, Copy)]
 pub enum After {
     Index(Target),
     Nothing,

@@ -5,7 +5,7 @@ ghost use Rattle.plain.specs.Turns.{past, turn_of};
 use binary::Emitted;
 use syntax::{Place, Refusal};
 
-#[derive(Drop)]
+#[derive(Clone, Copy)]
 pub enum Turn {
     // the place after what was written, and the running place after the record
     On(usize, Place),

@@ -1,5 +1,7 @@
 // Reads streams from standard input, each preceded by its length in seven-bit groups, and prints a line for each: how many records
 // it has, or its refusal. A list that ends inside a stream is said to be cut.
+#![tactic(auto)]
+
 use console::Next;
 use stream::Count;
 

@@ -1,4 +1,6 @@
 // Registration (the crate's names.rs): the items of a field, each in the name table of its index space.
+#![tactic(auto)]
+
 pub mod item;
 pub mod register;
 

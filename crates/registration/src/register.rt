@@ -1,7 +1,7 @@
 // What registering answers.
 use syntax::Refusal;
 
-#[derive(Drop)]
+#[derive(Clone, Copy)]
 pub enum Registered {
     Done,
     Refused(Refusal),

@@ -1,4 +1,6 @@
 // Field records that are known to be readable: of an own function's head and of an imported function only the lengths are looked at.
+#![tactic(auto)]
+
 ghost use Rattle.std.specs.Prelude.{◌≡◌};
 ghost use Rattle.definition.specs.Records as Records;
 ghost use Rattle.definition.specs.Token as Token;

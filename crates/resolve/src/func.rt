@@ -15,7 +15,7 @@ use scope::TypeAt;
 use syntax::{List, Own, Source, TypeNo, TypeUse};
 
 // An own function, or any other item.
-#[derive(Drop)]
+#[derive(Clone, Copy)]
 pub enum FuncIn {
     Func(TypeUse, List),
     Other,
@@ -34,7 +34,7 @@ pub fn func_in(x: Source) -> FuncIn
 }
 
 // An own function: its type use, its locals, where its body begins, and its record.
-#[derive(Drop)]
+#[derive(Clone, Copy)]
 pub struct Func {
     pub ty: TypeUse,
     pub locals: List,

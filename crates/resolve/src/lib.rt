@@ -1,4 +1,6 @@
 // The resolving pass: every field's entries are resolved and tallied, in stream order.
+#![tactic(auto)]
+
 pub mod entry;
 pub mod func;
 

@@ -1,4 +1,6 @@
 // The locals of a function: equal neighbours in one run. They were read before, so of their names only the lengths are looked at.
+#![tactic(auto)]
+
 ghost use Rattle.std.specs.Prelude.{◌≡◌, ◌≤◌, length};
 ghost use Rattle.definition.specs.Basic.{concat_map};
 ghost use Rattle.definition.specs.Binary as Binary;
@@ -12,7 +14,7 @@ ghost use Rattle.runs.specs.Locals.{local_types, RunIs, RunAtIs};
 use syntax::{List, LocalAt};
 
 // So many locals of one type, the place after them, and how many locals there still are.
-#[derive(Drop)]
+#[derive(Clone, Copy)]
 pub struct Run {
     pub count: u64,
     pub value: u8,
@@ -20,7 +22,7 @@ pub struct Run {
     pub left: u32,
 }
 
-#[derive(Drop)]
+#[derive(Clone, Copy)]
 pub enum RunAt {
     Got(Run),
     Nothing,
@@ -111,7 +113,7 @@ fn put_run(out: &mut [u8], at: usize, r: Run) -> usize
 }
 
 // How many runs were put, and the place after them.
-#[derive(Drop)]
+#[derive(Clone, Copy)]
 pub struct Runs {
     pub count: u64,
     pub next: usize,

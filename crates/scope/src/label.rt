@@ -10,7 +10,7 @@ use name_table::Resolved;
 use syntax::{Depth, Index, Part, Refusal};
 
 // A block's depth, or a refusal's number and record.
-#[derive(Drop)]
+#[derive(Clone, Copy)]
 pub enum DepthAt {
     To(Depth),
     Refused(Refusal),
@@ -27,7 +27,7 @@ pub fn depth_no(s: &[u8], work: &[u32], k: u32, x: Index, rec: u32) -> DepthAt
     }
 }
 
-#[derive(Drop)]
+#[derive(Clone, Copy)]
 pub enum Closed {
     Yes,
     Refused(Refusal),

@@ -1,4 +1,6 @@
 // What names mean in a module, by the work area: every index becomes a number (the crate's names.rs).
+#![tactic(auto)]
+
 pub mod item;
 pub mod label;
 pub mod local;
@@ -10,7 +12,7 @@ pub use local::{LocalAt, local_no};
 pub use types::{BlockAt, TypeAt, block_type, type_no};
 
 // The locals of a function: how many nameless places come first, and how many entries follow.
-#[derive(Drop)]
+#[derive(Clone, Copy)]
 pub struct Locals {
     pub nameless: u32,
     pub count: u32,

@@ -11,7 +11,7 @@ use name_table::{Found, Resolved};
 use syntax::{Index, LocalNo, Refusal};
 
 // A local's number, or a refusal's number and record.
-#[derive(Drop)]
+#[derive(Clone, Copy)]
 pub enum LocalAt {
     To(LocalNo),
     Refused(Refusal),

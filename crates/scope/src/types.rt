@@ -17,7 +17,7 @@ use syntax::{BlockType, ByteAt, Index, List, Refusal, Space, TypeNo, TypeUse};
 use type_table::Agreement;
 
 // A type's number, or a refusal's number and record.
-#[derive(Drop)]
+#[derive(Clone, Copy)]
 pub enum TypeAt {
     To(TypeNo),
     Refused(Refusal),
@@ -63,7 +63,7 @@ pub fn type_no(s: &[u8], work: &[u32], t: TypeUse, rec: u32) -> TypeAt
 }
 
 // A block's type, or a refusal's number and record.
-#[derive(Drop)]
+#[derive(Clone, Copy)]
 pub enum BlockAt {
     To(BlockType),
     Refused(Refusal),

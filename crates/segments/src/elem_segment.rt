@@ -23,7 +23,7 @@ use name_table::Resolved;
 use syntax::{Index, List, Mode, Refusal, Space};
 
 // The table of an element segment. An absent index stays so: it decides the segment's form.
-#[derive(Drop)]
+#[derive(Clone, Copy)]
 pub enum TableAt {
     Absent,
     To(u32),

@@ -1,4 +1,6 @@
 // The entries of element and data segments.
+#![tactic(auto)]
+
 pub mod data_segment;
 pub mod elem_segment;
 

@@ -1,4 +1,6 @@
 // Where an item comes from: it is the module's own, or imported, or made of an inline segment.
+#![tactic(auto)]
+
 pub mod import;
 pub mod seen;
 pub mod source;

@@ -11,7 +11,7 @@ use next_record::{
 };
 use syntax::{Marks, Place, Refusal, Seen};
 
-#[derive(Drop)]
+#[derive(Clone, Copy)]
 pub enum Count {
     Records(u32),
     Refused(Refusal),

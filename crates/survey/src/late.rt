@@ -6,7 +6,7 @@ ghost use Rattle.survey.specs.Survey.{lateness, fine_of};
 use syntax::Field;
 
 // An import that comes too late, or whether imports after a field do.
-#[derive(Drop)]
+#[derive(Clone, Copy)]
 pub enum Lateness {
     Late,
     Fine(bool),

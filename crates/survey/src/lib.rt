@@ -1,4 +1,6 @@
 // One walk over all fields: the order of imports, the uses of types, and the items with their names.
+#![tactic(auto)]
+
 pub mod late;
 pub mod refused;
 
@@ -23,7 +25,7 @@ use syntax::{Field, Refusal};
 use walk::{Cursor, What};
 
 // A refusal's number and record, if there is one.
-#[derive(Drop)]
+#[derive(Clone, Copy)]
 pub enum Surveyed {
     Done,
     Refused(Refusal),
@@ -31,7 +33,7 @@ pub enum Surveyed {
 
 // How many types there are after a field; or the record of an import that comes too late; or the refusal of a use, or of a name after so
 // many types, before which an earlier rule may come.
-#[derive(Drop)]
+#[derive(Clone, Copy)]
 enum Took {
     Types(u32),
     Late(u32),
@@ -40,7 +42,7 @@ enum Took {
 }
 
 // How the walk ended, where it would go on, and whether imports are too late there.
-#[derive(Drop)]
+#[derive(Clone, Copy)]
 struct Ended {
     how: Took,
     next: Cursor,

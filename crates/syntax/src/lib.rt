@@ -1,5 +1,7 @@
 // What travels between the crates: what the assembler knows of a stream, as places of it and numbers. specs/ says of each what it means in the
 // definition's terms.
+#![tactic(auto)]
+
 ghost use Rattle.std.specs.Prelude.{◌≡◌};
 ghost use Rattle.definition.specs.Syntax.{code};
 ghost use Rattle.definition.specs.Instructions as Instructions;
@@ -12,32 +14,32 @@ ghost use Rattle.syntax.specs.Tokens.{space_of};
 // ## Answers of readers of numbers and bytes
 
 // A number and the place after it, or a refusal's number.
-#[derive(Drop)]
+#[derive(Clone, Copy)]
 pub enum U32 {
     Got(u32, usize),
     Fault(u8),
 }
 
-#[derive(Drop)]
+#[derive(Clone, Copy)]
 pub enum U64 {
     Got(u64, usize),
     Fault(u8),
 }
 
-#[derive(Drop)]
+#[derive(Clone, Copy)]
 pub enum ByteAt {
     Got(u8, usize),
     Fault(u8),
 }
 
-#[derive(Drop)]
+#[derive(Clone, Copy)]
 pub enum BoolAt {
     Got(bool, usize),
     Fault(u8),
 }
 
 // Where a run ends that was only passed over, or a refusal's number.
-#[derive(Drop)]
+#[derive(Clone, Copy)]
 pub enum Skip {
     Past(usize),
     Fault(u8),
@@ -46,20 +48,20 @@ pub enum Skip {
 // ## Parts of the stream, and lists
 
 // A part of the stream: where its first byte stands, and how many there are.
-#[derive(Drop)]
+#[derive(Clone, Copy)]
 pub struct Part {
     pub at: usize,
     pub len: u32,
 }
 
-#[derive(Drop)]
+#[derive(Clone, Copy)]
 pub enum PartAt {
     Got(Part, usize),
     Fault(u8),
 }
 
 // What a list is of.
-#[derive(Drop)]
+#[derive(Clone, Copy)]
 pub enum Elem {
     Local,
     Type,
@@ -68,13 +70,13 @@ pub enum Elem {
 }
 
 // A list: where its first element stands, and how many there are.
-#[derive(Drop)]
+#[derive(Clone, Copy)]
 pub struct List {
     pub at: usize,
     pub count: u32,
 }
 
-#[derive(Drop)]
+#[derive(Clone, Copy)]
 pub enum ListAt {
     Got(List, usize),
     Fault(u8),
@@ -83,7 +85,7 @@ pub enum ListAt {
 // ## Indices
 
 // The index spaces of a module.
-#[derive(Drop)]
+#[derive(Clone, Copy)]
 pub enum Space {
     Funcs,
     Tables,
@@ -109,20 +111,20 @@ pub fn space_code(k: Space) -> usize
     }
 }
 
-#[derive(Drop)]
+#[derive(Clone, Copy)]
 pub enum Index {
     Absent,
     Number(u32),
     Named(Part),
 }
 
-#[derive(Drop)]
+#[derive(Clone, Copy)]
 pub enum IndexAt {
     Got(Index, usize),
     Fault(u8),
 }
 
-#[derive(Drop)]
+#[derive(Clone, Copy)]
 pub enum SpaceAt {
     Got(Space, usize),
     Fault(u8),
@@ -130,76 +132,76 @@ pub enum SpaceAt {
 
 // ## Types
 
-#[derive(Drop)]
+#[derive(Clone, Copy)]
 pub enum Maximum {
     Unbounded,
     Is(u64),
 }
 
-#[derive(Drop)]
+#[derive(Clone, Copy)]
 pub enum MaximumAt {
     Got(Maximum, usize),
     Fault(u8),
 }
 
-#[derive(Drop)]
+#[derive(Clone, Copy)]
 pub struct Limits {
     pub is64: bool,
     pub minimum: u64,
     pub maximum: Maximum,
 }
 
-#[derive(Drop)]
+#[derive(Clone, Copy)]
 pub enum LimitsAt {
     Got(Limits, usize),
     Fault(u8),
 }
 
-#[derive(Drop)]
+#[derive(Clone, Copy)]
 pub struct TableType {
     pub element: u8,
     pub limits: Limits,
 }
 
-#[derive(Drop)]
+#[derive(Clone, Copy)]
 pub enum TableTypeAt {
     Got(TableType, usize),
     Fault(u8),
 }
 
-#[derive(Drop)]
+#[derive(Clone, Copy)]
 pub struct GlobalType {
     pub value: u8,
     pub mutable: u8,
 }
 
-#[derive(Drop)]
+#[derive(Clone, Copy)]
 pub enum GlobalTypeAt {
     Got(GlobalType, usize),
     Fault(u8),
 }
 
 // A parameter or a local.
-#[derive(Drop)]
+#[derive(Clone, Copy)]
 pub struct Local {
     pub id: Part,
     pub value: u8,
 }
 
-#[derive(Drop)]
+#[derive(Clone, Copy)]
 pub enum LocalAt {
     Got(Local, usize),
     Fault(u8),
 }
 
-#[derive(Drop)]
+#[derive(Clone, Copy)]
 pub struct TypeUse {
     pub index: Index,
     pub params: List,
     pub results: List,
 }
 
-#[derive(Drop)]
+#[derive(Clone, Copy)]
 pub enum UseAt {
     Got(TypeUse, usize),
     Fault(u8),
@@ -208,7 +210,7 @@ pub enum UseAt {
 // ## Instructions
 
 // What stands after an opcode, by the standard's names.
-#[derive(Drop)]
+#[derive(Clone, Copy)]
 pub enum Operands {
     Bare,
     LabelIdx,
@@ -227,7 +229,7 @@ pub enum Operands {
 }
 
 // The spaces of the indices after a second byte, in order.
-#[derive(Drop)]
+#[derive(Clone, Copy)]
 pub enum Spaces {
     None,
     One(Space),
@@ -254,7 +256,7 @@ pub fn bulk_spaces(b: u8) -> Spaces
 }
 
 // What stands after an opcode.
-#[derive(Drop)]
+#[derive(Clone, Copy)]
 pub enum Form {
     NoOpcode,
     Opening,
@@ -264,7 +266,7 @@ pub enum Form {
     Operands(Operands),
 }
 
-#[derive(Drop)]
+#[derive(Clone, Copy)]
 pub enum Operand {
     Nothing,
     Label(Index),
@@ -281,19 +283,19 @@ pub enum Operand {
     Heap(u8),
 }
 
-#[derive(Drop)]
+#[derive(Clone, Copy)]
 pub struct Plain {
     pub opcode: u8,
     pub operand: Operand,
 }
 
-#[derive(Drop)]
+#[derive(Clone, Copy)]
 pub enum PlainAt {
     Got(Plain, usize),
     Fault(u8),
 }
 
-#[derive(Drop)]
+#[derive(Clone, Copy)]
 pub enum Instr {
     // block, loop or if, by its opcode; its label and its type
     Opens(u8, Part, TypeUse),
@@ -304,14 +306,14 @@ pub enum Instr {
     Plain(Plain),
 }
 
-#[derive(Drop)]
+#[derive(Clone, Copy)]
 pub enum InstrAt {
     Got(Instr, usize),
     Fault(u8),
 }
 
 // What stands in a body that was read before.
-#[derive(Drop)]
+#[derive(Clone, Copy)]
 pub enum BodyAt {
     Got(Instr, usize),
     // the byte F0, with which a folded record begins
@@ -322,14 +324,14 @@ pub enum BodyAt {
 }
 
 // The operator of a folded record, and the count of its operands.
-#[derive(Drop)]
+#[derive(Clone, Copy)]
 pub enum FoldAt {
     Got(Instr, u32, usize),
     Fault(u8),
 }
 
 // A folded record by its places.
-#[derive(Drop)]
+#[derive(Clone, Copy)]
 pub enum Folding {
     // its operator's opcode and form, where what stands after the opcode is, the count of its operands, and where they begin
     Parts(u8, Form, usize, u32, usize),
@@ -339,20 +341,20 @@ pub enum Folding {
 // ## Items and fields
 
 // The two names of an import.
-#[derive(Drop)]
+#[derive(Clone, Copy)]
 pub struct ImportName {
     pub module: Part,
     pub item: Part,
 }
 
-#[derive(Drop)]
+#[derive(Clone, Copy)]
 pub enum NameAt {
     Got(ImportName, usize),
     Fault(u8),
 }
 
 // What may be imported: an item of one of four spaces.
-#[derive(Drop)]
+#[derive(Clone, Copy)]
 pub enum Kind {
     Func,
     Table,
@@ -360,7 +362,7 @@ pub enum Kind {
     Global,
 }
 
-#[derive(Drop)]
+#[derive(Clone, Copy)]
 pub enum Extern {
     Func(TypeUse),
     Table(TableType),
@@ -368,13 +370,13 @@ pub enum Extern {
     Global(GlobalType),
 }
 
-#[derive(Drop)]
+#[derive(Clone, Copy)]
 pub enum ExternAt {
     Got(Extern, usize),
     Fault(u8),
 }
 
-#[derive(Drop)]
+#[derive(Clone, Copy)]
 pub enum Own {
     Func(TypeUse, List),
     Table(TableType),
@@ -384,7 +386,7 @@ pub enum Own {
 }
 
 // A bool says 64-bit.
-#[derive(Drop)]
+#[derive(Clone, Copy)]
 pub enum Source {
     Own(Own),
     Imported(ImportName, Extern),
@@ -392,26 +394,26 @@ pub enum Source {
     MemOf(bool, Part),
 }
 
-#[derive(Drop)]
+#[derive(Clone, Copy)]
 pub enum SourceAt {
     Got(Source, usize),
     Fault(u8),
 }
 
-#[derive(Drop)]
+#[derive(Clone, Copy)]
 pub enum Mode {
     Passive,
     // the table or the memory, and where the offset stands
     Active(Index, usize),
 }
 
-#[derive(Drop)]
+#[derive(Clone, Copy)]
 pub enum ModeAt {
     Got(Mode, usize),
     Fault(u8),
 }
 
-#[derive(Drop)]
+#[derive(Clone, Copy)]
 pub enum Field {
     Type {
         id: Part,
@@ -446,7 +448,7 @@ pub enum Field {
     },
 }
 
-#[derive(Drop)]
+#[derive(Clone, Copy)]
 pub enum FieldAt {
     Got(Field, usize),
     Fault(u8),
@@ -455,7 +457,7 @@ pub enum FieldAt {
 // ## Where reading stands
 
 // The running place: a byte, the number of its record, and how deep it stands: 0 outside a body, in one the number of open blocks and one more.
-#[derive(Drop)]
+#[derive(Clone, Copy)]
 pub struct Place {
     pub at: usize,
     pub rec: u32,
@@ -463,7 +465,7 @@ pub struct Place {
 }
 
 // Of each open block whether an else may still come in it: one bit each, that of the innermost block the lowest of `low`.
-#[derive(Drop)]
+#[derive(Clone, Copy)]
 pub struct Marks {
     pub low: u64,
     pub high: u64,
@@ -478,7 +480,7 @@ impl Marks {
 }
 
 // How many items each space has, by its code, and whether there was a start.
-#[derive(Drop)]
+#[derive(Clone, Copy)]
 pub struct Seen {
     pub counts: [u32; 7],
     pub started: bool,
@@ -498,7 +500,7 @@ impl Seen {
 // ## What is refused
 
 // Why a stream is refused, by document 01's number; the record at fault; and on a duplicate where the name was first used.
-#[derive(Drop)]
+#[derive(Clone, Copy)]
 pub struct Refusal {
     pub number: u8,
     pub rec: u32,
@@ -518,16 +520,16 @@ pub fn refusal_at(number: u8, rec: u32) -> Refusal
 
 // ## What is resolved
 
-#[derive(Drop)]
+#[derive(Clone, Copy)]
 pub struct LocalNo(pub u32);
 
-#[derive(Drop)]
+#[derive(Clone, Copy)]
 pub struct TypeNo(pub u32);
 
-#[derive(Drop)]
+#[derive(Clone, Copy)]
 pub struct Depth(pub u32);
 
-#[derive(Drop)]
+#[derive(Clone, Copy)]
 pub enum BlockType {
     Empty,
     Single(u8),
@@ -536,7 +538,7 @@ pub enum BlockType {
 
 // Entries of one section; the types of section 1 are not among them, since the table of types has them. The inline forms have the number of
 // their item.
-#[derive(Drop)]
+#[derive(Clone, Copy)]
 pub enum Entry {
     Nothing,
     Import(ImportName, Extern),

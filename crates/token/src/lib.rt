@@ -1,4 +1,6 @@
 // The smallest parts of a record: bytes, identifiers, strings, data, indices. A reader answers with places of the stream.
+#![tactic(auto)]
+
 pub mod byte;
 pub mod index;
 pub mod known;

@@ -8,7 +8,7 @@ use crate::list::same_list;
 use syntax::{List, TypeUse};
 
 // Where the two lists of a type stand in the stream, and whether identifiers stand before the parameters.
-#[derive(Drop)]
+#[derive(Clone, Copy)]
 pub struct Signature {
     pub named: bool,
     pub params: List,

@@ -34,7 +34,7 @@ fn mix(h: u64, t: u8) -> u64
 }
 
 // The hash of a list's value types after a hash, and how many they are.
-#[derive(Drop)]
+#[derive(Clone, Copy)]
 pub struct HashedList {
     pub hash: u64,
     pub count: u32,
@@ -66,7 +66,7 @@ fn hash_list(s: &[u8], named: bool, l: List, start: u64) -> HashedList
 }
 
 // The hash of a signature, of its value types alone; and how many parameters and results it has, which the walk over them tells.
-#[derive(Drop)]
+#[derive(Clone, Copy)]
 pub struct Hashed {
     pub hash: u64,
     pub params: u32,

@@ -9,7 +9,7 @@ ghost use Rattle.type_table.specs.Table.{typed, types_next, types_of, both_next,
 use syntax::{ByteAt, List, LocalAt, TypeUse};
 
 // A value type and the place after it.
-#[derive(Drop)]
+#[derive(Clone, Copy)]
 pub enum NextType {
     Type(u8, usize),
     End,
@@ -52,7 +52,7 @@ pub fn known_type(s: &[u8], at: usize, left: u32, named: bool) -> NextType
 }
 
 // What is left of two lists after their next types, where these are the same.
-#[derive(Drop)]
+#[derive(Clone, Copy)]
 pub enum NextBoth {
     Same(List, List),
     Differ,

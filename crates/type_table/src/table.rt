@@ -18,7 +18,7 @@ use crate::list::{NextBoth, next_both, same_list};
 use crate::size::put_size;
 use syntax::{Refusal, TypeUse};
 
-#[derive(Drop)]
+#[derive(Clone, Copy)]
 pub enum TypeFound {
     Number(u32),
     Nothing,
@@ -109,7 +109,7 @@ pub fn declare_type(s: &[u8], work: &mut [u32], count: u32, x: Signature)
 }
 
 // The number of a use's type and how many types there are now, or a refusal's number and record.
-#[derive(Drop)]
+#[derive(Clone, Copy)]
 pub enum Interned {
     Number(u32, u32),
     Refused(Refusal),
@@ -164,7 +164,7 @@ pub fn param_count(s: &[u8], work: &[u32], n: u32) -> u32
     crate::list::count_types(s, x.named, x.params)
 }
 
-#[derive(Drop)]
+#[derive(Clone, Copy)]
 pub enum Agreement {
     Same,
     Differs,

@@ -1,4 +1,6 @@
 // Counted lists, and type uses. A list is only passed over: its elements are read again where they are needed.
+#![tactic(auto)]
+
 pub mod known;
 
 ghost use Rattle.std.specs.Prelude.{◌≡◌};

@@ -1,4 +1,6 @@
 // A walk over the fields of a stream, one field record at a time. Bodies are jumped over, by the ends that the reading pass left.
+#![tactic(auto)]
+
 ghost use Rattle.std.specs.Prelude.{◌≡◌, ◌+◌, ◌≤◌, ◌<◌};
 ghost use Rattle.walk.specs.Walk.{Ahead, visit_in, visit_of, ReadableMet, begin, end_record, end_in, uses_in, stop_in, cursor_in};
 
@@ -6,7 +8,7 @@ use syntax::{Field, FieldAt, Seen};
 
 // Where a walk stands: the byte and the number of the next record, how many own functions came before it, how many fields it may
 // still visit, and what the fields before have brought.
-#[derive(Drop)]
+#[derive(Clone, Copy)]
 pub struct Cursor {
     pub at: usize,
     pub rec: u32,
@@ -16,13 +18,13 @@ pub struct Cursor {
 }
 
 // A place and the number of its record.
-#[derive(Drop)]
+#[derive(Clone, Copy)]
 pub struct Stop {
     pub at: usize,
     pub rec: u32,
 }
 
-#[derive(Drop)]
+#[derive(Clone, Copy)]
 pub enum What {
     // a field, and the place after it (of an own function: where its body begins)
     Field(Field, usize),
@@ -30,7 +32,7 @@ pub enum What {
 }
 
 // What a walk meets, and where it goes on.
-#[derive(Drop)]
+#[derive(Clone, Copy)]
 pub struct Met {
     pub what: What,
     pub next: Cursor,

@@ -1,4 +1,6 @@
 // The writers: a module, with its name section or without, where it has room.
+#![tactic(auto)]
+
 ghost use Rattle.std.specs.Prelude.{◌≡◌, ◌++◌};
 ghost use Rattle.definition.specs.Binary as Binary;
 ghost use Rattle.kept.specs.Tally.{tallies, no_tally};
@@ -10,7 +12,7 @@ use kept::Tally;
 use module::module_len;
 
 // A number, a record, where the name was first used, and how many bytes were written.
-#[derive(Drop)]
+#[derive(Clone, Copy)]
 pub struct Said {
     pub number: u8,
     pub rec: u32,
