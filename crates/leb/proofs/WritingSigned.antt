@@ -1,4 +1,4 @@
--- The loop of `put_s`: the groups that are written, and the integer that is left. A signed local is its bits here, which `to_z w64` reads.
+-- The loop of `put_s`: the groups that are written, and the integer that is left. A signed value that a loop keeps is read back from its bits.
 use Prim.Native.Nat.{ℕ, ◌+◌, ◌*◌, ◌^◌, ◌<◌}
 use mathlib.Core.Path.{◌≡◌, refl, sym, ◌∙◌, ap}
 use mathlib.Core.Bool.{Bool, true, false, not}
@@ -18,14 +18,14 @@ use Rattle.emit.specs.Put.{Put}
 use Rattle.emit.proofs.Laws.{put-none, put_then, put_is}
 
 -- of the groups of `x`, `done` are written, and those of `rest` come after them
-pub record Written (out₀ : Bytes) (at x : ℕ) (out : Bytes) (i rest : ℕ) : Type 0 where
+pub record Written (out₀ : Bytes) (at : ℕ) (x : ℤ) (out : Bytes) (i : ℕ) (rest : ℤ) : Type 0 where
   pub done : Bytes
   pub left : ℕ
   pub so_far : Put out₀ at done i out
-  pub same : s (to_z w64 x) ≡ done ++ signed left (to_z w64 rest)
-  pub below : mag (to_z w64 rest) < 64 * 128 ^ left
+  pub same : s x ≡ done ++ signed left rest
+  pub below : mag rest < 64 * 128 ^ left
 
-pub begin : {out : Bytes} {at : ℕ} (x : ℤ) → length out * 1 < 2 ^ 63 → SFits w64 x → Written out at (of_z w64 x) out at (of_z w64 x)
+pub begin : {out : Bytes} {at : ℕ} (x : ℤ) → length out * 1 < 2 ^ 63 → SFits w64 x → Written out at (to_z w64 (of_z w64 x)) out at (to_z w64 (of_z w64 x))
 unfolding s
 begin {at = at} x h f = record { done = []; left = 9; so_far = put-none at (omega arith); same = refl; below = rw (to_z-of_z w64 x f) (omega (arith, f.sfits)) }
 
@@ -33,38 +33,38 @@ begin {at = at} x h f = record { done = []; left = 9; so_far = put-none at (omeg
 pub high_fits : {l : ℕ} (z : ℤ) → l ≡ low7 z → Fits w8 (l + 128)
 high_fits z e = record { fits = omega (arith, low7_small z) }
 
-module _ {out₀ out : Bytes} {at x i rest : ℕ} (v : Written out₀ at x out i rest) {b : Bool} (t : b ≡ fits7 (to_z w64 rest)) where
+module _ {out₀ out : Bytes} {at i : ℕ} {x rest : ℤ} (v : Written out₀ at x out i rest) {b : Bool} (t : b ≡ fits7 rest) where
   -- `z` is what is left after one more group
-  module _ (n : not b ≡ true) {z : ℤ} (o : z ≡ over128 (to_z w64 rest)) (f : SFits w64 z) where
-    more : SignedMore v.left (to_z w64 rest)
-    more = signed-more v.left (to_z w64 rest) (sym t ∙ not-true b n) v.below
+  module _ (n : not b ≡ true) {z : ℤ} (o : z ≡ over128 rest) (f : SFits w64 z) where
+    more : SignedMore v.left rest
+    more = signed-more v.left rest (sym t ∙ not-true b n) v.below
 
-    next : to_z w64 (of_z w64 z) ≡ over128 (to_z w64 rest)
+    next : to_z w64 (of_z w64 z) ≡ over128 rest
     next = to_z-of_z w64 z f ∙ o
 
-    pub nearer : mag (to_z w64 (of_z w64 z)) < mag (to_z w64 rest)
+    pub nearer : mag (to_z w64 (of_z w64 z)) < mag rest
     nearer = rw next more.nearer
 
-    pub again : {l r : ℕ} {new : Bytes} → l ≡ low7 (to_z w64 rest) → Put out i ((l + 128) ∷ []) r new → Written out₀ at x new r (of_z w64 z)
+    pub again : {l r : ℕ} {new : Bytes} → l ≡ low7 rest → Put out i ((l + 128) ∷ []) r new → Written out₀ at x new r (to_z w64 (of_z w64 z))
     again {l} d p = record {
       done = v.done ++ ((l + 128) ∷ []);
       left = more.less;
       so_far = put_then v.so_far p;
-      same = v.same ∙ ap (λ bs. v.done ++ bs) more.first ∙ rw (next, d) (sym (append_assoc v.done ((low7 (to_z w64 rest) + 128) ∷ []) (signed more.less (over128 (to_z w64 rest)))));
+      same = v.same ∙ ap (λ bs. v.done ++ bs) more.first ∙ rw (next, d) (sym (append_assoc v.done ((low7 rest + 128) ∷ []) (signed more.less (over128 rest))));
       below = rw next more.below;
     }
 
-  ends : {l r : ℕ} {new : Bytes} → not b ≡ false → l ≡ low7 (to_z w64 rest) → Put out i (l ∷ []) r new → Put out₀ at (s (to_z w64 x)) r new
-  ends n d p = put_is (put_then v.so_far p) (sym (v.same ∙ rw (signed_end v.left (to_z w64 rest) (sym t ∙ not-false b n), d) refl))
+  ends : {l r : ℕ} {new : Bytes} → not b ≡ false → l ≡ low7 rest → Put out i (l ∷ []) r new → Put out₀ at (s x) r new
+  ends n d p = put_is (put_then v.so_far p) (sym (v.same ∙ rw (signed_end v.left rest (sym t ∙ not-false b n), d) refl))
 
 -- the groups of the integer itself are written
-pub ends_at : {out₀ out : Bytes} {at i rest : ℕ} (x : ℤ) → SFits w64 x → Written out₀ at (of_z w64 x) out i rest
-    → {b : Bool} {l r : ℕ} {new : Bytes} → b ≡ fits7 (to_z w64 rest) → not b ≡ false → l ≡ low7 (to_z w64 rest) → Put out i (l ∷ []) r new
+pub ends_at : {out₀ out : Bytes} {at i : ℕ} {rest : ℤ} (x : ℤ) → SFits w64 x → Written out₀ at (to_z w64 (of_z w64 x)) out i rest
+    → {b : Bool} {l r : ℕ} {new : Bytes} → b ≡ fits7 rest → not b ≡ false → l ≡ low7 rest → Put out i (l ∷ []) r new
     → Put out₀ at (s x) r new
 ends_at x f v t n d p = rw (to_z-of_z w64 x f) at (ends v t n d p)
 
 -- the buffer keeps its length
-pub same-long : {out₀ out new : Bytes} {at x i rest l r : ℕ} → Written out₀ at x out i rest → Put out i (l ∷ []) r new → length new ≡ length out₀
+pub same-long : {out₀ out new : Bytes} {at i l r : ℕ} {x rest : ℤ} → Written out₀ at x out i rest → Put out i (l ∷ []) r new → length new ≡ length out₀
 same-long v p = p.long ∙ v.so_far.long
 
 -- ## Integers by their bits

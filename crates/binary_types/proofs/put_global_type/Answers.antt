@@ -1,0 +1,7 @@
+use Rattle.emit.proofs.Laws.{put_cons}
+use Rattle.definition.specs.Binary as Binary
+use Rattle.binary_types.proofs.put_global_type.Goals as goal
+
+pub returns : goal.returns
+unfolding Binary.global_type
+returns c = search put_cons

@@ -1,0 +1,26 @@
+use Rattle.entries.proofs.Arms.{arm_export, arm_exports, arm_start, arm_elem, arm_inline_elem, arm_data, arm_inline_data, arm_left}
+use Rattle.entries.proofs.emit_late.Goals as goal
+
+pub returns-in-Export : goal.returns-in-Export
+returns-in-Export c = search arm_export
+
+pub returns-in-Exports : goal.returns-in-Exports
+returns-in-Exports c = search arm_exports
+
+pub returns-in-Start : goal.returns-in-Start
+returns-in-Start c = search arm_start
+
+pub returns-in-Elem : goal.returns-in-Elem
+returns-in-Elem c = search arm_elem
+
+pub returns-in-InlineElem : goal.returns-in-InlineElem
+returns-in-InlineElem c = search arm_inline_elem
+
+pub returns-in-Data : goal.returns-in-Data
+returns-in-Data c = search arm_data
+
+pub returns-in-InlineData : goal.returns-in-InlineData
+returns-in-InlineData c = search arm_inline_data
+
+pub returns-in_default : goal.returns-in_default
+returns-in_default c = search arm_left

@@ -1,0 +1,36 @@
+use Rattle.entries.proofs.Arms.{uses_import, uses-func, late, arm_nothing, arm_import, arm_func, arm_table, arm_inline_table, arm_mem, arm_inline_mem, arm_global}
+use borrow.Author.Rules.{rules}
+use Rattle.entries.proofs.emit_other.Goals as goal
+
+pub returns-in-Nothing : goal.returns-in-Nothing
+returns-in-Nothing c = search arm_nothing
+
+pub emit_import-r-requires : goal.emit_import-r-requires
+emit_import-r-requires c = search uses_import
+
+pub returns-in-Import : goal.returns-in-Import
+returns-in-Import c = search arm_import
+
+pub emit_type_no-r-requires : goal.emit_type_no-r-requires
+emit_type_no-r-requires c = search uses-func
+
+pub returns-in-Func : goal.returns-in-Func
+returns-in-Func c = search arm_func
+
+pub returns-in-Table : goal.returns-in-Table
+returns-in-Table c = search arm_table
+
+pub returns-in-InlineTable : goal.returns-in-InlineTable
+returns-in-InlineTable c = search arm_inline_table
+
+pub returns-in-Mem : goal.returns-in-Mem
+returns-in-Mem c = search arm_mem
+
+pub returns-in-InlineMem : goal.returns-in-InlineMem
+returns-in-InlineMem c = search arm_inline_mem
+
+pub returns-in-Global : goal.returns-in-Global
+returns-in-Global c = search arm_global
+
+pub emit_late-requires : goal.emit_late-requires
+emit_late-requires c = search (late, rules)

@@ -1,0 +1,204 @@
+use mathlib.Core.Path.{ap}
+use Rattle.definition.specs.Basic.{between}
+use Rattle.definition.specs.Instructions.{form_of, form_in, opcodes}
+use Rattle.instr.proofs.Forms.{no_early}
+use Rattle.instr.proofs.early_form.Goals as goal
+
+pub returns-in-0 : goal.returns-in-0
+unfolding form_of form_in opcodes between
+returns-in-0 c = ap form_of c.match.keys1
+
+pub returns-in-1 : goal.returns-in-1
+unfolding form_of form_in opcodes between
+returns-in-1 c = ap form_of c.match.keys2
+
+pub returns-in-2 : goal.returns-in-2
+unfolding form_of form_in opcodes between
+returns-in-2 c = ap form_of c.match.keys3
+
+pub returns-in-3 : goal.returns-in-3
+unfolding form_of form_in opcodes between
+returns-in-3 c = ap form_of c.match.keys4
+
+pub returns-in-4 : goal.returns-in-4
+unfolding form_of form_in opcodes between
+returns-in-4 c = ap form_of c.match.keys5
+
+pub returns-in-5 : goal.returns-in-5
+unfolding form_of form_in opcodes between
+returns-in-5 c = ap form_of c.match.keys6
+
+pub returns-in-11 : goal.returns-in-11
+unfolding form_of form_in opcodes between
+returns-in-11 c = ap form_of c.match.keys7
+
+pub returns-in-12 : goal.returns-in-12
+unfolding form_of form_in opcodes between
+returns-in-12 c = ap form_of c.match.keys8
+
+pub returns-in-13 : goal.returns-in-13
+unfolding form_of form_in opcodes between
+returns-in-13 c = ap form_of c.match.keys9
+
+pub returns-in-14 : goal.returns-in-14
+unfolding form_of form_in opcodes between
+returns-in-14 c = ap form_of c.match.keys10
+
+pub returns-in-15 : goal.returns-in-15
+unfolding form_of form_in opcodes between
+returns-in-15 c = ap form_of c.match.keys11
+
+pub returns-in-16 : goal.returns-in-16
+unfolding form_of form_in opcodes between
+returns-in-16 c = ap form_of c.match.keys12
+
+pub returns-in-17 : goal.returns-in-17
+unfolding form_of form_in opcodes between
+returns-in-17 c = ap form_of c.match.keys13
+
+pub returns-in-26 : goal.returns-in-26
+unfolding form_of form_in opcodes between
+returns-in-26 c = ap form_of c.match.keys14
+
+pub returns-in-27 : goal.returns-in-27
+unfolding form_of form_in opcodes between
+returns-in-27 c = ap form_of c.match.keys15
+
+pub returns-in-32 : goal.returns-in-32
+unfolding form_of form_in opcodes between
+returns-in-32 c = ap form_of c.match.keys16
+
+pub returns-in-33 : goal.returns-in-33
+unfolding form_of form_in opcodes between
+returns-in-33 c = ap form_of c.match.keys17
+
+pub returns-in-34 : goal.returns-in-34
+unfolding form_of form_in opcodes between
+returns-in-34 c = ap form_of c.match.keys18
+
+pub returns-in-35 : goal.returns-in-35
+unfolding form_of form_in opcodes between
+returns-in-35 c = ap form_of c.match.keys19
+
+pub returns-in-36 : goal.returns-in-36
+unfolding form_of form_in opcodes between
+returns-in-36 c = ap form_of c.match.keys20
+
+pub returns-in-40 : goal.returns-in-40
+unfolding form_of form_in opcodes between
+returns-in-40 c = ap form_of c.match.keys21
+
+pub returns-in-41 : goal.returns-in-41
+unfolding form_of form_in opcodes between
+returns-in-41 c = ap form_of c.match.keys22
+
+pub returns-in-42 : goal.returns-in-42
+unfolding form_of form_in opcodes between
+returns-in-42 c = ap form_of c.match.keys23
+
+pub returns-in-43 : goal.returns-in-43
+unfolding form_of form_in opcodes between
+returns-in-43 c = ap form_of c.match.keys24
+
+pub returns-in-44 : goal.returns-in-44
+unfolding form_of form_in opcodes between
+returns-in-44 c = ap form_of c.match.keys25
+
+pub returns-in-45 : goal.returns-in-45
+unfolding form_of form_in opcodes between
+returns-in-45 c = ap form_of c.match.keys26
+
+pub returns-in-46 : goal.returns-in-46
+unfolding form_of form_in opcodes between
+returns-in-46 c = ap form_of c.match.keys27
+
+pub returns-in-47 : goal.returns-in-47
+unfolding form_of form_in opcodes between
+returns-in-47 c = ap form_of c.match.keys28
+
+pub returns-in-48 : goal.returns-in-48
+unfolding form_of form_in opcodes between
+returns-in-48 c = ap form_of c.match.keys29
+
+pub returns-in-49 : goal.returns-in-49
+unfolding form_of form_in opcodes between
+returns-in-49 c = ap form_of c.match.keys30
+
+pub returns-in-50 : goal.returns-in-50
+unfolding form_of form_in opcodes between
+returns-in-50 c = ap form_of c.match.keys31
+
+pub returns-in-51 : goal.returns-in-51
+unfolding form_of form_in opcodes between
+returns-in-51 c = ap form_of c.match.keys32
+
+pub returns-in-52 : goal.returns-in-52
+unfolding form_of form_in opcodes between
+returns-in-52 c = ap form_of c.match.keys33
+
+pub returns-in-53 : goal.returns-in-53
+unfolding form_of form_in opcodes between
+returns-in-53 c = ap form_of c.match.keys34
+
+pub returns-in-54 : goal.returns-in-54
+unfolding form_of form_in opcodes between
+returns-in-54 c = ap form_of c.match.keys35
+
+pub returns-in-55 : goal.returns-in-55
+unfolding form_of form_in opcodes between
+returns-in-55 c = ap form_of c.match.keys36
+
+pub returns-in-56 : goal.returns-in-56
+unfolding form_of form_in opcodes between
+returns-in-56 c = ap form_of c.match.keys37
+
+pub returns-in-57 : goal.returns-in-57
+unfolding form_of form_in opcodes between
+returns-in-57 c = ap form_of c.match.keys38
+
+pub returns-in-58 : goal.returns-in-58
+unfolding form_of form_in opcodes between
+returns-in-58 c = ap form_of c.match.keys39
+
+pub returns-in-59 : goal.returns-in-59
+unfolding form_of form_in opcodes between
+returns-in-59 c = ap form_of c.match.keys40
+
+pub returns-in-60 : goal.returns-in-60
+unfolding form_of form_in opcodes between
+returns-in-60 c = ap form_of c.match.keys41
+
+pub returns-in-61 : goal.returns-in-61
+unfolding form_of form_in opcodes between
+returns-in-61 c = ap form_of c.match.keys42
+
+pub returns-in-62 : goal.returns-in-62
+unfolding form_of form_in opcodes between
+returns-in-62 c = ap form_of c.match.keys43
+
+pub returns-in-63 : goal.returns-in-63
+unfolding form_of form_in opcodes between
+returns-in-63 c = ap form_of c.match.keys44
+
+pub returns-in-64 : goal.returns-in-64
+unfolding form_of form_in opcodes between
+returns-in-64 c = ap form_of c.match.keys45
+
+pub returns-in-65 : goal.returns-in-65
+unfolding form_of form_in opcodes between
+returns-in-65 c = ap form_of c.match.keys46
+
+pub returns-in-66 : goal.returns-in-66
+unfolding form_of form_in opcodes between
+returns-in-66 c = ap form_of c.match.keys47
+
+pub returns-in-67 : goal.returns-in-67
+unfolding form_of form_in opcodes between
+returns-in-67 c = ap form_of c.match.keys48
+
+pub returns-in-68 : goal.returns-in-68
+unfolding form_of form_in opcodes between
+returns-in-68 c = ap form_of c.match.keys49
+
+pub returns-in_default : goal.returns-in_default
+returns-in_default c = no_early _ c.before.requires c.match.rest

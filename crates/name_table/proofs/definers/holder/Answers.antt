@@ -1,0 +1,17 @@
+use Rattle.name_table.proofs.Holders.{held-table, held_place, helds}
+use Rattle.name_table.proofs.definers.holder.Goals as goal
+
+pub returns-then-id-eq0 : goal.returns-then-id-eq0
+returns-then-id-eq0 c = search (helds) depth 12
+
+pub find_name-requires : goal.find_name-requires
+find_name-requires c = search held-table
+
+pub overflow_add-definers_base : goal.overflow_add-definers_base
+overflow_add-definers_base c = search held_place
+
+pub returns-in-At : goal.returns-in-At
+returns-in-At c = search (helds) depth 12
+
+pub returns-in-Nothing : goal.returns-in-Nothing
+returns-in-Nothing c = search (helds) depth 12

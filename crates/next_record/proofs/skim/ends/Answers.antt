@@ -1,0 +1,11 @@
+use Rattle.next_record.proofs.Skims.{skims}
+use Rattle.next_record.proofs.skim.ends.Goals as goal
+
+pub returns-then-p-lt2 : goal.returns-then-p-lt2
+returns-then-p-lt2 c = search skims depth 8
+
+pub returns-in-Past : goal.returns-in-Past
+returns-in-Past c = search skims depth 8
+
+pub returns-in-Fault : goal.returns-in-Fault
+returns-in-Fault c = search skims depth 8

@@ -1,0 +1,20 @@
+use Rattle.runs.proofs.Running.{count-begin, count-readable, count_again, count-nothing, count-done, run-fewer}
+use Rattle.runs.proofs.count_runs.Goals as goal
+
+pub loop-left-init : goal.loop-left-init
+loop-left-init c = search count-begin
+
+pub run_at-requires : goal.run_at-requires
+run_at-requires c = search count-readable
+
+pub loop-left-smaller : goal.loop-left-smaller
+loop-left-smaller c = search run-fewer
+
+pub loop-left-preserved : goal.loop-left-preserved
+loop-left-preserved c = search count_again
+
+pub returns-in-Nothing : goal.returns-in-Nothing
+returns-in-Nothing c = search count-nothing
+
+pub returns : goal.returns
+returns c = search count-done

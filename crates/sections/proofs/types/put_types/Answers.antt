@@ -1,0 +1,20 @@
+use Rattle.sections.proofs.Tables.{typing_begin, typing_again, typing_done, typing_long, typing_room, typing_next}
+use Rattle.sections.proofs.types.put_types.Goals as goal
+
+pub loop-left-init : goal.loop-left-init
+loop-left-init c = search typing_begin
+
+pub put_type-o-requires : goal.put_type-o-requires
+put_type-o-requires c = search typing_room
+
+pub overflow_add-place : goal.overflow_add-place
+overflow_add-place c = search typing_next
+
+pub loop-left-preserved : goal.loop-left-preserved
+loop-left-preserved c = search typing_again
+
+pub shape_of-out : goal.shape_of-out
+shape_of-out c = search typing_long
+
+pub returns : goal.returns
+returns c = search typing_done

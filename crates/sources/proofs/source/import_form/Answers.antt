@@ -1,0 +1,20 @@
+use Rattle.coretypes.proofs.Ways.{type-answers}
+use Rattle.definition.specs.Records.{import_form}
+use Rattle.expr.proofs.Ways.{plain-answers}
+use Rattle.laws.proofs.Ways.{ways}
+use Rattle.sources.proofs.Ways.{source-answers}
+use Rattle.token.proofs.Ways.{answers}
+use Rattle.typeuse.proofs.Ways.{use-answers}
+use Rattle.sources.proofs.source.import_form.Goals as goal
+
+pub returns-in-Got-read_extern : goal.returns-in-Got-read_extern
+unfolding import_form
+returns-in-Got-read_extern c = search (ways, answers, type-answers, use-answers, plain-answers, source-answers) depth 12
+
+pub returns-in-Fault-read_extern : goal.returns-in-Fault-read_extern
+unfolding import_form
+returns-in-Fault-read_extern c = search (ways, answers, type-answers, use-answers, plain-answers, source-answers) depth 12
+
+pub returns-in-Fault : goal.returns-in-Fault
+unfolding import_form
+returns-in-Fault c = search (ways, answers, type-answers, use-answers, plain-answers, source-answers) depth 12

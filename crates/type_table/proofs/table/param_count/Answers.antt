@@ -1,0 +1,8 @@
+use Rattle.type_table.proofs.Types.{numbers}
+use Rattle.type_table.proofs.table.param_count.Goals as goal
+
+pub returns-then-total-n : goal.returns-then-total-n
+returns-then-total-n c = search (numbers) depth 8
+
+pub returns : goal.returns
+returns c = search (numbers) depth 8

@@ -1,0 +1,22 @@
+use Rattle.walk.proofs.Cursors.{visit_head, visit-ways}
+use Rattle.walk.proofs.Steps.{visit_sound}
+use borrow.Author.Rules.{rules}
+use Rattle.walk.proofs.visit.Goals as goal
+
+pub returns-then-c-lt1 : goal.returns-then-c-lt1
+returns-then-c-lt1 c = search visit-ways
+
+pub returns-then-c-ge4096 : goal.returns-then-c-ge4096
+returns-then-c-ge4096 c = search visit-ways
+
+pub returns-then-s-c : goal.returns-then-s-c
+returns-then-s-c c = search visit-ways
+
+pub known_field-requires : goal.known_field-requires
+known_field-requires c = search (visit_sound, rules)
+
+pub returns-in-Got : goal.returns-in-Got
+returns-in-Got c = (search visit-ways, search visit_head)
+
+pub returns-in-Fault : goal.returns-in-Fault
+returns-in-Fault c = search visit-ways
