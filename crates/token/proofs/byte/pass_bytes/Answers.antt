@@ -5,7 +5,7 @@ use Rattle.token.proofs.byte.pass_bytes.Goals as goal
 
 pub returns-then-n-eq0 : goal.returns-then-n-eq0
 unfolding many
-returns-then-n-eq0 c = rw c.if1.true
+returns-then-n-eq0 c = rw c.if-n-eq0.true
 
 pub returns-then-s-at : goal.returns-then-s-at
 returns-then-s-at c = bytes_out _ _ _ (omega arith) (omega arith)
