@@ -4,8 +4,6 @@ use mathlib.Core.List.{List, [], ◌∷◌}
 use mathlib.Core.Option.{some}
 use Prim.Native.Nat.{ℕ}
 use native.Mathlib.Omega.{arith}
-use types.Run.{OneOf, miss}
-use denote.Enum.Declared.{tag_of}
 use Rattle.definition.specs.Syntax as Syntax
 use Rattle.definition.specs.Syntax.{Bytes, Identifier}
 use Rattle.definition.specs.Reader.{Step, got, fault, onward, byte}
@@ -18,7 +16,6 @@ use Rattle.syntax.specs.declared.ByteAt.TheVariants as B
 use Rattle.syntax.specs.declared.Skip.{Skip}
 use Rattle.syntax.specs.declared.Skip.TheVariants as S
 use Rattle.syntax.specs.declared.Space.{Space}
-use Rattle.syntax.specs.contracts.Space as SpaceOf
 use Rattle.syntax.specs.declared.Space.TheVariants as K
 use Rattle.syntax.specs.declared.Spaces.{Spaces}
 use Rattle.syntax.specs.declared.Spaces.TheVariants as P
@@ -35,14 +32,14 @@ Pairs = List (Syntax.Space × Syntax.Index Identifier)
 
 module _ (k : Space) where
   -- the arm that is left: no memory
-  others : OneOf (0 ∷ 1 ∷ 3 ∷ 4 ∷ 5 ∷ 6 ∷ []) (tag_of SpaceOf.the_type k) → index_in (space_of k) ≡ present
+  others : (k ≡ K.Mems → ⊥) → index_in (space_of k) ≡ present
   unfolding index_in
   others h = go k h
     where
-      go : (j : Space) → OneOf (0 ∷ 1 ∷ 3 ∷ 4 ∷ 5 ∷ 6 ∷ []) (tag_of SpaceOf.the_type j) → index_in (space_of j) ≡ present
+      go : (j : Space) → (j ≡ K.Mems → ⊥) → index_in (space_of j) ≡ present
       go K.Funcs h = refl
       go K.Tables h = refl
-      go K.Mems h = absurd (miss (0 ∷ 1 ∷ 3 ∷ 4 ∷ 5 ∷ 6 ∷ []) 2 tt h)
+      go K.Mems h = absurd (h refl)
       go K.Globals h = refl
       go K.Types h = refl
       go K.Elems h = refl
@@ -54,7 +51,7 @@ module _ (k : Space) where
       unfolding index_in
       in_memory d p = rw d p
 
-      pub in_other : OneOf (0 ∷ 1 ∷ 3 ∷ 4 ∷ 5 ∷ 6 ∷ []) (tag_of SpaceOf.the_type k) → present s at ≡ x → index_in (space_of k) s at ≡ x
+      pub in_other : (k ≡ K.Mems → ⊥) → present s at ≡ x → index_in (space_of k) s at ≡ x
       in_other h p = rw (others h) p
 
     module _ (x : Step (Unit {0})) where
@@ -62,7 +59,7 @@ module _ (k : Space) where
       unfolding index_in
       memory_past d p = rw d p
 
-      pub other-past : OneOf (0 ∷ 1 ∷ 3 ∷ 4 ∷ 5 ∷ 6 ∷ []) (tag_of SpaceOf.the_type k) → stops (present s at) ≡ x → stops (index_in (space_of k) s at) ≡ x
+      pub other-past : (k ≡ K.Mems → ⊥) → stops (present s at) ≡ x → stops (index_in (space_of k) s at) ≡ x
       other-past h p = rw (others h) p
 
 -- ## Indices that are passed over

@@ -2,8 +2,6 @@
 use mathlib.Core.Path.{◌≡◌, refl, sym, ◌∙◌, ap}
 use Prim.Native.Nat.{ℕ}
 use mathlib.Core.List.{List, [], ◌∷◌}
-use types.Run.{OneOf, miss}
-use denote.Enum.Declared.{tag_of}
 use native.Mathlib.Omega.{arith}
 use Rattle.definition.specs.Syntax.{Bytes, Identifier, Instr, folded}
 use Rattle.definition.specs.Reader.{Step, got, fault, onward, byte}
@@ -27,7 +25,6 @@ use Rattle.syntax.specs.declared.Operands.{Operands}
 use Rattle.syntax.specs.Instructions.{form_is}
 use Rattle.syntax.specs.declared.Form as Code
 use Rattle.syntax.specs.declared.Form.TheVariants as F
-use Rattle.syntax.specs.contracts.Form as FormOf
 use Rattle.syntax.specs.declared.Folding.TheVariants as FO
 use Rattle.token.proofs.Skips.{Gave, stops-made, stops_then, gave, gave_not}
 use Rattle.token.specs.Known.{Gets}
@@ -102,9 +99,6 @@ module _ (s : Bytes) (at : ℕ) (u : Skip) (told : stops (operator s at) ≡ ski
 gets_not : {A : Type 0} {m : Step A} → Gets m → (n : ℕ) → m ≡ fault n → ⊥
 gets_not g n e = let z : got g.value g.next ≡ fault n = sym g.is ∙ e in let o : ◌≡◌ {A = ℕ} 0 1 = cc in absurd (omega arith)
 
-abbrev Barred : List ℕ
-Barred = 0 ∷ 1 ∷ 2 ∷ 3 ∷ []
-
 -- what stands after the opcode of its operator, by the form
 module _ (s : Bytes) (op at : ℕ) (f : Code.Form) (says : form_of op ≡ form_is f) (x : Step (Unit {0})) where
   pub form_plain : (w : Operands) → f ≡ F.Operands w → stops (plain_of 0 (operands_is w) s at) ≡ x → stops (operator_of op (form_of op) s at) ≡ x
@@ -116,17 +110,17 @@ module _ (s : Bytes) (op at : ℕ) (f : Code.Form) (says : form_of op ≡ form_i
   form_calls e p = rw (says, e) p
 
   -- none other can be folded
-  pub form_barred : OneOf Barred (tag_of FormOf.the_type f) → fault 4 ≡ x → stops (operator_of op (form_of op) s at) ≡ x
+  pub form_barred : ((w : Operands) → f ≡ F.Operands w → ⊥) → (f ≡ F.Calling → ⊥) → fault 4 ≡ x → stops (operator_of op (form_of op) s at) ≡ x
   unfolding may_fold
-  form_barred h p = go f refl h
+  form_barred h k p = go f refl
     where
-      go : (g : Code.Form) → f ≡ g → OneOf Barred (tag_of FormOf.the_type g) → stops (operator_of op (form_of op) s at) ≡ x
-      go F.NoOpcode e l = rw (says, e) p
-      go F.Opening e l = rw (says, e) p
-      go F.Elsing e l = rw (says, e) p
-      go F.Ending e l = rw (says, e) p
-      go F.Calling e l = absurd (miss Barred 4 tt l)
-      go (F.Operands w) e l = absurd (miss Barred 5 tt l)
+      go : (g : Code.Form) → f ≡ g → stops (operator_of op (form_of op) s at) ≡ x
+      go F.NoOpcode e = rw (says, e) p
+      go F.Opening e = rw (says, e) p
+      go F.Elsing e = rw (says, e) p
+      go F.Ending e = rw (says, e) p
+      go F.Calling e = absurd (k e)
+      go (F.Operands w) e = absurd (h w e)
 
 pub ruleset skipped = (form_plain, form_calls, form_barred, refl)
 
