@@ -201,4 +201,4 @@ unfolding form_of form_in opcodes between
 returns-in-68 c = ap form_of c.in-68.is
 
 pub returns-in_default : goal.returns-in_default
-returns-in_default c = no_early _ c.requires c.in_default.is
+returns-in_default c = search no_early
