@@ -6,8 +6,6 @@ use mathlib.Core.List.{List, [], ◌∷◌}
 use mathlib.Core.Option.{Option, none, some}
 use lib.Dec.{eqb, leb}
 use lib.ListN.{get_or}
-use types.Run.{OneOf, miss}
-use denote.Enum.Declared.{tag_of}
 use borrow.Author.Tests.{eq-eqb, ne_eqb, le-leb, lt-leb, leb-false}
 use native.Mathlib.Omega.{arith}
 use Rattle.definition.specs.Basic.{if◌then◌else◌}
@@ -28,7 +26,6 @@ use Rattle.syntax.specs.declared.Operands as Code
 use Rattle.syntax.specs.Instructions.{form_is}
 use Rattle.syntax.specs.declared.Form.{Form}
 use Rattle.syntax.specs.declared.Form.TheVariants as FM
-use Rattle.syntax.specs.contracts.Form as FormOf
 use Rattle.instr.specs.Readers.{count_of}
 use Rattle.syntax.specs.declared.Place.{Place}
 use Rattle.next_record.specs.Uses.{may_use, names_data, sort_names}
@@ -57,9 +54,6 @@ none_more d = rw (or_false d.uses, or_false d.names) refl
 
 -- ## The operator
 
-abbrev Barred : List ℕ
-Barred = 0 ∷ 1 ∷ 2 ∷ 3 ∷ []
-
 -- by its opcode and the byte after it
 module _ (s : Bytes) (at : ℕ) (does : Does) (q : ByteAt) (told : byte s at ≡ byte_at q) where
   pub does_no_byte : (n : ℕ) → q ≡ B.Fault n → does ≡ both_do does (does_at s at)
@@ -83,16 +77,16 @@ module _ (s : Bytes) (at : ℕ) (does : Does) (q : ByteAt) (told : byte s at ≡
       pub does_plain : n ≡ false → does ≡ both_do does (does_at s at)
       does_plain t = sym (rw (by_form, e, ← i, t) (none_more does))
 
-    pub does_barred : OneOf Barred (tag_of FormOf.the_type f) → does ≡ both_do does (does_at s at)
-    does_barred h = sym (ap (both_do does) (by_form ∙ go f h) ∙ none_more does)
+    pub does_barred : (f ≡ FM.Calling → ⊥) → ((w : Code.Operands) → f ≡ FM.Operands w → ⊥) → does ≡ both_do does (does_at s at)
+    does_barred h k = sym (ap (both_do does) (by_form ∙ go f h k) ∙ none_more does)
       where
-        go : (g : Form) → OneOf Barred (tag_of FormOf.the_type g) → form_does (form_is g) (get_or s a 0) ≡ none_do
-        go FM.NoOpcode l = refl
-        go FM.Opening l = refl
-        go FM.Elsing l = refl
-        go FM.Ending l = refl
-        go FM.Calling l = absurd (miss Barred 4 tt l)
-        go (FM.Operands w) l = absurd (miss Barred 5 tt l)
+        go : (g : Form) → (g ≡ FM.Calling → ⊥) → ((w : Code.Operands) → g ≡ FM.Operands w → ⊥) → form_does (form_is g) (get_or s a 0) ≡ none_do
+        go FM.NoOpcode h k = refl
+        go FM.Opening h k = refl
+        go FM.Elsing h k = refl
+        go FM.Ending h k = refl
+        go FM.Calling h k = absurd (h refl)
+        go (FM.Operands w) h k = absurd (k w refl)
 
 pub ruleset operators = (does_no_byte, does_calling, does_name, does_plain, does_barred)
 

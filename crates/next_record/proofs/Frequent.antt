@@ -5,8 +5,6 @@ use mathlib.Core.List.{List, [], ◌∷◌}
 use mathlib.Core.Option.{Option, none, some}
 use Prim.Native.Nat.{ℕ, ◌<◌}
 use lib.Dec.{ltb}
-use types.Run.{OneOf, miss}
-use denote.Enum.Declared.{tag_of}
 use borrow.Author.Tests.{le-ltb}
 use Rattle.definition.specs.Basic.{between}
 use Rattle.definition.specs.Syntax.{Bytes}
@@ -25,7 +23,6 @@ use Rattle.next_record.specs.Uses.{sort_names}
 use Rattle.next_record.specs.Often.{form_sort, sort, OftenIs, often_stops}
 use Rattle.next_record.specs.declared.often.Often.{Often}
 use Rattle.next_record.specs.declared.often.Often.TheVariants as O
-use Rattle.next_record.specs.contracts.often.Often as OftenOf
 
 -- ## What is told of an opcode
 
@@ -65,46 +62,40 @@ pub record Met (b : ℕ) (s : Bytes) (at : ℕ) (x : Step (Unit {0})) : Type 0 w
   pub past : stops (plain_of 0 (operands_is what) s at) ≡ x
   pub calm : (n : ℕ) → false ≡ sort_names (operands_is what) n
 
-abbrev pub Frequent : List ℕ
-Frequent = 0 ∷ 1 ∷ 2 ∷ 3 ∷ []
-
-not_rare : (r : Often) → O.Rare ≡ r → OneOf Frequent (tag_of OftenOf.the_type r) → ⊥
-not_rare r e h = miss Frequent 4 tt (rw (← e) at h)
-
-is-sort : (b : ℕ) (r : Often) → OftenIs b r → OneOf Frequent (tag_of OftenOf.the_type r) → sort b ≡ r
+is-sort : (b : ℕ) (r : Often) → OftenIs b r → (r ≡ O.Rare → ⊥) → sort b ≡ r
 unfolding OftenIs
 is-sort b O.Nothing e h = e
 is-sort b O.Index e h = e
 is-sort b O.Access e h = e
 is-sort b O.Number e h = e
-is-sort b O.Rare e h = absurd (not_rare O.Rare refl h)
+is-sort b O.Rare e h = absurd (h refl)
 
-pub met_often : (b : ℕ) (r : Often) → OftenIs b r → OneOf Frequent (tag_of OftenOf.the_type r) → (s : Bytes) (at : ℕ) (x : Step (Unit {0})) → often_stops r s at ≡ x → Met b s at x
+pub met_often : (b : ℕ) (r : Often) → OftenIs b r → (r ≡ O.Rare → ⊥) → (s : Bytes) (at : ℕ) (x : Step (Unit {0})) → often_stops r s at ≡ x → Met b s at x
 met_often b r e h s at x p = go (form_of b) refl (is-sort b r e h)
   where
     by : (w : Operands) → form_of b ≡ form_is (FM.Operands w) → stops (plain_of 0 (operands_is w) s at) ≡ x → ((n : ℕ) → false ≡ sort_names (operands_is w) n) → Met b s at x
     by w f q c = record { what = w; says = f; past = q; calm = c }
 
     go : (m : Option Instructions.Form) → form_of b ≡ m → form_sort m ≡ r → Met b s at x
-    go none f i = absurd (not_rare r i h)
-    go (some opening) f i = absurd (not_rare r i h)
-    go (some elsing) f i = absurd (not_rare r i h)
-    go (some ending) f i = absurd (not_rare r i h)
-    go (some calling) f i = absurd (not_rare r i h)
+    go none f i = absurd (h (sym i))
+    go (some opening) f i = absurd (h (sym i))
+    go (some elsing) f i = absurd (h (sym i))
+    go (some ending) f i = absurd (h (sym i))
+    go (some calling) f i = absurd (h (sym i))
     go (some (operands Instructions.bare)) f i = by W.Bare f (bare_past 0 s at x (rw (← i) at p)) (λ n. refl)
     go (some (operands Instructions.labelidx)) f i = by W.LabelIdx f (label-past 0 s at x (rw (← i) at p)) (λ n. refl)
-    go (some (operands Instructions.labelidxs)) f i = absurd (not_rare r i h)
+    go (some (operands Instructions.labelidxs)) f i = absurd (h (sym i))
     go (some (operands Instructions.localidx)) f i = by W.LocalIdx f (local-past 0 s at x (rw (← i) at p)) (λ n. refl)
     go (some (operands Instructions.funcidx)) f i = by W.FuncIdx f (func-past 0 s at x (rw (← i) at p)) (λ n. refl)
     go (some (operands Instructions.globalidx)) f i = by W.GlobalIdx f (global-past 0 s at x (rw (← i) at p)) (λ n. refl)
-    go (some (operands Instructions.memidx)) f i = absurd (not_rare r i h)
+    go (some (operands Instructions.memidx)) f i = absurd (h (sym i))
     go (some (operands Instructions.memarg)) f i = by W.MemArg f (rw (← i) at p) (λ n. refl)
     go (some (operands Instructions.i32)) f i = by W.I32 f (i32_past 0 s at x (rw (← i) at p)) (λ n. refl)
-    go (some (operands Instructions.i64)) f i = absurd (not_rare r i h)
-    go (some (operands Instructions.f32)) f i = absurd (not_rare r i h)
-    go (some (operands Instructions.f64)) f i = absurd (not_rare r i h)
-    go (some (operands Instructions.heaptype)) f i = absurd (not_rare r i h)
-    go (some (operands Instructions.bulk)) f i = absurd (not_rare r i h)
+    go (some (operands Instructions.i64)) f i = absurd (h (sym i))
+    go (some (operands Instructions.f32)) f i = absurd (h (sym i))
+    go (some (operands Instructions.f64)) f i = absurd (h (sym i))
+    go (some (operands Instructions.heaptype)) f i = absurd (h (sym i))
+    go (some (operands Instructions.bulk)) f i = absurd (h (sym i))
 
 -- ## Passed over
 

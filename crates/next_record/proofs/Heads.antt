@@ -4,8 +4,6 @@ use Prim.Native.Nat.{ℕ, ◌≤◌}
 use mathlib.Core.Bool.{Bool, true, false}
 use lib.Dec.{leb}
 use lib.ListN.{get_or}
-use types.Run.{OneOf}
-use denote.Enum.Declared.{tag_of}
 use borrow.Author.Tests.{leb-true}
 use native.Mathlib.Omega.{arith}
 use Rattle.definition.specs.Syntax as Syntax
@@ -31,8 +29,8 @@ use Rattle.next_record.specs.declared.record.Does.{Does}
 use Rattle.next_record.specs.declared.head.HeadAt.{HeadAt}
 use Rattle.next_record.specs.declared.head.HeadAt.TheVariants as H
 use Rattle.next_record.specs.declared.often.Often.{Often}
-use Rattle.next_record.specs.contracts.often.Often as OftenOf
-use Rattle.next_record.proofs.Frequent.{Met, Frequent, met_often}
+use Rattle.next_record.specs.declared.often.Often.TheVariants as O
+use Rattle.next_record.proofs.Frequent.{Met, met_often}
 use Rattle.next_record.proofs.Folding.{does_plain, head-got, head_not}
 
 module _ (s : Bytes) (at : ℕ) (does : Does) (x : HeadAt) (q : ByteAt) (told : byte s at ≡ byte_at q) where
@@ -41,7 +39,7 @@ module _ (s : Bytes) (at : ℕ) (does : Does) (x : HeadAt) (q : ByteAt) (told : 
   no_operator n d a = head_not s at does x (U32.Fault n) (fold_not s at (K.Fault n) (operator-none s at (skip (K.Fault n)) q told n d refl) n (fault n) refl refl) n refl a
 
   -- operands that are met often: the operator does nothing
-  module _ (b a : ℕ) (d : q ≡ B.Got b a) (r : Often) (is : OftenIs b r) (h : OneOf Frequent (tag_of OftenOf.the_type r)) (u : Skip) (past : often_stops r s a ≡ skip u) where
+  module _ (b a : ℕ) (d : q ≡ B.Got b a) (r : Often) (is : OftenIs b r) (h : (r ≡ O.Rare → ⊥)) (u : Skip) (past : often_stops r s a ≡ skip u) where
     met : Met b s a (skip u)
     met = met_often b r is h s a (skip u) past
 

@@ -7,5 +7,3 @@ pub mod Frequent
 pub mod Heads
 pub mod Along
 pub mod Steps
-pub mod Lent
-pub mod LentTypes

@@ -6,8 +6,6 @@ use mathlib.Core.List.{List, [], ◌∷◌}
 use mathlib.Core.Option.{Option, none, some}
 use lib.Dec.{ltb}
 use lib.ListN.{length, get_or}
-use types.Run.{OneOf, miss}
-use denote.Enum.Declared.{tag_of}
 use borrow.Author.Tests.{ne_eqb}
 use native.Mathlib.Omega.{arith}
 use Rattle.definition.specs.Basic.{if◌then◌else◌}
@@ -20,7 +18,6 @@ use Rattle.laws.proofs.Backwards.{came}
 use Rattle.syntax.specs.Plain.{operands_is}
 use Rattle.syntax.specs.declared.Operands as Code
 use Rattle.syntax.specs.declared.Operands.TheVariants as W
-use Rattle.syntax.specs.contracts.Operands as OperandsOf
 use Rattle.next_record.specs.Uses.{byte_names, operand_names, sort_names}
 use Rattle.next_record.specs.Answers.{plain_inside}
 use Rattle.next_record.specs.declared.record.Inside.TheVariants as N
@@ -82,11 +79,8 @@ module _ (w : Code.Operands) (s : Bytes) (at b : ℕ) (is : w ≡ W.Bulk) (e : b
   pub bulk_not : (b ≡ 0x08 → ⊥) → (b ≡ 0x09 → ⊥) → false ≡ sort_names (operands_is w) (get_or s at 0)
   bulk_not h g = rw (is, ← e, ne_eqb b 0x08 h, ne_eqb b 0x09 g)
 
-abbrev pub Others : List ℕ
-Others = 0 ∷ 1 ∷ 2 ∷ 3 ∷ 4 ∷ 5 ∷ 6 ∷ 7 ∷ 8 ∷ 9 ∷ 10 ∷ 11 ∷ 12 ∷ []
-
 -- no other operands name a data segment
-pub others_not : (w : Code.Operands) (n : ℕ) → OneOf Others (tag_of OperandsOf.the_type w) → false ≡ sort_names (operands_is w) n
+pub others_not : (w : Code.Operands) (n : ℕ) → (w ≡ W.Bulk → ⊥) → false ≡ sort_names (operands_is w) n
 others_not W.Bare n h = refl
 others_not W.LabelIdx n h = refl
 others_not W.LabelIdxs n h = refl
@@ -100,7 +94,7 @@ others_not W.I64 n h = refl
 others_not W.F32 n h = refl
 others_not W.F64 n h = refl
 others_not W.HeapType n h = refl
-others_not W.Bulk n h = absurd (miss Others 13 tt h)
+others_not W.Bulk n h = absurd (h refl)
 
 pub ruleset names-told = (bulk_init, bulk_drop, bulk_not, others_not)
 

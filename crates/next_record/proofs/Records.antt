@@ -6,8 +6,6 @@ use mathlib.Core.List.{[], ◌∷◌}
 use mathlib.Core.Option.{none, some}
 use lib.Dec.{leb}
 use borrow.Author.Tests.{le-leb, ne_eqb}
-use types.Run.{OneOf, miss}
-use denote.Enum.Declared.{tag_of}
 use native.Mathlib.Omega.{arith}
 use Rattle.definition.specs.Basic.{ok, refused, between, is_some}
 use Rattle.definition.specs.Syntax.{Bytes, field}
@@ -29,7 +27,6 @@ use Rattle.syntax.specs.Marks.{no_marks, inside_of}
 use Rattle.syntax.specs.declared.Marks.{Marks}
 use Rattle.syntax.specs.declared.Form.{Form}
 use Rattle.syntax.specs.declared.Form.TheVariants as FM
-use Rattle.syntax.specs.contracts.Form as FormOf
 use Rattle.next_record.specs.Places.{body_of, depth_of, record_past, place_after, field_record_at}
 use Rattle.next_record.specs.Answers.{field_depth}
 use Rattle.syntax.specs.declared.Place.{Place}
@@ -103,16 +100,16 @@ unfolding is_some
 begins_not b d r h m n e g = ap (λ x. is_some (form_is x)) (sym g) ∙ some_form b d r h m n e
 
 -- every other form is one
-is_form : (r : Form) → OneOf (1 ∷ 2 ∷ 3 ∷ 4 ∷ 5 ∷ []) (tag_of FormOf.the_type r) → true ≡ is_some (form_is r)
+is_form : (r : Form) → (r ≡ FM.NoOpcode → ⊥) → true ≡ is_some (form_is r)
 unfolding is_some
-is_form FM.NoOpcode h = absurd (miss (1 ∷ 2 ∷ 3 ∷ 4 ∷ 5 ∷ []) 0 tt h)
+is_form FM.NoOpcode h = absurd (h refl)
 is_form FM.Opening h = refl
 is_form FM.Elsing h = refl
 is_form FM.Ending h = refl
 is_form FM.Calling h = refl
 is_form (FM.Operands w) h = refl
 
-pub begins_form : (b d : ℕ) (r : Form) → 1 ≤ d → (b ≡ 0xF0 → ⊥) → (b ≡ 0xFF → ⊥) → form_of b ≡ form_is r → OneOf (1 ∷ 2 ∷ 3 ∷ 4 ∷ 5 ∷ []) (tag_of FormOf.the_type r)
+pub begins_form : (b d : ℕ) (r : Form) → 1 ≤ d → (b ≡ 0xF0 → ⊥) → (b ≡ 0xFF → ⊥) → form_of b ≡ form_is r → (r ≡ FM.NoOpcode → ⊥)
     → true ≡ begins_in b (body_of d no_marks)
 begins_form b d r h m n e t = is_form r t ∙ some_form b d r h m n e
 

@@ -2,21 +2,19 @@
 use mathlib.Core.Path.{◌≡◌, refl}
 use Prim.Native.Nat.{ℕ}
 use mathlib.Core.Bool.{Bool, true, false}
-use mathlib.Core.List.{List, [], ◌∷◌}
+use mathlib.Core.List.{List}
 use lib.ListN.{get_or}
-use types.Run.{OneOf, miss}
-use denote.Enum.Declared.{tag_of}
 use Rattle.definition.specs.Basic.{if◌then◌else◌}
 use Rattle.definition.specs.Read.{begins_in}
+use Rattle.syntax.specs.declared.Part.{Part}
+use Rattle.syntax.specs.declared.List as Records
+use Rattle.syntax.specs.declared.TypeUse.{TypeUse}
 use Rattle.syntax.specs.declared.Own.{Own}
 use Rattle.syntax.specs.declared.Own.TheVariants as O
-use Rattle.syntax.specs.contracts.Own as OwnOf
 use Rattle.syntax.specs.declared.Source.{Source}
 use Rattle.syntax.specs.declared.Source.TheVariants as S
-use Rattle.syntax.specs.contracts.Source as SourceOf
 use Rattle.syntax.specs.declared.Field.{Field}
 use Rattle.syntax.specs.declared.Field.TheVariants as F
-use Rattle.syntax.specs.contracts.Field as FieldOf
 use Rattle.next_record.specs.Places.{body_of, record_past}
 use Rattle.next_record.specs.Answers.{own_depth, source_depth, field_depth, on_past}
 use Rattle.syntax.specs.Marks.{no_marks}
@@ -36,22 +34,22 @@ pub own-deep : (n : ℕ) (o v : Own) → o ≡ v → n ≡ own_depth v → n ≡
 own-deep n o v e d = rw e d
 
 -- no other begins a body
-pub own_flat : (o : Own) → OneOf (1 ∷ 2 ∷ 3 ∷ []) (tag_of OwnOf.the_type o) → ◌≡◌ {A = ℕ} 0 (own_depth o)
-own_flat (O.Func t ls) h = absurd (miss (1 ∷ 2 ∷ 3 ∷ []) 0 tt h)
+pub own_flat : (o : Own) → ((t : TypeUse) (ls : Records.List) → o ≡ O.Func t ls → ⊥) → ◌≡◌ {A = ℕ} 0 (own_depth o)
+own_flat (O.Func t ls) h = absurd (h t ls refl)
 own_flat (O.Table t) h = refl
 own_flat (O.Mem l) h = refl
 own_flat (O.Global t c) h = refl
 
-pub source_flat : (x : Source) → OneOf (1 ∷ 2 ∷ 3 ∷ []) (tag_of SourceOf.the_type x) → ◌≡◌ {A = ℕ} 0 (source_depth x)
-source_flat (S.Own o) h = absurd (miss (1 ∷ 2 ∷ 3 ∷ []) 0 tt h)
+pub source_flat : (x : Source) → ((o : Own) → x ≡ S.Own o → ⊥) → ◌≡◌ {A = ℕ} 0 (source_depth x)
+source_flat (S.Own o) h = absurd (h o refl)
 source_flat (S.Imported n x) h = refl
 source_flat (S.TableOf w xs) h = refl
 source_flat (S.MemOf w d) h = refl
 
-pub field_flat : (f : Field) → OneOf (0 ∷ 1 ∷ 3 ∷ 4 ∷ 5 ∷ 6 ∷ []) (tag_of FieldOf.the_type f) → ◌≡◌ {A = ℕ} 0 (field_depth f)
+pub field_flat : (f : Field) → ((i : Part) (es : Records.List) (x : Source) → f ≡ F.Item i es x → ⊥) → ◌≡◌ {A = ℕ} 0 (field_depth f)
 field_flat (F.Type i ps rs) h = refl
 field_flat (F.Import n i x) h = refl
-field_flat (F.Item i es x) h = absurd (miss (0 ∷ 1 ∷ 3 ∷ 4 ∷ 5 ∷ 6 ∷ []) 2 tt h)
+field_flat (F.Item i es x) h = absurd (h i es x refl)
 field_flat (F.Export n k x) h = refl
 field_flat (F.Start x) h = refl
 field_flat (F.Elem i m xs) h = refl

@@ -25,4 +25,4 @@ returns-in-NoOpcode c = search (begins-low, begins-field, begins-folded, begins_
 
 pub returns-in_default : goal.returns-in_default
 unfolding is_some
-returns-in_default c = search (begins-low, begins-field, begins-folded, begins_end, begins_not, begins_form, refl) depth 8
+returns-in_default c = search (begins_form, c.in_default.not-NoOpcode) depth 8

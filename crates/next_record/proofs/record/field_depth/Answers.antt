@@ -6,10 +6,10 @@ pub returns-in-Func : goal.returns-in-Func
 returns-in-Func c = search (field-deep, source-deep, own-deep, refl) depth 8
 
 pub returns-in_default-o : goal.returns-in_default-o
-returns-in_default-o c = search (field-deep, source-deep, own_flat) depth 8
+returns-in_default-o c = field-deep 0 _ _ c.in-Item.is (source-deep 0 _ _ c.in-Own.is (own_flat _ c.in_default-o.not-Func))
 
 pub returns-in_default-source : goal.returns-in_default-source
-returns-in_default-source c = search (field-deep, source_flat) depth 8
+returns-in_default-source c = field-deep 0 _ _ c.in-Item.is (source_flat _ c.in_default-source.not-Own)
 
 pub returns-in_default : goal.returns-in_default
-returns-in_default c = search field_flat
+returns-in_default c = field_flat _ c.in_default.not-Item
