@@ -5,8 +5,6 @@ use mathlib.Core.Bool.{false}
 use mathlib.Core.List.{List, [], ◌∷◌, ◌++◌, append-nil}
 use lib.ListN.{length}
 use borrow.Author.Tests.{le-leb}
-use types.Run.{OneOf, miss}
-use denote.Enum.Declared.{tag_of}
 use native.Mathlib.Omega.{arith}
 use Rattle.definition.specs.Basic.{Answer, ok, ◌>>=◌, concat_map}
 use Rattle.definition.specs.Syntax as Syntax
@@ -23,7 +21,6 @@ use Rattle.syntax.specs.declared.Refusal.{Refusal}
 use Rattle.syntax.specs.declared.Operands.{Operands}
 use Rattle.syntax.specs.declared.Form as Code
 use Rattle.syntax.specs.declared.Form.TheVariants as F
-use Rattle.syntax.specs.contracts.Form as FormOf
 use Rattle.syntax.specs.declared.Folding.{Folding}
 use Rattle.syntax.specs.declared.Folding.TheVariants as FO
 use Rattle.emit.specs.Put.{Put}
@@ -48,24 +45,21 @@ use Rattle.code.proofs.Stretches.{concat_append, all_after, after-after, resolva
 
 -- ## `operator_record`
 
-abbrev Barred : List ℕ
-Barred = 0 ∷ 1 ∷ 2 ∷ 3 ∷ []
-
 module _ (s w : List ℕ) (l : Locals) (k rec here op : ℕ) (f : Code.Form) (says : form_of op ≡ form_is f) where
   abbrev Operator : Step (Syntax.Instr Identifier)
   Operator = operator_of op (form_of op) s here
 
   -- no opcode, or one that is barred
-  pub operator_barred : (old : List ℕ) (at : ℕ) → OneOf Barred (tag_of FormOf.the_type f) → Turned s w (locals_in s w l) k rec (record_of (operator_of op (form_of op) s here)) old at T.Done w old
-  operator_barred old at h = turned-fault s w (locals_in s w l) k rec (record_of Operator) old at 4 (ap (λ (m : Step (Syntax.Instr Identifier)). record_of m) (go f refl h))
+  pub operator_barred : (old : List ℕ) (at : ℕ) → (f ≡ F.Calling → ⊥) → ((v : Operands) → f ≡ F.Operands v → ⊥) → Turned s w (locals_in s w l) k rec (record_of (operator_of op (form_of op) s here)) old at T.Done w old
+  operator_barred old at h i = turned-fault s w (locals_in s w l) k rec (record_of Operator) old at 4 (ap (λ (m : Step (Syntax.Instr Identifier)). record_of m) (go f refl))
     where
-      go : (g : Code.Form) → f ≡ g → OneOf Barred (tag_of FormOf.the_type g) → operator_of op (form_of op) s here ≡ fault 4
-      go F.NoOpcode e h = rw (says, e)
-      go F.Opening e h = unfold may_fold in rw (says, e)
-      go F.Elsing e h = unfold may_fold in rw (says, e)
-      go F.Ending e h = unfold may_fold in rw (says, e)
-      go F.Calling e h = absurd (miss Barred 4 tt h)
-      go (F.Operands v) e h = absurd (miss Barred 5 tt h)
+      go : (g : Code.Form) → f ≡ g → operator_of op (form_of op) s here ≡ fault 4
+      go F.NoOpcode e = rw (says, e)
+      go F.Opening e = unfold may_fold in rw (says, e)
+      go F.Elsing e = unfold may_fold in rw (says, e)
+      go F.Ending e = unfold may_fold in rw (says, e)
+      go F.Calling e = absurd (h e)
+      go (F.Operands v) e = absurd (i v e)
 
   -- a call_indirect
   calling_is : (j : ℕ) → f ≡ F.Calling → Operator ≡ deep_instr j 0x11 calling s here
