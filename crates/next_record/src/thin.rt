@@ -1,5 +1,5 @@
-// Readers that take the place by reference and move it on; each calls the reader by value. Whatever lends a place is proved by hand, so the pass
-// uses `next_field` and `next_instr`, whose place is plain.
+// Readers that take the place by reference and move it on; each calls the reader by value. The pass uses `next_field` and `next_instr`, whose place
+// is plain.
 ghost use Rattle.std.specs.Prelude.{◌≡◌, ◌≤◌, ◌<◌};
 ghost use Rattle.syntax.specs.Items.{room_of};
 ghost use Rattle.next_record.specs.Marks.{mark_of};
