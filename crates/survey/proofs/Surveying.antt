@@ -7,8 +7,6 @@ use mathlib.Core.Option.{none, some}
 use lib.ListN.{length, get_or, set}
 use lib.Seq.{sets, get_or-set_same, get_or-set_other}
 use native.Mathlib.Omega.{arith}
-use types.Run.{OneOf, miss}
-use denote.Enum.Declared.{tag_of}
 use Rattle.definition.specs.Basic.{if◌then◌else◌, ok, ◌>>=◌, same_bytes}
 use Rattle.definition.specs.Syntax.{Bytes}
 use Rattle.definition.specs.Read.{field_body}
@@ -45,7 +43,6 @@ use Rattle.survey.specs.Survey.{types_after_order, types_then_names, lateness, f
 use Rattle.survey.specs.declared.late.Lateness.{Lateness}
 use Rattle.survey.specs.declared.late.Lateness.TheVariants as L
 use Rattle.survey.specs.declared.Ended.{Ended}
-use Rattle.survey.specs.contracts.Took as TookOf
 use Rattle.survey.specs.declared.Took.{Took}
 use Rattle.survey.specs.declared.Took.TheVariants as T
 use Rattle.survey.specs.declared.Surveyed.{Surveyed}
@@ -387,11 +384,11 @@ module _ (q : Took) (p : Refusal) (k' : ℕ) (e : q ≡ T.Name p k') (s w : List
   )
 
 -- either
-pub surveying_stops : (q : Took) → OneOf (1 ∷ 2 ∷ 3 ∷ []) (tag_of TookOf.the_type q) → (s w : List ℕ) (c : Cursor) (f : Field) (here k : ℕ) (w₁ : List ℕ) → Takes s w c f here k q w₁
+pub surveying_stops : (q : Took) → ((n : ℕ) → q ≡ T.Types n → ⊥) → (s w : List ℕ) (c : Cursor) (f : Field) (here k : ℕ) (w₁ : List ℕ) → Takes s w c f here k q w₁
     → (m : Met) → m.what ≡ W.Field f here → visit_in c.left c s ≡ visit_of s m → (w₀ : List ℕ) (late : Bool) → Surveying s w₀ w c late k
     → (u : Bool) → Ordering s m.next u → Reaches s w₀ q m.next u w₁
 unfolding Takes
-surveying_stops (T.Types k') h = absurd (miss (1 ∷ 2 ∷ 3 ∷ []) 0 tt h)
+surveying_stops (T.Types k') h = absurd (h k' refl)
 surveying_stops (T.Late r) h = λ s w c f here k w₁ took. absurd took
 surveying_stops (T.Use p) h = surveying_refused (T.Use p) p refl
 surveying_stops (T.Name p k') h = surveying_taken (T.Name p k') p k' refl
