@@ -2,9 +2,6 @@
 use Prim.Native.Nat.{ℕ}
 use mathlib.Core.Path.{◌≡◌, refl}
 use mathlib.Core.Bool.{Bool}
-use mathlib.Core.List.{[], ◌∷◌}
-use types.Run.{OneOf, miss}
-use denote.Enum.Declared.{tag_of}
 use Rattle.syntax.specs.Tokens.{space_of}
 use Rattle.syntax.specs.declared.Part.{Part}
 use Rattle.syntax.specs.declared.Space as Kind
@@ -17,7 +14,6 @@ use Rattle.syntax.specs.declared.Source.{Source}
 use Rattle.syntax.specs.declared.Source.TheVariants as S
 use Rattle.syntax.specs.declared.Field.{Field}
 use Rattle.syntax.specs.declared.Field.TheVariants as F
-use Rattle.syntax.specs.contracts.Field as FieldOf
 use Rattle.counting.specs.Counting.{source_space_of}
 use Rattle.deinline.specs.Entry.{section_no, exports_of, first_of, second_of, third_of, item_in}
 use Rattle.syntax.specs.declared.Entry.{Entry}
@@ -31,11 +27,11 @@ is-section n e v p d = rw p d
 pub is-item : (i : ItemIn) (f v : Field) → f ≡ v → i ≡ item_in v → i ≡ item_in f
 is-item i f v p d = rw p d
 
-pub not_item : (f : Field) → OneOf (0 ∷ 1 ∷ 3 ∷ 4 ∷ 5 ∷ 6 ∷ []) (tag_of FieldOf.the_type f) → I.Other ≡ item_in f
+pub not_item : (f : Field) → ((i : Part) (es : Code.List) (x : Source) → f ≡ F.Item i es x → ⊥) → I.Other ≡ item_in f
 unfolding item_in
 not_item (F.Type i ps rs) h = refl
 not_item (F.Import n i x) h = refl
-not_item (F.Item i es x) h = absurd (miss (0 ∷ 1 ∷ 3 ∷ 4 ∷ 5 ∷ 6 ∷ []) 2 tt h)
+not_item (F.Item i es x) h = absurd (h i es x refl)
 not_item (F.Export n k x) h = refl
 not_item (F.Start x) h = refl
 not_item (F.Elem i m xs) h = refl

@@ -6,8 +6,6 @@ use mathlib.Core.List.{List, [], ◌∷◌, append-nil}
 use mathlib.Core.Option.{none}
 use lib.ListN.{length}
 use native.Mathlib.Omega.{arith}
-use types.Run.{OneOf, miss}
-use denote.Enum.Declared.{tag_of}
 use Rattle.definition.specs.Basic.{Answer, ok, ◌>>=◌, concat_map}
 use Rattle.definition.specs.Syntax as Syntax
 use Rattle.definition.specs.Syntax.{Bytes, Identifier, FuncType, number, own_index, active, import_f, own_f, own_global, export_f, start_f, elem_f, data_f}
@@ -47,7 +45,6 @@ use Rattle.deinline.specs.Entry.{section_no, one_of, type_bytes, answer_of, uses
 use Rattle.entries.specs.Listed.{Answers, one_end, all_ends, NotCode}
 use Rattle.syntax.specs.declared.Entry.{Entry}
 use Rattle.syntax.specs.declared.Entry.TheVariants as E
-use Rattle.syntax.specs.contracts.Entry as EntryOf
 use Rattle.entries.specs.declared.EndsAt.{EndsAt}
 use Rattle.entries.specs.declared.EndsAt.TheVariants as A
 
@@ -153,51 +150,70 @@ module _ (Γ : Scope Identifier) (s : Bytes) (r : ℕ) (e : Entry) (old : List �
 -- ## Which are left
 
 -- after an arm for each entry of the sections 2 to 6
-abbrev After : List ℕ
-After = 8 ∷ 9 ∷ 10 ∷ 11 ∷ 12 ∷ 13 ∷ 14 ∷ 15 ∷ []
-
-pub late : (e : Entry) → OneOf After (tag_of EntryOf.the_type e) → 7 ≤ section_no e
-late E.Nothing h = absurd (miss After 0 tt h)
-late (E.Import n x) h = absurd (miss After 1 tt h)
-late (E.Func t) h = absurd (miss After 2 tt h)
-late (E.Table t) h = absurd (miss After 3 tt h)
-late (E.InlineTable w xs) h = absurd (miss After 4 tt h)
-late (E.Mem l) h = absurd (miss After 5 tt h)
-late (E.InlineMem w d) h = absurd (miss After 6 tt h)
-late (E.Global t c) h = absurd (miss After 7 tt h)
-late (E.Export n k x) h = omega arith
-late (E.Exports es k n) h = omega arith
-late (E.Start x) h = omega arith
-late (E.Elem m xs) h = omega arith
-late (E.InlineElem w n xs) h = omega arith
-late (E.Code t ls here) h = omega arith
-late (E.Data m d) h = omega arith
-late (E.InlineData w n d) h = omega arith
+pub late : (e : Entry)
+    → (e ≡ E.Nothing → ⊥)
+    → ((n : ImportName) (x : Extern) → e ≡ E.Import n x → ⊥)
+    → ((t : TypeUse) → e ≡ E.Func t → ⊥)
+    → ((t : TableType) → e ≡ E.Table t → ⊥)
+    → ((w : Bool) (xs : Code.List) → e ≡ E.InlineTable w xs → ⊥)
+    → ((l : Limits) → e ≡ E.Mem l → ⊥)
+    → ((w : Bool) (d : Part) → e ≡ E.InlineMem w d → ⊥)
+    → ((t : GlobalType) (c : ℕ) → e ≡ E.Global t c → ⊥)
+    → 7 ≤ section_no e
+late E.Nothing h _ _ _ _ _ _ _ = absurd (h refl)
+late (E.Import n x) _ h _ _ _ _ _ _ = absurd (h n x refl)
+late (E.Func t) _ _ h _ _ _ _ _ = absurd (h t refl)
+late (E.Table t) _ _ _ h _ _ _ _ = absurd (h t refl)
+late (E.InlineTable w xs) _ _ _ _ h _ _ _ = absurd (h w xs refl)
+late (E.Mem l) _ _ _ _ _ h _ _ = absurd (h l refl)
+late (E.InlineMem w d) _ _ _ _ _ _ h _ = absurd (h w d refl)
+late (E.Global t c) _ _ _ _ _ _ _ h = absurd (h t c refl)
+late (E.Export n k x) _ _ _ _ _ _ _ _ = omega arith
+late (E.Exports es k n) _ _ _ _ _ _ _ _ = omega arith
+late (E.Start x) _ _ _ _ _ _ _ _ = omega arith
+late (E.Elem m xs) _ _ _ _ _ _ _ _ = omega arith
+late (E.InlineElem w n xs) _ _ _ _ _ _ _ _ = omega arith
+late (E.Code t ls here) _ _ _ _ _ _ _ _ = omega arith
+late (E.Data m d) _ _ _ _ _ _ _ _ = omega arith
+late (E.InlineData w n d) _ _ _ _ _ _ _ _ = omega arith
 
 -- after an arm for each of the others but code
-abbrev Before : List ℕ
-Before = 0 ∷ 1 ∷ 2 ∷ 3 ∷ 4 ∷ 5 ∷ 6 ∷ 7 ∷ 13 ∷ []
+none_left : (e : Entry) → NotCode e → 7 ≤ section_no e
+    → ((n : Part) (k : Space) (x : Index) → e ≡ E.Export n k x → ⊥)
+    → ((es : Code.List) (k : Space) (n : ℕ) → e ≡ E.Exports es k n → ⊥)
+    → ((x : Index) → e ≡ E.Start x → ⊥)
+    → ((m : Mode) (xs : Code.List) → e ≡ E.Elem m xs → ⊥)
+    → ((w : Bool) (n : ℕ) (xs : Code.List) → e ≡ E.InlineElem w n xs → ⊥)
+    → ((m : Mode) (d : Part) → e ≡ E.Data m d → ⊥)
+    → ((w : Bool) (n : ℕ) (d : Part) → e ≡ E.InlineData w n d → ⊥)
+    → ⊥
+none_left E.Nothing q l _ _ _ _ _ _ _ = omega arith
+none_left (E.Import n x) q l _ _ _ _ _ _ _ = omega arith
+none_left (E.Func t) q l _ _ _ _ _ _ _ = omega arith
+none_left (E.Table t) q l _ _ _ _ _ _ _ = omega arith
+none_left (E.InlineTable w xs) q l _ _ _ _ _ _ _ = omega arith
+none_left (E.Mem l) q m _ _ _ _ _ _ _ = omega arith
+none_left (E.InlineMem w d) q l _ _ _ _ _ _ _ = omega arith
+none_left (E.Global t c) q l _ _ _ _ _ _ _ = omega arith
+none_left (E.Export n k x) q l h _ _ _ _ _ _ = h n k x refl
+none_left (E.Exports es k n) q l _ h _ _ _ _ _ = h es k n refl
+none_left (E.Start x) q l _ _ h _ _ _ _ = h x refl
+none_left (E.Elem m xs) q l _ _ _ h _ _ _ = h m xs refl
+none_left (E.InlineElem w n xs) q l _ _ _ _ h _ _ = h w n xs refl
+none_left (E.Code t ls here) q l _ _ _ _ _ _ _ = q.other refl
+none_left (E.Data m d) q l _ _ _ _ _ h _ = h m d refl
+none_left (E.InlineData w n d) q l _ _ _ _ _ _ h = h w n d refl
 
-none_left : (e : Entry) → NotCode e → 7 ≤ section_no e → OneOf Before (tag_of EntryOf.the_type e) → ⊥
-none_left E.Nothing q l h = omega arith
-none_left (E.Import n x) q l h = omega arith
-none_left (E.Func t) q l h = omega arith
-none_left (E.Table t) q l h = omega arith
-none_left (E.InlineTable w xs) q l h = omega arith
-none_left (E.Mem l) q k h = omega arith
-none_left (E.InlineMem w d) q l h = omega arith
-none_left (E.Global t c) q l h = omega arith
-none_left (E.Export n k x) q l h = miss Before 8 tt h
-none_left (E.Exports es k n) q l h = miss Before 9 tt h
-none_left (E.Start x) q l h = miss Before 10 tt h
-none_left (E.Elem m xs) q l h = miss Before 11 tt h
-none_left (E.InlineElem w n xs) q l h = miss Before 12 tt h
-none_left (E.Code t ls here) q l h = q.other refl
-none_left (E.Data m d) q l h = miss Before 14 tt h
-none_left (E.InlineData w n d) q l h = miss Before 15 tt h
-
-pub arm_left : (Γ : Scope Identifier) (s : Bytes) (r : ℕ) (e : Entry) (old : List ℕ) (at : ℕ) (new : List ℕ) → OneOf Before (tag_of EntryOf.the_type e) → NotCode e → 7 ≤ section_no e → Answers (answer_of Γ s r e) old at (A.Ends at 0) new
-arm_left Γ s r e old at new h q l = absurd (none_left e q l h)
+pub arm_left : (Γ : Scope Identifier) (s : Bytes) (r : ℕ) (e : Entry) (old : List ℕ) (at : ℕ) (new : List ℕ) → NotCode e → 7 ≤ section_no e
+    → ((n : Part) (k : Space) (x : Index) → e ≡ E.Export n k x → ⊥)
+    → ((es : Code.List) (k : Space) (n : ℕ) → e ≡ E.Exports es k n → ⊥)
+    → ((x : Index) → e ≡ E.Start x → ⊥)
+    → ((m : Mode) (xs : Code.List) → e ≡ E.Elem m xs → ⊥)
+    → ((w : Bool) (n : ℕ) (xs : Code.List) → e ≡ E.InlineElem w n xs → ⊥)
+    → ((m : Mode) (d : Part) → e ≡ E.Data m d → ⊥)
+    → ((w : Bool) (n : ℕ) (d : Part) → e ≡ E.InlineData w n d → ⊥)
+    → Answers (answer_of Γ s r e) old at (A.Ends at 0) new
+arm_left Γ s r e old at new q l a b d f g i j = absurd (none_left e q l a b d f g i j)
 
 -- ## Their uses
 

@@ -7,8 +7,6 @@ use mir.Syntax.{w8}
 use mir.Val.{Fits}
 use borrow.Rule.Slice.PartMut.{put_mid}
 use native.Mathlib.Omega.{arith}
-use types.Run.{OneOf, miss}
-use denote.Enum.Declared.{tag_of}
 use Rattle.definition.specs.Basic.{concat_map}
 use Rattle.definition.specs.Types as Types
 use Rattle.definition.specs.Binary.{joined}
@@ -33,7 +31,6 @@ use Rattle.deinline.specs.Entry.{one_of, section_no, answer_of, uses_of}
 use Rattle.entries.specs.Listed.{Answers, NotCode, one_end}
 use Rattle.syntax.specs.declared.Entry.{Entry}
 use Rattle.syntax.specs.declared.Entry.TheVariants as E
-use Rattle.syntax.specs.contracts.Entry as EntryOf
 use Rattle.entries.specs.declared.EndsAt.{EndsAt}
 use Rattle.entries.specs.declared.EndsAt.TheVariants as A
 use Rattle.kept.specs.Sections.{SECTIONS}
@@ -79,11 +76,8 @@ module _ (s w : List ℕ) (r : ℕ) (e : Entry) where
 pub ready-uses : (s w : List ℕ) (r : ℕ) (e : Entry) → Ready s w r e → Recalled w (types_in s w) (uses_of s r e)
 ready-uses s w r e h = h.recalled
 
-abbrev Others : List ℕ
-Others = 0 ∷ 1 ∷ 2 ∷ 3 ∷ 4 ∷ 5 ∷ 6 ∷ 7 ∷ 8 ∷ 9 ∷ 10 ∷ 11 ∷ 12 ∷ 14 ∷ 15 ∷ []
-
 -- every entry but one is no code
-pub not_code : (e : Entry) → OneOf Others (tag_of EntryOf.the_type e) → NotCode e
+pub not_code : (e : Entry) → ((t : TypeUse) (ls : Code.List) (here : ℕ) → e ≡ E.Code t ls here → ⊥) → NotCode e
 not_code E.Nothing h = record { other = λ z. omega (arith, z) }
 not_code (E.Import n x) h = record { other = λ z. omega (arith, z) }
 not_code (E.Func t) h = record { other = λ z. omega (arith, z) }
@@ -97,7 +91,7 @@ not_code (E.Exports es k n) h = record { other = λ z. omega (arith, z) }
 not_code (E.Start x) h = record { other = λ z. omega (arith, z) }
 not_code (E.Elem m xs) h = record { other = λ z. omega (arith, z) }
 not_code (E.InlineElem w n xs) h = record { other = λ z. omega (arith, z) }
-not_code (E.Code t ls here) h = absurd (miss Others 13 tt h)
+not_code (E.Code t ls here) h = absurd (h t ls here refl)
 not_code (E.Data m d) h = record { other = λ z. omega (arith, z) }
 not_code (E.InlineData w n d) h = record { other = λ z. omega (arith, z) }
 

@@ -5,8 +5,6 @@ use mathlib.Core.List.{List, [], ◌∷◌, ◌++◌, append-nil}
 use lib.ListN.{length, get_or, take, drop}
 use borrow.Rule.Slice.PartMut.{put_mid}
 use native.Mathlib.Omega.{arith}
-use types.Run.{OneOf, miss}
-use denote.Enum.Declared.{tag_of}
 use Rattle.definition.specs.Basic.{Answer, ok, ◌>>=◌, concat_map}
 use Rattle.definition.specs.Syntax as Syntax
 use Rattle.definition.specs.Syntax.{Bytes}
@@ -35,10 +33,8 @@ use Rattle.scope.specs.declared.types.TypeAt.TheVariants as N
 use Rattle.syntax.specs.declared.Seen.{Seen}
 use Rattle.syntax.specs.declared.Own.{Own}
 use Rattle.syntax.specs.declared.Own.TheVariants as O
-use Rattle.syntax.specs.contracts.Own as OwnOf
 use Rattle.syntax.specs.declared.Source.{Source}
 use Rattle.syntax.specs.declared.Source.TheVariants as S
-use Rattle.syntax.specs.contracts.Source as SourceOf
 use Rattle.frames.specs.Locals.{Head}
 use Rattle.instr.specs.Bodies.{body_from}
 use Rattle.code.specs.Body.{Resolvable}
@@ -169,17 +165,17 @@ pub own-func : (r : FuncIn) (x : Source) (o v : Own) → x ≡ S.Own o → o ≡
 own-func r x o v p q d = rw (p, q) d
 
 -- the arms that are left: no other item is a function
-pub own-other : (x : Source) (o : Own) → x ≡ S.Own o → OneOf (1 ∷ 2 ∷ 3 ∷ []) (tag_of OwnOf.the_type o) → F.Other ≡ func_in x
+pub own-other : (x : Source) (o : Own) → x ≡ S.Own o → ((t : TypeUse) (ls : Code.List) → o ≡ O.Func t ls → ⊥) → F.Other ≡ func_in x
 own-other x o d h = rw d (go o h)
   where
-    go : (o : Own) → OneOf (1 ∷ 2 ∷ 3 ∷ []) (tag_of OwnOf.the_type o) → F.Other ≡ func_in (S.Own o)
-    go (O.Func t ls) h = absurd (miss (1 ∷ 2 ∷ 3 ∷ []) 0 tt h)
+    go : (o : Own) → ((t : TypeUse) (ls : Code.List) → o ≡ O.Func t ls → ⊥) → F.Other ≡ func_in (S.Own o)
+    go (O.Func t ls) h = absurd (h t ls refl)
     go (O.Table t) h = refl
     go (O.Mem l) h = refl
     go (O.Global t c) h = refl
 
-pub source-other : (x : Source) → OneOf (1 ∷ 2 ∷ 3 ∷ []) (tag_of SourceOf.the_type x) → F.Other ≡ func_in x
-source-other (S.Own o) h = absurd (miss (1 ∷ 2 ∷ 3 ∷ []) 0 tt h)
+pub source-other : (x : Source) → ((o : Own) → x ≡ S.Own o → ⊥) → F.Other ≡ func_in x
+source-other (S.Own o) h = absurd (h o refl)
 source-other (S.Imported n e) h = refl
 source-other (S.TableOf w xs) h = refl
 source-other (S.MemOf w b) h = refl

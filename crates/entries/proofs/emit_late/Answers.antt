@@ -1,4 +1,5 @@
 use Rattle.entries.proofs.Arms.{arm_export, arm_exports, arm_start, arm_elem, arm_inline_elem, arm_data, arm_inline_data, arm_left}
+use borrow.Author.Rules.{rules}
 use Rattle.entries.proofs.emit_late.Goals as goal
 
 pub returns-in-Export : goal.returns-in-Export
@@ -23,4 +24,6 @@ pub returns-in-InlineData : goal.returns-in-InlineData
 returns-in-InlineData c = search arm_inline_data
 
 pub returns-in_default : goal.returns-in_default
-returns-in_default c = search arm_left
+returns-in_default c =
+    let h = c.in_default in
+    arm_left _ _ _ _ _ _ _ (search rules) (search rules) h.not-Export h.not-Exports h.not-Start h.not-Elem h.not-InlineElem h.not-Data h.not-InlineData

@@ -33,4 +33,6 @@ pub returns-in-Global : goal.returns-in-Global
 returns-in-Global c = search arm_global
 
 pub emit_late-requires : goal.emit_late-requires
-emit_late-requires c = search (late, rules)
+emit_late-requires c =
+    let h = c.in_default in
+    (search rules, search rules, late _ h.not-Nothing h.not-Import h.not-Func h.not-Table h.not-InlineTable h.not-Mem h.not-InlineMem h.not-Global)
