@@ -1,6 +1,6 @@
 -- In what a strict call writes every index lies below its space's count (document 02, §8).
 use mathlib.Core.Path.{◌≡◌, refl, ◌∙◌, sym, subst}
-use Prim.Native.Nat.{ℕ, ◌+◌, ◌≤◌}
+use Prim.Native.Nat.{ℕ, ◌≤◌}
 use mathlib.Core.Bool.{Bool, true, false}
 use mathlib.Core.List.{List, [], ◌∷◌, ◌++◌, map, Memᴰ}
 use mathlib.Core.Option.{none, some}
@@ -21,7 +21,8 @@ use Rattle.laws.proofs.Interning.{came, use_finds_its_type}
 use Rattle.laws.proofs.Passes.{scope_then}
 use Rattle.in_range.proofs.Gives.{every_append, every_left, every_right, Holds, held, held_by, held_then, held-each}
 use Rattle.in_range.proofs.Sorts.{Told, OwnBelow, Sorted, BodySorted}
-use Rattle.in_range.proofs.SortedFields.{OwnSorted, ExternTold, ModeOwn, FieldSorted, NumberedSorted, stream_sorted}
+use Rattle.in_range.proofs.SortedFields.{OwnSorted, ExternTold, ModeOwn, FieldSorted, NumberedSorted}
+use Rattle.in_range.proofs.SortedStream.{stream_sorted}
 use Rattle.in_range.proofs.Counts.{spaces, Counted, named_fields, items-counted}
 use Rattle.in_range.proofs.StrictBodies.{Agrees, params_agree, AllServed, served, Strictly, item-held, told-held, type_no-held, plain-held, body-held}
 

@@ -8,6 +8,7 @@ pub mod InRange
 pub mod ModuleNumbers
 pub mod RefusalNumbers
 pub mod SortedFields
+pub mod SortedStream
 pub mod Sorts
 pub mod StrictBodies
 pub mod StrictCalls

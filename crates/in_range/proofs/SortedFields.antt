@@ -1,6 +1,6 @@
 -- Every instruction and constant of the fields of a stream that was read has the operand that its opcode tells, and an item's own number, which
 -- de-inlining writes, is below the count of its space.
-use mathlib.Core.Path.{◌≡◌, refl, subst}
+use mathlib.Core.Path.{refl}
 use Prim.Native.Nat.{ℕ, zero, suc, ◌+◌, ◌-◌, ◌≤◌, ◌<◌}
 use mathlib.Core.Bool.{Bool, true, false}
 use mathlib.Core.List.{List, [], ◌∷◌, ◌++◌, map}
@@ -22,11 +22,10 @@ use Rattle.definition.specs.Records.{type_rec, export_rec, start_rec, active_mod
 use Rattle.definition.specs.Read.{Seen, nothing_seen, room, seen_after, record_in, one_record, at_end, before, with_record, records, read}
 use Rattle.definition.specs.Spaces.{source_space, segments, brings, count}
 use Rattle.definition.specs.Folded.{Waiting, follow, still, flatten, body_of}
-use Rattle.definition.specs.Deinline.{zero_offset, source_fields, fields_of, deinline_from, deinline}
+use Rattle.definition.specs.Deinline.{zero_offset, source_fields, fields_of}
 use Rattle.in_range.specs.InRange.{Every}
-use Rattle.in_range.proofs.Gives.{every_append, every_map, Gives, gives, gives_by, Holds, held, held_none, held_not, held_if}
-use Rattle.in_range.proofs.Counts.{spaces, count-append}
-use Rattle.in_range.proofs.Brings.{counts_itself, record_brings}
+use Rattle.in_range.proofs.Gives.{every_append, Gives, gives, gives_by, Holds, held, held_none, held_not, held_if}
+use Rattle.in_range.proofs.Brings.{counts_itself}
 use Rattle.in_range.proofs.Sorts.{Told, OwnBelow, told_below, UseTold, tellings, Sorted, InstrSorted, BodySorted, constant_then, formed_then, operator_then}
 
 -- ## Records: their constants and instructions
@@ -201,7 +200,7 @@ module _ {I : Type 0} where
   flatten_sorted r ws (folded x (suc n) ∷ rs) w h = flatten_sorted (r + 1) ((suc n, r, x) ∷ ws) rs (h.0, w) h.1
   flatten_sorted r ws (body_end ∷ rs) w h = tt
 
-  body_of_sorted : (r : ℕ) (rs : List (Rec I)) → Every RecSorted rs → BodySorted (body_of r rs)
+  pub body_of_sorted : (r : ℕ) (rs : List (Rec I)) → Every RecSorted rs → BodySorted (body_of r rs)
   unfolding body_of
   body_of_sorted r rs h = flatten_sorted r [] rs tt h
 
@@ -224,7 +223,7 @@ module _ {I : Type 0} where
       item_fields i n x h l (e ∷ es) = (l, item_fields i n x h l es)
 
       -- the next number of a space and the items that the record brings are within what there is
-      fields_sorted : (next : Space → ℕ) (f : FieldRec I) → FieldRecSorted f → ((k : Space) → next k + count k (brings f) ≤ items k)
+      pub fields_sorted : (next : Space → ℕ) (f : FieldRec I) → FieldRecSorted f → ((k : Space) → next k + count k (brings f) ≤ items k)
           → Every (FieldSorted items) (fields_of next f b)
       unfolding fields_of brings
       fields_sorted next (type_r i t) h l = (tt, tt)
@@ -238,28 +237,3 @@ module _ {I : Type 0} where
       fields_sorted next (start_r x) h l = (h, tt)
       fields_sorted next (elem_r i m xs) h l = ((mode-own tables m h.0, h.1), tt)
       fields_sorted next (data_r i m d) h l = (mode-own mems m h, tt)
-
-    -- what was seen and what comes is within what there is
-    from_sorted : (r : ℕ) (seen : List Space) (rs : List (Rec I)) → Every RecSorted rs
-        → ((k : Space) → count k seen + count k (spaces (deinline_from r seen rs)) ≤ items k) → Every (NumberedSorted items) (deinline_from r seen rs)
-    unfolding deinline_from
-    from_sorted r seen [] h l = tt
-    from_sorted r seen (field f ∷ rs) h l =
-        let next : Space → ℕ = λ k. count k seen in
-        let fs = fields_of next f (body_of (r + 1) rs) in
-        let later = deinline_from (r + 1) (brings f ++ seen) rs in
-        let coming : Space → ℕ = λ k. count k (brings f) + count k (spaces later) in
-        let within : (k : Space) → next k + coming k ≤ items k = λ k. subst (λ n. next k + n ≤ items k) (record_brings k r next f (body_of (r + 1) rs) later) (l k) in
-        every_append (NumberedSorted items) (map (λ x. (r, x)) fs) later
-        (every_map (NumberedSorted items) (λ x. (r, x)) fs
-        (fields_sorted (body_of (r + 1) rs) (body_of_sorted (r + 1) rs h.1) next f h.0 (λ k. let w = within k in omega arith)))
-        (from_sorted (r + 1) (brings f ++ seen) rs h.1 (λ k. let w = within k in rw (count-append k (brings f) seen) (omega arith)))
-    from_sorted r seen (instr x ∷ rs) h l = from_sorted (r + 1) seen rs h.1 l
-    from_sorted r seen (folded x n ∷ rs) h l = from_sorted (r + 1) seen rs h.1 l
-    from_sorted r seen (body_end ∷ rs) h l = from_sorted (r + 1) seen rs h.1 l
-
--- the fields of a stream that was read
-pub stream_sorted : (s : Bytes) (rs : List (Rec Identifier)) → read s ≡ ok rs
-    → (items : Space → ℕ) → ((k : Space) → count k (spaces (deinline rs)) ≤ items k) → Every (NumberedSorted items) (deinline rs)
-unfolding deinline
-stream_sorted s rs e items l = from_sorted items 0 [] rs ((read_sorted s).of rs e) λ k. let h = l k in unfold count in omega arith
