@@ -5,7 +5,9 @@
 ghost use Rattle.std.specs.Prelude.{◌≡◌, length};
 
 use assembler::Said;
-use libc::{STDERR_FILENO, STDIN_FILENO};
+use std::env::{Env, FillError};
+use std::io;
+use std::io::Read;
 
 // One byte more than a stream may have, so that a longer one is refused and not cut.
 fn stream_buffer() -> [u8; 65537]
@@ -14,15 +16,15 @@ fn stream_buffer() -> [u8; 65537]
     [0; 65537]
 }
 
-fn report(r: Said, out: &[u8]) {
+fn report(to: &impl Print, r: Said, out: &[u8]) -> io::Result<()> {
     if r.number == 0 {
         let len = r.len;
         if len <= out.len() {
-            console::text(&out[0..len]);
+            console::text(to, &out[0..len])?;
         }
-        return;
+        return Ok(());
     }
-    console::refused(r.number, r.rec, r.first);
+    console::refused(to, r.number, r.rec, r.first)
 }
 
 fn assembled(s: &[u8], work: &mut [u32], out: &mut [u8], strict: bool, names: bool) -> Said {
@@ -38,21 +40,34 @@ fn assembled(s: &[u8], work: &mut [u32], out: &mut [u8], strict: bool, names: bo
     assembler::assemble(s, work, out)
 }
 
-fn run(buf: &mut [u8], work: &mut [u32], out: &mut [u8], strict: bool, names: bool) {
-    let n = io::read_full(STDIN_FILENO, buf);
-    if buf.len() < n {
-        return;
-    }
+fn run(
+    from: &mut impl Read,
+    to: &impl Print,
+    buf: &mut [u8],
+    work: &mut [u32],
+    out: &mut [u8],
+    strict: bool,
+    names: bool,
+) -> io::Result<()> {
+    let n = console::read_full(from, buf)?;
     let r = assembled(&buf[0..n], work, out, strict, names);
-    report(r, out);
+    report(to, r, out)
 }
 
 // Lends what a call needs.
-fn with_buffers(strict: bool, names: bool) {
+fn with_buffers(rt: &(impl Input + Print), strict: bool, names: bool) -> io::Result<()> {
     let mut buf = stream_buffer();
     let mut work = console::work_area();
     let mut out = console::out_buffer();
-    run(&mut buf, &mut work, &mut out, strict, names);
+    run(
+        &mut rt.reader(),
+        rt,
+        &mut buf,
+        &mut work,
+        &mut out,
+        strict,
+        names,
+    )
 }
 
 #[derive(Clone, Copy)]
@@ -62,62 +77,50 @@ enum Word {
     Other,
 }
 
-// Of an argument that has no room nothing is read.
-fn word_at(i: usize) -> Word {
-    let mut word = [0u8; 8];
-    let n = os::arg(i, &mut word);
-    if check::same(&word[..n], b"--names") {
-        return Word::Names;
+fn word(s: &[u8]) -> Word {
+    match s {
+        b"--names" => Word::Names,
+        b"--strict" => Word::Strict,
+        _ => Word::Other,
     }
-    if check::same(&word[..n], b"--strict") {
-        return Word::Strict;
-    }
-    Word::Other
 }
 
-fn usage() {
-    io::write_all(
-        STDERR_FILENO,
-        b"usage: assemble [--strict] [--names] <STREAM >MODULE\n",
-    );
+// None where there is no such argument. Of one that has no room nothing is read.
+fn word_at(env: &impl Env, i: usize) -> Option<Word> {
+    let mut buf = [0u8; 8];
+    match env.arg(i, &mut buf) {
+        Ok(n) => Some(word(&buf[..n])),
+        Err(FillError::TooLong) => Some(Word::Other),
+        Err(FillError::NotPresent) => None,
+    }
 }
 
-fn with_one(a: Word) {
+fn usage(to: &impl Eprint) -> io::Result<()> {
+    eprintln!(to; "usage: assemble [--strict] [--names] <STREAM >MODULE")
+}
+
+fn with_one(rt: &(impl Input + Print + Eprint), a: Word) -> io::Result<()> {
     match a {
-        Word::Names => with_buffers(false, true),
-        Word::Strict => with_buffers(true, false),
-        Word::Other => usage(),
+        Word::Names => with_buffers(rt, false, true),
+        Word::Strict => with_buffers(rt, true, false),
+        Word::Other => usage(rt),
     }
 }
 
 // Both, in either order.
-fn with_two(a: Word, b: Word) {
-    match a {
-        Word::Names => match b {
-            Word::Strict => with_buffers(true, true),
-            _ => usage(),
-        },
-        Word::Strict => match b {
-            Word::Names => with_buffers(true, true),
-            _ => usage(),
-        },
-        Word::Other => usage(),
+fn with_two(rt: &(impl Input + Print + Eprint), a: Word, b: Word) -> io::Result<()> {
+    match (a, b) {
+        (Word::Names, Word::Strict) | (Word::Strict, Word::Names) => with_buffers(rt, true, true),
+        _ => usage(rt),
     }
 }
 
-fn main() {
-    let n = os::arg_count();
-    if n < 2 {
-        with_buffers(false, false);
-        return;
+fn main(rt: HostRuntime) -> io::Result<()> {
+    let words = (word_at(&rt, 1), word_at(&rt, 2), word_at(&rt, 3));
+    match words {
+        (None, _, _) => with_buffers(&rt, false, false),
+        (Some(a), None, _) => with_one(&rt, a),
+        (Some(a), Some(b), None) => with_two(&rt, a, b),
+        _ => usage(&rt),
     }
-    if n == 2 {
-        with_one(word_at(1));
-        return;
-    }
-    if n == 3 {
-        with_two(word_at(1), word_at(2));
-        return;
-    }
-    usage();
 }

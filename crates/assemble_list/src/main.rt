@@ -6,6 +6,8 @@ ghost use Rattle.std.specs.Prelude.{◌≡◌, length};
 
 use assembler::Said;
 use console::Next;
+use std::io;
+use std::io::Read;
 
 // Two digits for each byte.
 fn hex_buffer() -> [u8; 131072]
@@ -39,63 +41,89 @@ fn hex_into(hex: &mut [u8], bytes: &[u8]) {
     }
 }
 
-fn report(r: Said, out: &[u8], hex: &mut [u8]) {
+fn report(to: &impl Print, r: Said, out: &[u8], hex: &mut [u8]) -> io::Result<()> {
     if r.number != 0 {
-        console::refused(r.number, r.rec, r.first);
-        return;
+        return console::refused(to, r.number, r.rec, r.first);
     }
     let len = r.len;
     if len <= out.len() {
-        console::text(b"ok ");
+        console::text(to, b"ok ")?;
         hex_into(hex, &out[0..len]);
         if 2 * len <= hex.len() {
-            console::text(&hex[0..2 * len]);
+            console::text(to, &hex[0..2 * len])?;
         }
-        console::text(b"\n");
+        console::text(to, b"\n")?;
     }
+    Ok(())
 }
 
 // A stream's two lines.
-fn both(s: &[u8], work: &mut [u32], out: &mut [u8], hex: &mut [u8]) {
+fn both(
+    to: &impl Print,
+    s: &[u8],
+    work: &mut [u32],
+    out: &mut [u8],
+    hex: &mut [u8],
+) -> io::Result<()> {
     let plain = assembler::assemble(s, work, out);
-    report(plain, out, hex);
+    report(to, plain, out, hex)?;
     let named = assembler::assemble_names(s, work, out);
-    report(named, out, hex);
+    report(to, named, out, hex)
 }
 
 // One stream of the list; false where there is none.
-fn one(buf: &mut [u8], work: &mut [u32], out: &mut [u8], hex: &mut [u8]) -> bool {
-    match console::next_stream(buf) {
+fn one(
+    from: &mut impl Read,
+    to: &impl Print,
+    buf: &mut [u8],
+    work: &mut [u32],
+    out: &mut [u8],
+    hex: &mut [u8],
+) -> io::Result<bool> {
+    match console::next_stream(from, buf)? {
         Next::Stream(n) => {
             if buf.len() < n {
-                return false;
+                return Ok(false);
             }
-            both(&buf[0..n], work, out, hex);
-            true
+            both(to, &buf[0..n], work, out, hex)?;
+            Ok(true)
         }
-        Next::End => false,
+        Next::End => Ok(false),
         Next::Cut => {
-            console::text(b"cut\n");
-            false
+            console::text(to, b"cut\n")?;
+            Ok(false)
         }
     }
 }
 
 // So many streams at most.
-fn all(buf: &mut [u8], work: &mut [u32], out: &mut [u8], hex: &mut [u8]) {
-    let mut left: u32 = 1000000;
-    while 0 < left {
-        if !one(buf, work, out, hex) {
-            return;
+fn all(
+    from: &mut impl Read,
+    to: &impl Print,
+    buf: &mut [u8],
+    work: &mut [u32],
+    out: &mut [u8],
+    hex: &mut [u8],
+) -> io::Result<()> {
+    for _ in 0..1000000 {
+        if !one(from, to, buf, work, out, hex)? {
+            break;
         }
-        left -= 1;
     }
+    Ok(())
 }
 
-fn main() {
+fn main(rt: HostRuntime) -> io::Result<()> {
     let mut buf = console::list_buffer();
     let mut work = console::work_area();
     let mut out = console::out_buffer();
     let mut hex = hex_buffer();
-    all(&mut buf, &mut work, &mut out, &mut hex);
+    all(
+        &mut rt.reader(),
+        &rt,
+        &mut buf,
+        &mut work,
+        &mut out,
+        &mut hex,
+    )
 }

@@ -1,9 +1,10 @@
-// What the programs share: what they lend, text and numbers to standard output, and a list of streams from standard input.
+// What the programs share: what they lend, text and numbers to what prints, and a list of streams from what reads.
 #![tactic(auto)]
 
-ghost use Rattle.std.specs.Prelude.{◌≡◌, length};
+ghost use Rattle.std.specs.Prelude.{◌≡◌, ◌≤◌, length, IfOk};
 
-use libc::{STDIN_FILENO, STDOUT_FILENO};
+use std::io;
+use std::io::Read;
 use syntax::U32;
 
 // The least work area.
@@ -27,25 +28,36 @@ pub fn list_buffer() -> [u8; 131072]
     [0; 131072]
 }
 
-pub fn text(s: &[u8]) {
-    io::write_all(STDOUT_FILENO, s);
+pub fn text(to: &impl Print, s: &[u8]) -> io::Result<()> {
+    to.write_all(s)
 }
 
-pub fn number(n: u32) {
-    io::print_decimal(STDOUT_FILENO, n as u64);
+pub fn number(to: &impl Print, n: u32) -> io::Result<()> {
+    print!(to; "{n}")
 }
 
 // The line of a refusal; of a duplicate it also tells where the name was first used.
-pub fn refused(n: u8, rec: u32, first: u32) {
-    text(b"refused ");
-    number(n as u32);
-    text(b" at ");
-    number(rec);
+pub fn refused(to: &impl Print, n: u8, rec: u32, first: u32) -> io::Result<()> {
     if n == 13 {
-        text(b", first at ");
-        number(first);
+        println!(to; "refused {n} at {rec}, first at {first}")
+    } else {
+        println!(to; "refused {n} at {rec}")
     }
-    text(b"\n");
+}
+
+// Reads until the buffer is full or the input ends, and answers how many bytes it put at the buffer's start.
+pub fn read_full(from: &mut impl Read, buf: &mut [u8]) -> io::Result<usize>
+    ensures { IfOk result (λ n. n ≤ length buf.new) }
+{
+    let mut done = 0;
+    while done < buf.len() {
+        let n = from.read(&mut buf[done..])?;
+        if n == 0 {
+            break;
+        }
+        done += n;
+    }
+    Ok(done)
 }
 
 #[derive(Clone, Copy)]
@@ -67,22 +79,22 @@ fn length_of(groups: &[u8; 5], n: usize) -> Length {
 }
 
 // The groups of a length, up to the first with its high bit clear.
-fn next_length() -> Length {
+fn next_length(from: &mut impl Read) -> io::Result<Length> {
     let mut groups = [0u8; 5];
     let mut n = 0;
     while n < 5 {
         let mut one = [0u8; 1];
-        if io::read_full(STDIN_FILENO, &mut one) == 0 {
+        if read_full(from, &mut one)? == 0 {
             groups[n] = 128;
-            return length_of(&groups, n);
+            return Ok(length_of(&groups, n));
         }
         groups[n] = one[0];
         n += 1;
         if one[0] < 128 {
-            return length_of(&groups, n);
+            return Ok(length_of(&groups, n));
         }
     }
-    length_of(&groups, n)
+    Ok(length_of(&groups, n))
 }
 
 #[derive(Clone, Copy)]
@@ -95,19 +107,19 @@ pub enum Next {
 }
 
 // The next stream of the list: its length in seven-bit groups, and its bytes.
-pub fn next_stream(buf: &mut [u8]) -> Next {
-    match next_length() {
+pub fn next_stream(from: &mut impl Read, buf: &mut [u8]) -> io::Result<Next> {
+    match next_length(from)? {
         Length::Is(len) => {
             let n = len as usize;
             if buf.len() < n {
-                return Next::Cut;
+                return Ok(Next::Cut);
             }
-            if io::read_full(STDIN_FILENO, &mut buf[0..n]) < n {
-                return Next::Cut;
+            if read_full(from, &mut buf[0..n])? < n {
+                return Ok(Next::Cut);
             }
-            Next::Stream(n)
+            Ok(Next::Stream(n))
         }
-        Length::End => Next::End,
-        Length::Cut => Next::Cut,
+        Length::End => Ok(Next::End),
+        Length::Cut => Ok(Next::Cut),
     }
 }

@@ -1,233 +1,210 @@
 // Prints numbers in groups as the functions of leb write and read them, a line for each.
 #![tactic(auto)]
 
-use libc::STDOUT_FILENO;
+use std::io;
 use syntax::{U32, U64};
 
-const DIGITS: [u8; 16] = *b"0123456789ABCDEF";
-
-fn text(s: &[u8]) {
-    io::write_all(STDOUT_FILENO, s);
-}
-
-fn number(n: u64) {
-    io::print_decimal(STDOUT_FILENO, n);
-}
-
-fn byte(b: u8) {
-    let n = b as usize;
-    text(&[b' ', DIGITS[n / 16], DIGITS[n % 16]]);
+fn byte(rt: &impl Print, b: u8) -> io::Result<()> {
+    print!(rt; " {b:02X}")
 }
 
 // The first n bytes, a space before each.
-fn hex(s: &[u8], n: usize) {
+fn hex(rt: &impl Print, s: &[u8], n: usize) -> io::Result<()> {
     let mut i = 0;
     while i < s.len() {
         if n <= i {
-            return;
+            return Ok(());
         }
-        byte(s[i]);
+        byte(rt, s[i])?;
         i += 1;
     }
+    Ok(())
 }
 
-fn groups(s: &[u8], n: usize) {
-    text(b":");
-    hex(s, n);
-    text(b"\n");
+fn groups(rt: &impl Print, s: &[u8], n: usize) -> io::Result<()> {
+    print!(rt; ":")?;
+    hex(rt, s, n)?;
+    println!(rt)
 }
 
-fn u(x: u64) {
+fn u(rt: &impl Print, x: u64) -> io::Result<()> {
     let mut out = [0u8; 10];
     let n = leb::put_u(&mut out, 0, x);
-    text(b"u ");
-    number(x);
-    groups(&out, n);
+    print!(rt; "u {x}")?;
+    groups(rt, &out, n)
 }
 
-fn count(x: u64) {
-    text(b"count ");
-    number(x);
-    text(b": ");
-    number(leb::group_count(x) as u64);
-    text(b"\n");
+fn count(rt: &impl Print, x: u64) -> io::Result<()> {
+    let n = leb::group_count(x);
+    println!(rt; "count {x}: {n}")
 }
 
 // A signed number's name says what its bits are.
-fn s32(name: &[u8], x: u32) {
+fn s32(rt: &impl Print, name: &str, x: u32) -> io::Result<()> {
     let mut out = [0u8; 10];
     let n = leb::put_i32(&mut out, 0, x);
-    text(b"s32 ");
-    text(name);
-    groups(&out, n);
+    print!(rt; "s32 {name}")?;
+    groups(rt, &out, n)
 }
 
-fn s64(name: &[u8], x: u64) {
+fn s64(rt: &impl Print, name: &str, x: u64) -> io::Result<()> {
     let mut out = [0u8; 10];
     let n = leb::put_i64(&mut out, 0, x);
-    text(b"s64 ");
-    text(name);
-    groups(&out, n);
+    print!(rt; "s64 {name}")?;
+    groups(rt, &out, n)
 }
 
-fn s33(x: u32) {
+fn s33(rt: &impl Print, x: u32) -> io::Result<()> {
     let mut out = [0u8; 10];
     let n = leb::put_s33(&mut out, 0, x);
-    text(b"s33 ");
-    number(x as u64);
-    groups(&out, n);
+    print!(rt; "s33 {x}")?;
+    groups(rt, &out, n)
 }
 
-fn got(value: u64, next: usize) {
-    text(b": ");
-    number(value);
-    text(b" next ");
-    number(next as u64);
-    text(b"\n");
+fn got(rt: &impl Print, value: u64, next: usize) -> io::Result<()> {
+    println!(rt; ": {value} next {next}")
 }
 
-fn refused(n: u8) {
-    text(b": refused ");
-    number(n as u64);
-    text(b"\n");
+fn refused(rt: &impl Print, n: u8) -> io::Result<()> {
+    println!(rt; ": refused {n}")
 }
 
-fn read_u32(s: &[u8]) {
-    text(b"read u32");
-    hex(s, s.len());
+fn read_u32(rt: &impl Print, s: &[u8]) -> io::Result<()> {
+    print!(rt; "read u32")?;
+    hex(rt, s, s.len())?;
     match leb::read_u32(s, 0) {
-        U32::Got(value, next) => got(value as u64, next),
-        U32::Fault(n) => refused(n),
+        U32::Got(value, next) => got(rt, value as u64, next),
+        U32::Fault(n) => refused(rt, n),
     }
 }
 
-fn read_u64(s: &[u8]) {
-    text(b"read u64");
-    hex(s, s.len());
+fn read_u64(rt: &impl Print, s: &[u8]) -> io::Result<()> {
+    print!(rt; "read u64")?;
+    hex(rt, s, s.len())?;
     match leb::read_u64(s, 0) {
-        U64::Got(value, next) => got(value, next),
-        U64::Fault(n) => refused(n),
+        U64::Got(value, next) => got(rt, value, next),
+        U64::Fault(n) => refused(rt, n),
     }
 }
 
-fn unsigned() {
-    u(0);
-    u(127);
-    u(128);
-    u(16383);
-    u(16384);
+fn unsigned(rt: &impl Print) -> io::Result<()> {
+    u(rt, 0)?;
+    u(rt, 127)?;
+    u(rt, 128)?;
+    u(rt, 16383)?;
+    u(rt, 16384)
 }
 
-fn unsigned_ends() {
-    u(4294967295);
-    u(9223372036854775808);
-    u(18446744073709551615);
+fn unsigned_ends(rt: &impl Print) -> io::Result<()> {
+    u(rt, 4294967295)?;
+    u(rt, 9223372036854775808)?;
+    u(rt, 18446744073709551615)
 }
 
 // A power of 128, and the number below it.
-fn around(below: u64, power: u64) {
-    count(below);
-    count(power);
+fn around(rt: &impl Print, below: u64, power: u64) -> io::Result<()> {
+    count(rt, below)?;
+    count(rt, power)
 }
 
-fn counts() {
-    around(0, 1);
-    around(127, 128);
-    around(16383, 16384);
-    around(2097151, 2097152);
-    around(268435455, 268435456);
+fn counts(rt: &impl Print) -> io::Result<()> {
+    around(rt, 0, 1)?;
+    around(rt, 127, 128)?;
+    around(rt, 16383, 16384)?;
+    around(rt, 2097151, 2097152)?;
+    around(rt, 268435455, 268435456)
 }
 
-fn count_ends() {
-    around(34359738367, 34359738368);
-    around(4398046511103, 4398046511104);
-    around(562949953421311, 562949953421312);
-    around(72057594037927935, 72057594037927936);
-    around(9223372036854775807, 9223372036854775808);
-    count(18446744073709551615);
+fn count_ends(rt: &impl Print) -> io::Result<()> {
+    around(rt, 34359738367, 34359738368)?;
+    around(rt, 4398046511103, 4398046511104)?;
+    around(rt, 562949953421311, 562949953421312)?;
+    around(rt, 72057594037927935, 72057594037927936)?;
+    around(rt, 9223372036854775807, 9223372036854775808)?;
+    count(rt, 18446744073709551615)
 }
 
-fn signed32() {
-    s32(b"63", 63);
-    s32(b"64", 64);
-    s32(b"-1", 4294967295);
-    s32(b"-64", 4294967232);
-    s32(b"-65", 4294967231);
+fn signed32(rt: &impl Print) -> io::Result<()> {
+    s32(rt, "63", 63)?;
+    s32(rt, "64", 64)?;
+    s32(rt, "-1", 4294967295)?;
+    s32(rt, "-64", 4294967232)?;
+    s32(rt, "-65", 4294967231)
 }
 
-fn signed64() {
-    s64(b"63", 63);
-    s64(b"64", 64);
-    s64(b"-1", 18446744073709551615);
-    s64(b"-64", 18446744073709551552);
-    s64(b"-65", 18446744073709551551);
+fn signed64(rt: &impl Print) -> io::Result<()> {
+    s64(rt, "63", 63)?;
+    s64(rt, "64", 64)?;
+    s64(rt, "-1", 18446744073709551615)?;
+    s64(rt, "-64", 18446744073709551552)?;
+    s64(rt, "-65", 18446744073709551551)
 }
 
-fn signed_ends() {
-    s32(b"2147483647", 2147483647);
-    s32(b"-2147483648", 2147483648);
-    s64(b"9223372036854775807", 9223372036854775807);
-    s64(b"-9223372036854775808", 9223372036854775808);
+fn signed_ends(rt: &impl Print) -> io::Result<()> {
+    s32(rt, "2147483647", 2147483647)?;
+    s32(rt, "-2147483648", 2147483648)?;
+    s64(rt, "9223372036854775807", 9223372036854775807)?;
+    s64(rt, "-9223372036854775808", 9223372036854775808)
 }
 
-fn types() {
-    s33(0);
-    s33(63);
-    s33(64);
-    s33(255);
-    s33(4294967295);
+fn types(rt: &impl Print) -> io::Result<()> {
+    s33(rt, 0)?;
+    s33(rt, 63)?;
+    s33(rt, 64)?;
+    s33(rt, 255)?;
+    s33(rt, 4294967295)
 }
 
-fn read32() {
-    read_u32(b"\x00");
-    read_u32(b"\x7F");
-    read_u32(b"\x80\x01");
-    read_u32(b"\x80\x80\x80\x80\x01");
-    read_u32(b"\xFF\xFF\xFF\xFF\x0F");
+fn read32(rt: &impl Print) -> io::Result<()> {
+    read_u32(rt, b"\x00")?;
+    read_u32(rt, b"\x7F")?;
+    read_u32(rt, b"\x80\x01")?;
+    read_u32(rt, b"\x80\x80\x80\x80\x01")?;
+    read_u32(rt, b"\xFF\xFF\xFF\xFF\x0F")
 }
 
-fn refused32() {
-    read_u32(b"");
-    read_u32(b"\x80");
-    read_u32(b"\xFF\xFF\xFF\xFF");
-    read_u32(b"\xFF\xFF\xFF\xFF\x10");
-    read_u32(b"\xFF\xFF\xFF\xFF\x8F");
+fn refused32(rt: &impl Print) -> io::Result<()> {
+    read_u32(rt, b"")?;
+    read_u32(rt, b"\x80")?;
+    read_u32(rt, b"\xFF\xFF\xFF\xFF")?;
+    read_u32(rt, b"\xFF\xFF\xFF\xFF\x10")?;
+    read_u32(rt, b"\xFF\xFF\xFF\xFF\x8F")
 }
 
-fn read64() {
-    read_u64(b"\x7F");
-    read_u64(b"\x80\x80\x80\x80\x80\x80\x80\x80\x80\x01");
-    read_u64(b"\xFF\xFF\xFF\xFF\xFF\xFF\xFF\xFF\xFF\x01");
+fn read64(rt: &impl Print) -> io::Result<()> {
+    read_u64(rt, b"\x7F")?;
+    read_u64(rt, b"\x80\x80\x80\x80\x80\x80\x80\x80\x80\x01")?;
+    read_u64(rt, b"\xFF\xFF\xFF\xFF\xFF\xFF\xFF\xFF\xFF\x01")
 }
 
-fn refused64() {
-    read_u64(b"");
-    read_u64(b"\xFF\xFF\xFF\xFF\xFF");
-    read_u64(b"\xFF\xFF\xFF\xFF\xFF\xFF\xFF\xFF\xFF\x02");
-    read_u64(b"\xFF\xFF\xFF\xFF\xFF\xFF\xFF\xFF\xFF\x81");
+fn refused64(rt: &impl Print) -> io::Result<()> {
+    read_u64(rt, b"")?;
+    read_u64(rt, b"\xFF\xFF\xFF\xFF\xFF")?;
+    read_u64(rt, b"\xFF\xFF\xFF\xFF\xFF\xFF\xFF\xFF\xFF\x02")?;
+    read_u64(rt, b"\xFF\xFF\xFF\xFF\xFF\xFF\xFF\xFF\xFF\x81")
 }
 
 // Longer than needed, and one past the width as well.
-fn padded() {
-    read_u32(b"\x80\x00");
-    read_u32(b"\x80\x80\x80\x80\x00");
-    read_u32(b"\x80\x80\x80\x80\x80\x00");
-    read_u64(b"\xFF\x00");
-    read_u64(b"\x80\x80\x80\x80\x80\x80\x80\x80\x80\x00");
+fn padded(rt: &impl Print) -> io::Result<()> {
+    read_u32(rt, b"\x80\x00")?;
+    read_u32(rt, b"\x80\x80\x80\x80\x00")?;
+    read_u32(rt, b"\x80\x80\x80\x80\x80\x00")?;
+    read_u64(rt, b"\xFF\x00")?;
+    read_u64(rt, b"\x80\x80\x80\x80\x80\x80\x80\x80\x80\x00")
 }
 
-fn main() {
-    unsigned();
-    unsigned_ends();
-    counts();
-    count_ends();
-    signed32();
-    signed64();
-    signed_ends();
-    types();
-    read32();
-    refused32();
-    read64();
-    refused64();
-    padded();
+fn main(rt: HostRuntime) -> io::Result<()> {
+    unsigned(&rt)?;
+    unsigned_ends(&rt)?;
+    counts(&rt)?;
+    count_ends(&rt)?;
+    signed32(&rt)?;
+    signed64(&rt)?;
+    signed_ends(&rt)?;
+    types(&rt)?;
+    read32(&rt)?;
+    refused32(&rt)?;
+    read64(&rt)?;
+    refused64(&rt)?;
+    padded(&rt)
 }

@@ -3,50 +3,61 @@
 #![tactic(auto)]
 
 use console::Next;
+use std::io;
+use std::io::Read;
 use stream::Count;
 
-fn report(c: Count) {
+fn report(to: &impl Print, c: Count) -> io::Result<()> {
     match c {
         Count::Records(n) => {
-            console::text(b"records ");
-            console::number(n);
-            console::text(b"\n");
+            console::text(to, b"records ")?;
+            console::number(to, n)?;
+            console::text(to, b"\n")
         }
-        Count::Refused(r) => console::refused(r.number, r.rec, r.first),
+        Count::Refused(r) => console::refused(to, r.number, r.rec, r.first),
     }
 }
 
 // One stream of the list; false where there is none.
-fn read_one(buf: &mut [u8], work: &mut [u32]) -> bool {
-    match console::next_stream(buf) {
+fn read_one(
+    from: &mut impl Read,
+    to: &impl Print,
+    buf: &mut [u8],
+    work: &mut [u32],
+) -> io::Result<bool> {
+    match console::next_stream(from, buf)? {
         Next::Stream(n) => {
             if buf.len() < n {
-                return false;
+                return Ok(false);
             }
-            report(stream::read_all(&buf[0..n], work));
-            true
+            report(to, stream::read_all(&buf[0..n], work))?;
+            Ok(true)
         }
-        Next::End => false,
+        Next::End => Ok(false),
         Next::Cut => {
-            console::text(b"cut\n");
-            false
+            console::text(to, b"cut\n")?;
+            Ok(false)
         }
     }
 }
 
 // So many streams at most.
-fn read_list(buf: &mut [u8], work: &mut [u32]) {
-    let mut left: u32 = 1000000;
-    while 0 < left {
-        if !read_one(buf, work) {
-            return;
+fn read_list(
+    from: &mut impl Read,
+    to: &impl Print,
+    buf: &mut [u8],
+    work: &mut [u32],
+) -> io::Result<()> {
+    for _ in 0..1000000 {
+        if !read_one(from, to, buf, work)? {
+            break;
         }
-        left -= 1;
     }
+    Ok(())
 }
 
-fn main() {
+fn main(rt: HostRuntime) -> io::Result<()> {
     let mut buf = console::list_buffer();
     let mut work = console::work_area();
-    read_list(&mut buf, &mut work);
+    read_list(&mut rt.reader(), &rt, &mut buf, &mut work)
 }

@@ -4,7 +4,7 @@ use Rattle.leb_table.proofs.hex.Given as goal
 
 -- `i` bytes are printed; those that are left become fewer
 abbrev pub invariant-loop-i : goal.invariant-loop-i
-invariant-loop-i l = l.i ≤ length l.s
+invariant-loop-i g l = l.i ≤ length l.s
 
 abbrev pub decreases-loop-i : goal.decreases-loop-i
-decreases-loop-i l = length l.s - l.i
+decreases-loop-i g l = length l.s - l.i
