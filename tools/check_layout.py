@@ -70,7 +70,7 @@ def faults():
     for name in sorted(code.keys() | model.keys()):
         if code.get(name) != model.get(name):
             yield '%s is %s in %s and %s in %s' % (name, code.get(name), CODE, model.get(name), MODEL)
-    for name, named in ('BYTES', 'longestStream'), ('WORDS', 'leastWork'):
+    for name, named in ('BYTES', 'longest_stream'), ('WORDS', 'least_work'):
         if code.get(name) != definition.get(named):
             yield '%s is %s in %s, and %s is %s in %s' % (
                 name, code.get(name), CODE, named, definition.get(named), DEFINITION)
