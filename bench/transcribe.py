@@ -5,8 +5,8 @@ bring before it is proved.
 usage: transcribe.py FOLDER
 
 Without its contracts a .rt file is Rust as it stands: the clauses `requires` and
-`ensures` and the ghost imports are dropped, and each crate becomes a module. What
-rustc makes of it is faster than what the proved library's back end makes (a tenth
+`ensures`, the ghost imports and the attributes for the prover are dropped, and each
+crate becomes a module. What rustc makes of it is faster than what the proved library's back end makes (a tenth
 or so), so compare a variant with the transcription, not with the library.
 """
 import os
@@ -15,8 +15,8 @@ import sys
 
 HERE = os.path.dirname(os.path.abspath(__file__))
 CRATES = os.path.join(HERE, '..', 'crates')
-CLAUSE = re.compile(r'^\s*(requires|ensures)\s*\{', re.M)
-TYPE = re.compile(r'^(pub )?(struct|enum) ', re.M)
+CLAUSE = re.compile(r'^\s*(requires|ensures)(\s+\w+)?\s*\{', re.M)
+FOR_THE_PROVER = re.compile(r'^\s*#!?\[(tactic|cycle|unsafe\(no_mangle)\b.*\]\n', re.M)
 
 
 def closing(text, at):
@@ -37,8 +37,7 @@ def without_contracts(text):
         if not clause:
             break
         text = text[:clause.start()] + text[closing(text, clause.end() - 1) + 1:]
-    text = TYPE.sub(lambda found: '#[derive(Clone, Copy)]\n' + found.group(), text)
-    return text.replace('#[no_mangle]\n', '')
+    return FOR_THE_PROVER.sub('', text)
 
 
 def transcribed(text, crate, others, modules):

@@ -5,7 +5,7 @@ usage: make.py [--check] [--program PROGRAM] [--oracle PROGRAM]
 
 Writes notice.stream from the description below, notice.md (the stream record
 by record, as tools/account.py reads it back) and notice.wasm, assembled by the
-program; target/bin/assemble if no other is named. tools/models/model.py, and the
+program; crates/assemble/out/assemble if no other is named. tools/models/model.py, and the
 oracle where it is named, must give the same module. With --check nothing is
 written, and the exit status is 1 if a stored file is not what would be written.
 """
@@ -22,7 +22,7 @@ import model
 from records import (access, block, code, const, else_, end, export, func, global_, i32, if_, import_, inline_memory,
                      loop, type, use)
 
-PROGRAM = os.path.join(paths.ROOT, 'target', 'bin', 'assemble')
+PROGRAM = os.path.join(paths.ROOT, 'crates', 'assemble', 'out', 'assemble')
 
 # ---- the text, and where its parts stand in memory ----
 

@@ -63,6 +63,15 @@ def rows():
             yield int(row[1]), int(row[2] or row[1]), row[3] or ''
 
 
+def sources():
+    """The .rt and .antt files of the crates, without what rt keeps in out/."""
+    for folder, folders, files in os.walk(os.path.join(ROOT, 'crates')):
+        folders[:] = sorted(one for one in folders if one != 'out')
+        for file in sorted(files):
+            if file.endswith(('.rt', '.antt')):
+                yield os.path.relpath(os.path.join(folder, file), ROOT)
+
+
 def faults():
     code = constants_of_code()
     definition = constants_of_model(DEFINITION, {})
@@ -70,7 +79,7 @@ def faults():
     for name in sorted(code.keys() | model.keys()):
         if code.get(name) != model.get(name):
             yield '%s is %s in %s and %s in %s' % (name, code.get(name), CODE, model.get(name), MODEL)
-    for name, named in ('BYTES', 'longestStream'), ('WORDS', 'leastWork'):
+    for name, named in ('BYTES', 'longest_stream'), ('WORDS', 'least_work'):
         if code.get(name) != definition.get(named):
             yield '%s is %s in %s, and %s is %s in %s' % (
                 name, code.get(name), CODE, named, definition.get(named), DEFINITION)
@@ -90,15 +99,13 @@ def faults():
         if code.get(first, 0) + 7 * each != code.get(after):
             yield '%s: seven times %d from %s on does not end at %s' % (CODE, each, first, after)
     numbers = re.compile(r"(?<![\w'.])(%s)(?![\w'])" % '|'.join(str(n) for n in sorted(set(code.values())) if n > 8))
-    for folder, _, files in sorted(os.walk(os.path.join(ROOT, 'crates'))):
-        for file in sorted(files):
-            path = os.path.relpath(os.path.join(folder, file), ROOT)
-            if not path.endswith(('.rt', '.antt')) or path in (CODE, MODEL, DEFINITION):
-                continue
-            for number, line in enumerate(lines(path), 1):
-                for found in numbers.findall(without_comment(path, line)):
-                    if int(found) not in ELSEWHERE.get(path, ()):
-                        yield '%s:%d: %s stands here, and not by its name' % (path, number, found)
+    for path in sources():
+        if path in (CODE, MODEL, DEFINITION):
+            continue
+        for number, line in enumerate(lines(path), 1):
+            for found in numbers.findall(without_comment(path, line)):
+                if int(found) not in ELSEWHERE.get(path, ()):
+                    yield '%s:%d: %s stands here, and not by its name' % (path, number, found)
 
 
 def main():

@@ -1,66 +1,103 @@
 #!/usr/bin/env python3
-"""Where the gate's time goes: seconds by crate and by must-fail edit.
+"""Where the gate's time goes: when each crate was done, and what became of its edits.
 
-usage: gate_times.py FILE
+usage: .ci/run 2>&1 | gate_times.py --stamp > FILE       while the gate runs
+       gate_times.py FILE                                afterwards
 
-FILE holds what a gate's run wrote, as by `.ci/run 2>&1 | tee ../gate.log` (not in
-target/, which the gate removes first).
+rt says nothing of time, so with --stamp each line of the gate gets the second at
+which it came, counted from the first. FILE may also be a log without seconds; then
+only what became of crates and edits is shown.
 
-The seconds are rt's own, from the start of a job to its end. Jobs run side by
-side, so their sum is more than the run took, and more than its processor time
-where there are more jobs than processors.
+Crates are proved side by side and their edits are tried beside them, so the seconds
+say when a crate's proof, its tests' proof and the first of its edits came, and not
+how long each took. What an earlier run on this machine proved is kept, and takes no
+time: `rt ci --anew` proves all.
 """
 import re
 import sys
+import time
 
-PROVED = re.compile(r'^rt: (\S+) (proved|NOT PROVED) \((?:exit \d+, )?(\d+) s\)$')
-EDIT = re.compile(r'^rt: must-fail ([^/\s]+)/([^:\s]+): (.*)$')
-RAN = re.compile(r'^rt: (\S+) (ran\b.*|proved, and its run FAILED) \((\d+) s\)$')
-SECONDS = re.compile(r'(\d+) s\)$')
-LAST = re.compile(r'^(\d+) passed, (\d+) failed$')
+STAMPED = re.compile(r'^ *(\d+) s \| (.*)$')
+PROVED = re.compile(r'^rt: (\w+)(: its tests are)? (proved|NOT PROVED)\b')
+KEPT = re.compile(r'^rt: (\w+) is kept: ')
+BEGUN = re.compile(r'^rt: (\w+): trying its must-fail edits \((\d+)\)$')
+EARLIER = re.compile(r'^rt: (\w+): (\d+) of its (\d+) must-fail edits were tried by an earlier run')
+EDIT = re.compile(r'^rt: must-fail (\w+)/([^:\s]+): (.*)$')
+RAN = re.compile(r'^rt: \w+(?: ran\b|: its tests passed)')
+WRONG = re.compile(r'^rt: (?:.*\b(?:NOT PROVED|FAILED|NOT REFUSED|NOT TRIED|BAD EDIT)\b'
+                   r'|\w+[^:]*: (?:the program |what the program wrote))')
+OK = re.compile(r'^rt: ok\b')
+LAST = re.compile(r'^(\d+) passed, (\d+) failed\b')
+
+
+def stamp():
+    """Each line of standard input with its second."""
+    first = None
+    for line in sys.stdin:
+        now = time.monotonic()
+        first = now if first is None else first
+        print('%6d s | %s' % (now - first, line.rstrip('\n')), flush=True)
+
+
+def read(path):
+    """The lines of a log, each with its second or None."""
+    with open(path, errors='replace') as opened:
+        for line in opened:
+            found = STAMPED.match(line.rstrip('\n'))
+            yield (int(found[1]), found[2]) if found else (None, line.rstrip('\n'))
+
+
+def told(at, what):
+    """What a column shows of a proof: its second, or that it is there, or a dash."""
+    return '-' if what != 'proved' else what if at is None else str(at)
 
 
 def main():
-    if len(sys.argv) != 2 or sys.argv[1] in ('-h', '--help'):
+    if sys.argv[1:] == ['--stamp']:
+        return stamp()
+    if len(sys.argv) != 2 or sys.argv[1].startswith('-'):
         sys.exit(__doc__)
-    proofs, edits, runs, wrong, last = {}, {}, 0, [], None
-    with open(sys.argv[1], errors='replace') as opened:
-        for line in opened:
-            line = line.rstrip()
-            proved, edit, ran = PROVED.match(line), EDIT.match(line), RAN.match(line)
-            if proved:
-                proofs[proved[1]] = int(proved[3])
-                if proved[2] != 'proved':
-                    wrong.append(line)
-            elif edit:
-                seconds = SECONDS.search(edit[3])
-                edits[edit[1], edit[2]] = int(seconds[1]) if seconds else 0
-                if not edit[3].startswith('refused'):
-                    wrong.append(line)
-            elif ran:
-                runs += 1
-                if not ran[2].startswith('ran'):
-                    wrong.append(line)
-            elif LAST.match(line):
-                last = line
-    if not proofs:
+    crates, tests, begun, edits, wrong = {}, {}, {}, {}, []
+    earlier, ran, ok, last, end = 0, 0, None, None, None
+    for at, line in read(sys.argv[1]):
+        end = at if at is not None else end
+        proved, kept, edit = PROVED.match(line), KEPT.match(line), EDIT.match(line)
+        tries, tried = BEGUN.match(line), EARLIER.match(line)
+        if proved:
+            (tests if proved[2] else crates)[proved[1]] = told(at, proved[3])
+        elif kept:
+            crates[kept[1]] = 'kept'
+        elif tries:
+            begun[tries[1]] = at
+        elif tried:
+            earlier += int(tried[2])
+        elif edit:
+            edits.setdefault(edit[1], []).append(edit[3].startswith('refused'))
+        elif RAN.match(line):
+            ran += 1
+        elif OK.match(line):
+            ok = line
+        elif LAST.match(line):
+            last = line
+        if WRONG.match(line):
+            wrong.append(line)
+    if not crates:
         sys.exit('no crate is proved in ' + sys.argv[1])
-    by_crate = {}
-    for (crate, _), seconds in edits.items():
-        by_crate.setdefault(crate, []).append(seconds)
-    print('%-16s %6s %6s %8s' % ('crate', 'proof', 'edits', 'seconds'))
-    for crate in proofs:
-        tried = by_crate.get(crate, [])
-        print('%-16s %6d %6s %8s' % (crate, proofs[crate], len(tried) or '', sum(tried) if tried else ''))
-    print('%-16s %6d %6d %8d' % ('sum', sum(proofs.values()), len(edits), sum(edits.values())))
-    if edits:
-        print('\n%-48s %7s' % ('edit', 'seconds'))
-        for (crate, label), seconds in sorted(edits.items(), key=lambda one: -one[1]):
-            print('%-48s %7d' % (crate + '/' + label, seconds))
-    print('\n%d crates and %d edits, %d seconds; %d programs run' % (
-        len(proofs), len(edits), sum(proofs.values()) + sum(edits.values()), runs))
+    print('%-16s %8s %8s %8s %6s %8s' % ('crate', 'proof', 'tests', 'edits at', 'edits', 'refused'))
+    for crate in crates:
+        tried = edits.get(crate, [])
+        since = begun.get(crate)
+        print(('%-16s %8s %8s %8s %6s %8s' % (
+            crate, crates[crate], tests.get(crate, ''), '' if since is None else since,
+            len(tried) or '', sum(tried) if tried else '')).rstrip())
+    count, refused = sum(map(len, edits.values())), sum(map(sum, edits.values()))
+    print('\n%d crates, %d of them kept; %d edits, %d of them tried earlier, %d refused; %d runs of programs and tests%s' % (
+        len(crates), sum(one == 'kept' for one in crates.values()), count, earlier, refused, ran,
+        '' if end is None else '; %d seconds' % end))
     for line in wrong:
         print(line)
+    if ok:
+        print(ok)
     print(last or 'the last line, N passed, M failed, is missing')
 
 

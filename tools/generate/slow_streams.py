@@ -10,7 +10,7 @@ usage: slow_streams.py PROGRAM [WORD ..]
   bucket   types in one bucket of the index over types, on the longest way through
            its tree that some seconds of search find, and uses of the last of them
 Each is a stream of nearly 65,536 bytes, the last of as many records as there
-may be. PROGRAM reads it from standard input, as target/bin/assemble and
+may be. PROGRAM reads it from standard input, as crates/assemble/out/assemble and
 `barrizuppa assemble` do. What counts is the processor's time, the best of all
 runs, less that of an empty stream.
 """
