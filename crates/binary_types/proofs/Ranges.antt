@@ -1,10 +1,10 @@
 -- Laws of limits with a maximum and without, and of their flags.
+use Rattle.std.specs.Prelude.{if◌then◌else◌}
 use Prim.Native.Nat.{ℕ, ◌+◌}
 use mathlib.Core.Bool.{Bool, true, false}
 use mathlib.Core.Path.{◌≡◌}
 use mathlib.Core.List.{List}
 use mathlib.Core.Option.{none, some}
-use Rattle.definition.specs.Basic.{if◌then◌else◌}
 use Rattle.definition.specs.Binary.{limits, limits_of}
 use Rattle.emit.specs.Put.{Put}
 use Rattle.syntax.specs.CoreTypes.{limits_is}

@@ -1,9 +1,8 @@
 // Limits, table types, global types.
 #![tactic(auto)]
 
-ghost use Rattle.std.specs.Prelude.{◌+◌, ◌≡◌};
+ghost use Rattle.std.specs.Prelude.{◌+◌, ◌≡◌, if◌then◌else◌};
 ghost use Rattle.std.proofs.Math.Option.{none, some};
-ghost use Rattle.definition.specs.Basic.{if◌then◌else◌};
 ghost use Rattle.definition.specs.Binary as Binary;
 ghost use Rattle.definition.specs.Deinline as Deinline;
 ghost use Rattle.emit.specs.Put.{Put};

@@ -1,4 +1,5 @@
 -- The loop over a body: what has been written and what is still to come are the whole.
+use Rattle.std.specs.Prelude.{if◌then◌else◌}
 use Prim.Native.Nat.{ℕ, ◌+◌, ◌-◌, ◌*◌, ◌≤◌, ◌<◌, ◌^◌}
 use mathlib.Core.Path.{◌≡◌, refl, sym, ◌∙◌, ap}
 use mathlib.Core.Bool.{Bool, true, false}
@@ -8,7 +9,7 @@ use lib.Dec.{eqb}
 use lib.ListN.{length}
 use borrow.Author.Tests.{eqb-true, eq-eqb, ne_eqb}
 use native.Mathlib.Omega.{arith}
-use Rattle.definition.specs.Basic.{Answer, ok, ◌>>=◌, concat_map, if◌then◌else◌, between}
+use Rattle.definition.specs.Basic.{Answer, ok, ◌>>=◌, concat_map, between}
 use Rattle.definition.specs.Syntax as Syntax
 use Rattle.definition.specs.Syntax.{Identifier, Op, instr}
 use Rattle.definition.specs.Reader.{Step, got, fault, byte}

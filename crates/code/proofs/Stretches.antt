@@ -1,10 +1,11 @@
 -- What resolving makes of a stretch of a body: of one and then another, and of folded records.
+use Rattle.std.specs.Prelude.{if◌then◌else◌}
 use Prim.Native.Nat.{ℕ, zero, suc, ◌+◌, ◌-◌}
 use mathlib.Core.Path.{◌≡◌, refl, sym, ◌∙◌, ap}
 use mathlib.Core.Bool.{Bool, true, false, false≢true}
 use mathlib.Core.List.{List, [], ◌∷◌, ◌++◌, append_assoc}
 use lib.Dec.{leb}
-use Rattle.definition.specs.Basic.{Answer, ok, fails, ◌>>=◌, concat_map, if◌then◌else◌}
+use Rattle.definition.specs.Basic.{Answer, ok, fails, ◌>>=◌, concat_map}
 use Rattle.definition.specs.Syntax as Syntax
 use Rattle.definition.specs.Syntax.{Bytes, Identifier, Body, Op, Rec, field, instr, folded, body_end}
 use Rattle.definition.specs.Reader.{Step, got, fault, byte}

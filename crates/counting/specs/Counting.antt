@@ -1,6 +1,5 @@
 -- The counts of items, on the code's own values: what a field brings.
-use Rattle.std.specs.Prelude.{ℕ, ◌+◌, min, true, List, [], ◌∷◌, ltb, set}
-use Rattle.definition.specs.Basic.{if◌then◌else◌}
+use Rattle.std.specs.Prelude.{ℕ, ◌+◌, min, true, List, [], ◌∷◌, ltb, set, if◌then◌else◌}
 use Rattle.definition.specs.Syntax.{Space, funcs, tables, mems, globals, types, elems, datas, code}
 use Rattle.definition.specs.Spaces.{count}
 use Rattle.definition.specs.Read as Read

@@ -1,6 +1,6 @@
 -- The whole (document 01, "What a call says"): from a stream, a work area and an output buffer to what a call says and leaves.
-use Rattle.std.specs.Prelude.{ℕ, Bool, true, false, List, [], ◌++◌, map, leb, ltb, length, drop, replicate}
-use Rattle.definition.specs.Basic.{if◌then◌else◌, Refusal, refusal, Answer, ok, fails, refused, ◌>>=◌, same_bytes}
+use Rattle.std.specs.Prelude.{ℕ, Bool, true, false, List, [], ◌++◌, map, leb, ltb, length, drop, replicate, if◌then◌else◌}
+use Rattle.definition.specs.Basic.{Refusal, refusal, Answer, ok, fails, refused, ◌>>=◌, same_bytes}
 use Rattle.definition.specs.Syntax.{Bytes, Identifier, Rec, Item, type_i}
 use Rattle.definition.specs.Read.{read}
 use Rattle.definition.specs.Deinline.{deinline, import_order, Numbered}

@@ -1,7 +1,7 @@
 -- The binary format (the standard, chapter 5): a module's items to bytes, every length and index in its shortest form.
-use Rattle.std.specs.Prelude.{ℕ, zero, suc, ◌+◌, ◌-◌, ◌/◌, ◌%◌, ◌^◌, Bool, false, ◌||◌, List, [], ◌∷◌, ◌++◌, map, eqb, ltb, length, ℤ, pos, negsuc}
+use Rattle.std.specs.Prelude.{ℕ, zero, suc, ◌+◌, ◌-◌, ◌/◌, ◌%◌, ◌^◌, Bool, false, ◌||◌, List, [], ◌∷◌, ◌++◌, map, eqb, ltb, length, ℤ, pos, negsuc, if◌then◌else◌}
 use Rattle.std.proofs.Math.Option.{Option, none, some}
-use Rattle.definition.specs.Basic.{if◌then◌else◌, concat_map, any}
+use Rattle.definition.specs.Basic.{concat_map, any}
 use Rattle.definition.specs.Syntax.{ValType, Bytes, code, FuncType, Limits, TableType, GlobalType, ExternType, func, table, mem, global, Mode, passive, active}
 use Rattle.definition.specs.Syntax.{TypeNo, BlockType, empty, single, typed, Op}
 use Rattle.definition.specs.Syntax.{Imm, no_imm, block_imm, label_imm, labels_imm, local_imm, item_imm, items_imm, indirect_imm, access_imm, int32_imm, int64_imm, raw_imm}

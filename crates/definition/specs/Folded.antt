@@ -1,7 +1,6 @@
 -- Folded records (document 02, §4; the folded instructions of the standard, 6.5): from the records of a body to its instructions in flat order,
 -- each with the number of its record. A folded record means its operands from left to right and then its operator.
-use Rattle.std.specs.Prelude.{ℕ, zero, suc, ◌+◌, ◌-◌, List, [], ◌∷◌, ◌++◌, leb}
-use Rattle.definition.specs.Basic.{if◌then◌else◌}
+use Rattle.std.specs.Prelude.{ℕ, zero, suc, ◌+◌, ◌-◌, List, [], ◌∷◌, ◌++◌, leb, if◌then◌else◌}
 use Rattle.definition.specs.Syntax.{Instr, Rec, field, instr, folded, body_end, Body}
 
 -- the operators that wait for operands, innermost first, each with how many are still due and with the number of its record

@@ -1,8 +1,8 @@
 -- The instruction records of a body, and constants (document 01; opcodes as in the standard, 5.4).
-use Rattle.std.specs.Prelude.{ℕ, zero, suc, ◌-◌, Bool, true, false, ◌&&◌, ◌||◌, not, eqb, leb, ltb, length, get_or}
+use Rattle.std.specs.Prelude.{ℕ, zero, suc, ◌-◌, Bool, true, false, ◌&&◌, ◌||◌, not, eqb, leb, ltb, length, get_or, if◌then◌else◌}
 use mathlib.Core.List.{List, [], ◌∷◌, tail}
 use Rattle.std.proofs.Math.Option.{Option, none, some}
-use Rattle.definition.specs.Basic.{if◌then◌else◌, between, is_some}
+use Rattle.definition.specs.Basic.{between, is_some}
 use Rattle.definition.specs.Syntax.{Identifier, Space, funcs, mems, globals, datas, same_space, Index}
 use Rattle.definition.specs.Syntax.{Operand, nothing, label, labels, local, item, items, access, int32, int64, raw, Plain, Instr, opens, elses, ends, indirect, plain, Rec, instr, folded, body_end}
 use Rattle.definition.specs.Reader.{Reader, ◌>>=◌, ◌>>◌, give, refuse, require, byte, byte_of, many, choose}

@@ -1,9 +1,9 @@
 -- Names (the crate's names.rs; the identifier contexts of the standard, 6.1; refusals 13 to 17 and 20): items are registered, and every index
 -- becomes a number. `eq` tells whether two identifiers are equal.
-use Rattle.std.specs.Prelude.{ℕ, ◌+◌, Bool, true, false, ◌&&◌, not, ltb, length, replicate}
+use Rattle.std.specs.Prelude.{ℕ, ◌+◌, Bool, true, false, ◌&&◌, not, ltb, length, replicate, if◌then◌else◌}
 use mathlib.Core.List.{List, [], ◌∷◌, ◌++◌, map, tail}
 use Rattle.std.proofs.Math.Option.{Option, none, some}
-use Rattle.definition.specs.Basic.{if◌then◌else◌, Answer, ok, fails, refused, ◌>>=◌, each, first_at, is_some, at}
+use Rattle.definition.specs.Basic.{Answer, ok, fails, refused, ◌>>=◌, each, first_at, is_some, at}
 use Rattle.definition.specs.Syntax.{ValType, Space, funcs, tables, mems, types, elems, datas, same_space, FuncType, ExternType, func, table, mem, global}
 use Rattle.definition.specs.Syntax.{Mode, passive, active, Index, absent, number, named, own_index, Local, TypeUse, Own, own_func, own_table, own_mem, own_global}
 use Rattle.definition.specs.Syntax.{Operand, nothing, label, labels, local, item, items, access, int32, int64, raw, Plain, Instr, opens, elses, ends, indirect, plain}

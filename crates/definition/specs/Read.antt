@@ -1,7 +1,7 @@
 -- The record stream: from a list of bytes to its records, or to the first reading fault in byte order (refusals 2 to 9 and 19).
-use Rattle.std.specs.Prelude.{ℕ, zero, suc, ◌+◌, Bool, true, false, ◌||◌, not, List, [], ◌∷◌, ◌++◌, leb, ltb, length, get_or}
+use Rattle.std.specs.Prelude.{ℕ, zero, suc, ◌+◌, Bool, true, false, ◌||◌, not, List, [], ◌∷◌, ◌++◌, leb, ltb, length, get_or, if◌then◌else◌}
 use Rattle.std.proofs.Math.Option.{Option, none, some}
-use Rattle.definition.specs.Basic.{if◌then◌else◌, Answer, ok, fails, refused}
+use Rattle.definition.specs.Basic.{Answer, ok, fails, refused}
 use Rattle.definition.specs.Syntax.{Bytes, Identifier, Space, Instr, Own, own_func, own_table, own_mem, own_global}
 use Rattle.definition.specs.Syntax.{Source, own, imported, table_of, mem_of, FieldRec, type_r, import_r, item_r, export_r, start_r, elem_r, data_r, Rec, field, instr, folded, body_end}
 use Rattle.definition.specs.Reader.{Step, got, fault, Reader, ◌>>=◌, give}

@@ -1,7 +1,7 @@
 -- The parts that records are made of (document 01, "The record stream"): numbers, identifiers, strings, types, indices, type uses.
-use Rattle.std.specs.Prelude.{ℕ, zero, suc, ◌+◌, ◌*◌, ◌%◌, ◌^◌, Bool, true, false, ◌&&◌, ◌||◌, not, List, [], ◌∷◌, eqb, leb, ltb}
+use Rattle.std.specs.Prelude.{ℕ, zero, suc, ◌+◌, ◌*◌, ◌%◌, ◌^◌, Bool, true, false, ◌&&◌, ◌||◌, not, List, [], ◌∷◌, eqb, leb, ltb, if◌then◌else◌}
 use Rattle.std.proofs.Math.Option.{Option, none, some}
-use Rattle.definition.specs.Basic.{if◌then◌else◌, between}
+use Rattle.definition.specs.Basic.{between}
 use Rattle.definition.specs.Syntax.{ValType, Bytes, Identifier, Limits, TableType, GlobalType, Index, absent, number, named, Local, TypeUse}
 use Rattle.definition.specs.Reader.{Reader, ◌>>=◌, ◌>>◌, give, refuse, require, byte, byte_of, many, choose}
 

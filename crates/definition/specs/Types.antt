@@ -1,8 +1,8 @@
 -- Type interning (the crate's types.rs; the abbreviations of the standard, 6.6; refusal 12). The types of a module are the declared ones,
 -- wherever they stand, and then those that uses add, in order of use.
-use Rattle.std.specs.Prelude.{ℕ, ◌+◌, Bool, ◌&&◌, List, [], ◌∷◌, ◌++◌, map, eqb, leb, ltb, length}
+use Rattle.std.specs.Prelude.{ℕ, ◌+◌, Bool, ◌&&◌, List, [], ◌∷◌, ◌++◌, map, eqb, leb, ltb, length, if◌then◌else◌}
 use Rattle.std.proofs.Math.Option.{Option, none, some}
-use Rattle.definition.specs.Basic.{if◌then◌else◌, Answer, ok, refused, ◌>>=◌, same_bytes, first_at, some_or}
+use Rattle.definition.specs.Basic.{Answer, ok, refused, ◌>>=◌, same_bytes, first_at, some_or}
 use Rattle.definition.specs.Syntax.{FuncType, ExternType, func, table, mem, global, Index, absent, number, named, own_index, TypeUse}
 use Rattle.definition.specs.Syntax.{Instr, opens, elses, ends, indirect, plain, Own, own_func, own_table, own_mem, own_global}
 use Rattle.definition.specs.Syntax.{Body, Field, type_f, import_f, own_f, export_f, start_f, elem_f, data_f}

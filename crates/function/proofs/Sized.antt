@@ -1,4 +1,5 @@
 -- A length put before bytes that were written first.
+use Rattle.std.specs.Prelude.{if◌then◌else◌}
 use Prim.Native.Nat.{ℕ, suc, ◌+◌, ◌-◌, ◌*◌, ◌/◌, ◌%◌, ◌≤◌, ◌<◌, ◌^◌}
 use mathlib.Core.Bool.{Bool, true, false}
 use mathlib.Core.Path.{◌≡◌, refl, sym, ◌∙◌, ap}
@@ -9,7 +10,6 @@ use lib.Seq.{sets, set-set, sets-eq, length-sets, length-take-le, drop_at, take-
 use borrow.Author.Tests.{lt-ltb}
 use native.Mathlib.Omega.{arith}
 use native.Mathlib.Decide.{dec_le}
-use Rattle.definition.specs.Basic.{if◌then◌else◌}
 use Rattle.definition.specs.Syntax.{Bytes}
 use Rattle.definition.specs.Binary.{unsigned, u, sized}
 use Rattle.laws.proofs.Sets.{sets-append}

@@ -1,4 +1,5 @@
 -- A call that says 0 has read its stream and made the bytes that it writes.
+use Rattle.std.specs.Prelude.{if◌then◌else◌}
 use mathlib.Core.Path.{◌≡◌, refl}
 use Prim.Native.Nat.{ℕ}
 use mathlib.Core.Bool.{Bool, true, false}
@@ -6,7 +7,7 @@ use mathlib.Core.List.{List}
 use lib.Dec.{ltb}
 use lib.ListN.{length}
 use native.Mathlib.Omega.{arith}
-use Rattle.definition.specs.Basic.{if◌then◌else◌, refusal, Answer, ok, fails}
+use Rattle.definition.specs.Basic.{refusal, Answer, ok, fails}
 use Rattle.definition.specs.Syntax.{Bytes, Identifier, Rec}
 use Rattle.definition.specs.Read.{read}
 use Rattle.definition.specs.Assemble.{Said, refusing, say, Maker, say_read, longest_stream, least_work, assemble_by}

@@ -1,4 +1,5 @@
 -- The items of a scope's fields are as many in each space as the scope says, and have its types.
+use Rattle.std.specs.Prelude.{if◌then◌else◌}
 use mathlib.Core.Path.{◌≡◌, refl, ap, ◌∙◌, sym}
 use Prim.Native.Nat.{ℕ, ◌+◌, ◌≤◌}
 use mathlib.Core.Bool.{Bool, true, false, false≢true}
@@ -8,7 +9,7 @@ use lib.ListN.{length, length-append, drop}
 use lib.Seq.{drop-append_seam}
 use native.Mathlib.Omega.{arith}
 use native.Mathlib.Nat.{add_assoc, add-zero, zero-add}
-use Rattle.definition.specs.Basic.{if◌then◌else◌, ok, each, concat_map}
+use Rattle.definition.specs.Basic.{ok, each, concat_map}
 use Rattle.definition.specs.Syntax.{Space, funcs, tables, mems, globals, types, elems, datas, same_space, FuncType, ExternType, func, table, mem, global, TypeUse, TypeNo, Body}
 use Rattle.definition.specs.Syntax.{Own, own_func, own_table, own_mem, own_global, Field, type_f, import_f, own_f, export_f, start_f, elem_f, data_f}
 use Rattle.definition.specs.Syntax.{Item, type_i, import_i, func_i, table_i, mem_i, global_i, export_i, start_i, elem_i, data_i}

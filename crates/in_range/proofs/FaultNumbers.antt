@@ -1,4 +1,5 @@
 -- No reading fault has the number 0.
+use Rattle.std.specs.Prelude.{if◌then◌else◌}
 use mathlib.Core.Path.{◌≡◌, refl}
 use Prim.Native.Nat.{ℕ, zero, suc, ◌+◌, ◌<◌}
 use mathlib.Core.Bool.{Bool, true, false}
@@ -8,7 +9,6 @@ use lib.Dec.{ltb}
 use lib.ListN.{length, get_or}
 use borrow.Author.Tests.{ltb-true}
 use native.Mathlib.Omega.{arith}
-use Rattle.definition.specs.Basic.{if◌then◌else◌}
 use Rattle.definition.specs.Syntax.{Bytes, Space}
 use Rattle.definition.specs.Reader.{Step, got, fault, Reader, onward, require, byte, many}
 use Rattle.definition.specs.Token.{groups, u32, u64, up_to, counted, id_byte, identifier, identifier₁, string_byte, string, bytes, val_type, ref_type, flag, flag64, bound, maximum, limits_of, limits}

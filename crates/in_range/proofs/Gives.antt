@@ -1,10 +1,11 @@
 -- What a reader gives, or an answer holds, whatever it is: laws by which a property is carried over a definition step by step.
+use Rattle.std.specs.Prelude.{if◌then◌else◌}
 use mathlib.Core.Path.{◌≡◌, refl}
 use Prim.Native.Nat.{ℕ}
 use mathlib.Core.Bool.{Bool, true, false}
 use mathlib.Core.List.{List, [], ◌∷◌, ◌++◌, map}
 use native.Mathlib.Omega.{arith}
-use Rattle.definition.specs.Basic.{if◌then◌else◌, Refusal, Answer, ok, fails, refused, ◌>>=◌, each}
+use Rattle.definition.specs.Basic.{Refusal, Answer, ok, fails, refused, ◌>>=◌, each}
 use Rattle.definition.specs.Syntax.{Bytes}
 use Rattle.definition.specs.Reader.{Step, got, fault, Reader, onward}
 use Rattle.in_range.specs.InRange.{Every}

@@ -1,4 +1,5 @@
 -- In what a strict call writes every index lies below its space's count (document 02, §8).
+use Rattle.std.specs.Prelude.{if◌then◌else◌}
 use mathlib.Core.Path.{◌≡◌, refl, ◌∙◌, sym, subst}
 use Prim.Native.Nat.{ℕ, ◌≤◌}
 use mathlib.Core.Bool.{Bool, true, false}
@@ -6,7 +7,7 @@ use mathlib.Core.List.{List, [], ◌∷◌, ◌++◌, map, Memᴰ}
 use mathlib.Core.Option.{none, some}
 use lib.ListN.{length, length-append, length-map, drop}
 use native.Mathlib.Omega.{arith}
-use Rattle.definition.specs.Basic.{if◌then◌else◌, Answer, ok, each, some_or, same_bytes}
+use Rattle.definition.specs.Basic.{Answer, ok, each, some_or, same_bytes}
 use Rattle.definition.specs.Syntax.{Bytes, Identifier, Rec, Space, funcs, tables, mems, FuncType, ExternType, func, table, mem, global, Mode, passive, active}
 use Rattle.definition.specs.Syntax.{Index, Local, TypeUse, Own, own_func, own_table, own_mem, own_global, Plain, Body}
 use Rattle.definition.specs.Syntax.{TypeNo, Item, type_i, Field, type_f, import_f, own_f, export_f, start_f, elem_f, data_f}

@@ -1,4 +1,5 @@
 -- No refusal has the number 0: of answers, of reading, and of the passes before resolution.
+use Rattle.std.specs.Prelude.{if◌then◌else◌}
 use mathlib.Core.Path.{◌≡◌, refl, ap}
 use Prim.Native.Nat.{ℕ, zero, suc, ◌+◌, ◌<◌}
 use mathlib.Core.Bool.{Bool, true, false}
@@ -8,7 +9,7 @@ use lib.Dec.{ltb, leb}
 use lib.ListN.{length}
 use borrow.Author.Tests.{ltb-true}
 use native.Mathlib.Omega.{arith}
-use Rattle.definition.specs.Basic.{if◌then◌else◌, Refusal, Answer, ok, fails, ◌>>=◌, each}
+use Rattle.definition.specs.Basic.{Refusal, Answer, ok, fails, ◌>>=◌, each}
 use Rattle.definition.specs.Syntax.{Bytes, Space, FuncType}
 use Rattle.definition.specs.Syntax.{type_f, import_f, own_f, export_f, start_f, elem_f, data_f}
 use Rattle.definition.specs.Reader.{Step, got, fault}

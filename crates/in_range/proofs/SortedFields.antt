@@ -1,5 +1,6 @@
 -- Every instruction and constant of the fields of a stream that was read has the operand that its opcode tells, and an item's own number, which
 -- de-inlining writes, is below the count of its space.
+use Rattle.std.specs.Prelude.{if◌then◌else◌}
 use mathlib.Core.Path.{refl}
 use Prim.Native.Nat.{ℕ, zero, suc, ◌+◌, ◌-◌, ◌≤◌, ◌<◌}
 use mathlib.Core.Bool.{Bool, true, false}
@@ -8,7 +9,7 @@ use mathlib.Core.Option.{Option, none, some}
 use lib.Dec.{leb}
 use lib.ListN.{length}
 use native.Mathlib.Omega.{arith}
-use Rattle.definition.specs.Basic.{if◌then◌else◌, Answer, ok, fails, between}
+use Rattle.definition.specs.Basic.{Answer, ok, fails, between}
 use Rattle.definition.specs.Syntax.{Bytes, Identifier, Space, tables, mems, ExternType, func, table, mem, global}
 use Rattle.definition.specs.Syntax.{Index, own_index, TypeUse, Mode, passive, active, Plain}
 use Rattle.definition.specs.Syntax.{Own, own_func, own_table, own_mem, own_global, Source, own, imported, table_of, mem_of}

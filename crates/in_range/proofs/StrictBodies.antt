@@ -1,4 +1,5 @@
 -- In a strict scope every index of a type use, an instruction or a body is in range.
+use Rattle.std.specs.Prelude.{if◌then◌else◌}
 use mathlib.Core.Path.{◌≡◌, refl, ap, ◌∙◌, sym}
 use Prim.Native.Nat.{ℕ, zero, suc, ◌+◌, ◌-◌, ◌≤◌, ◌<◌}
 use mathlib.Core.Bool.{Bool, true, false, ◌&&◌, not, false≢true}
@@ -8,7 +9,7 @@ use lib.Dec.{ltb}
 use lib.ListN.{length, replicate, length-map, length-replicate}
 use borrow.Author.Tests.{ltb-true}
 use native.Mathlib.Omega.{arith}
-use Rattle.definition.specs.Basic.{if◌then◌else◌, ok, refused, ◌>>=◌, each, first_at, at, between}
+use Rattle.definition.specs.Basic.{ok, refused, ◌>>=◌, each, first_at, at, between}
 use Rattle.definition.specs.Syntax.{Space, tables, mems, types, FuncType, ValType}
 use Rattle.definition.specs.Syntax.{Index, absent, number, named, own_index, TypeUse}
 use Rattle.definition.specs.Syntax.{Operand, nothing, label, labels, local, item, items, access, int32, int64, raw, Plain, Instr, opens, elses, ends, indirect, plain}

@@ -1,4 +1,5 @@
 -- What a strict call writes is in range (document 02, §8). Said once over what makes the bytes of a call.
+use Rattle.std.specs.Prelude.{if◌then◌else◌}
 use mathlib.Core.Path.{◌≡◌, ap, ◌∙◌, sym}
 use Prim.Native.Nat.{ℕ}
 use mathlib.Core.Bool.{Bool, true, false}
@@ -7,7 +8,7 @@ use lib.Dec.{leb}
 use lib.ListN.{length, drop}
 use lib.Seq.{take-append_seam}
 use native.Mathlib.Omega.{arith}
-use Rattle.definition.specs.Basic.{if◌then◌else◌, ok, refused, ◌>>=◌, same_bytes}
+use Rattle.definition.specs.Basic.{ok, refused, ◌>>=◌, same_bytes}
 use Rattle.definition.specs.Syntax.{Bytes, Identifier, Rec}
 use Rattle.definition.specs.Deinline.{deinline}
 use Rattle.definition.specs.Binary.{module'}

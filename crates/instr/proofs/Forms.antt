@@ -1,4 +1,5 @@
 -- The code's tests of an opcode say what the definition's ranges say: compared at every byte, by computing.
+use Rattle.std.specs.Prelude.{if◌then◌else◌}
 use mathlib.Core.Path.{◌≡◌, refl, ap, sym, ◌∙◌}
 use mathlib.Core.Bool.{Bool, true, false, ◌||◌, false≢true}
 use mathlib.Core.List.{List, [], ◌∷◌}
@@ -6,7 +7,7 @@ use mathlib.Core.Option.{Option, none, some}
 use Prim.Native.Nat.{ℕ, ◌≤◌, ◌<◌}
 use lib.Dec.{eqb, ltb}
 use borrow.Author.Tests.{eqb-true, ne_eqb, le-ltb}
-use Rattle.definition.specs.Basic.{if◌then◌else◌, between}
+use Rattle.definition.specs.Basic.{between}
 use Rattle.definition.specs.Instructions as Instructions
 use Rattle.definition.specs.Instructions.{opening, elsing, ending, calling, operands, form_of, form_in, opcodes}
 use Rattle.laws.proofs.Table.{everywhere}

@@ -1,11 +1,11 @@
 -- What stands in a body by the definition's reader is what a later pass meets there.
+use Rattle.std.specs.Prelude.{if◌then◌else◌}
 use mathlib.Core.Path.{◌≡◌, refl, sym, ◌∙◌, ap}
 use Prim.Native.Nat.{ℕ, ◌≤◌}
 use mathlib.Core.Bool.{Bool, true, false, not, false≢true}
 use lib.Dec.{eqb, ltb}
 use borrow.Author.Tests.{eq-eqb, ltb-false}
 use native.Mathlib.Omega.{arith}
-use Rattle.definition.specs.Basic.{if◌then◌else◌}
 use Rattle.definition.specs.Syntax.{Bytes, Identifier, Instr, Rec, field, instr, folded, body_end}
 use Rattle.definition.specs.Reader.{Step, got, fault, onward, require, give, byte, ◌>>=◌, ◌>>◌}
 use Rattle.definition.specs.Instructions.{form_of, formed, is_open, is_due, unfolded_rec, fold, folded_rec, body_rec}

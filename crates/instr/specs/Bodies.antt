@@ -1,7 +1,6 @@
 -- What stands in a body that was read before: total, whatever the stream is. Only how many blocks are open is known, so an else may come in any of
 -- them.
-use Rattle.std.specs.Prelude.{ℕ, zero, suc, ◌+◌, ◌-◌, Bool, true, false, ◌&&◌, [], ◌∷◌, ◌++◌, eqb, leb}
-use Rattle.definition.specs.Basic.{if◌then◌else◌}
+use Rattle.std.specs.Prelude.{ℕ, zero, suc, ◌+◌, ◌-◌, Bool, true, false, ◌&&◌, [], ◌∷◌, ◌++◌, eqb, leb, if◌then◌else◌}
 use Rattle.definition.specs.Syntax as Syntax
 use Rattle.definition.specs.Syntax.{Bytes, Identifier, Body, Rec, field, instr, folded, body_end}
 use Rattle.definition.specs.Reader.{Step, got, fault, Reader, ◌>>◌, byte}

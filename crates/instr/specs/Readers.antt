@@ -1,7 +1,6 @@
 -- Readers of the definition as the code divides them, and what its answers mean.
-use Rattle.std.specs.Prelude.{ℕ, ◌≡◌, eqb, ltb}
+use Rattle.std.specs.Prelude.{ℕ, ◌≡◌, eqb, ltb, if◌then◌else◌}
 use Rattle.std.proofs.Math.Option.{Option, none, some}
-use Rattle.definition.specs.Basic.{if◌then◌else◌}
 use Rattle.definition.specs.Syntax.{Bytes, Identifier, Instr, Rec, field, instr, folded, body_end}
 use Rattle.definition.specs.Reader.{Step, got, fault}
 use Rattle.definition.specs.Instructions as Instructions

@@ -1,4 +1,5 @@
 -- A type that was read as a field had room for one more.
+use Rattle.std.specs.Prelude.{if◌then◌else◌}
 use Prim.Native.Nat.{ℕ}
 use mathlib.Core.Path.{◌≡◌, subst}
 use mathlib.Core.Bool.{Bool, true, false}
@@ -6,7 +7,6 @@ use mathlib.Core.List.{List, [], ◌∷◌}
 use mathlib.Core.Option.{Option}
 use lib.Dec.{eqb}
 use native.Mathlib.Omega.{arith}
-use Rattle.definition.specs.Basic.{if◌then◌else◌}
 use Rattle.definition.specs.Syntax.{Bytes, Identifier, Space, FuncType, FieldRec, type_r, import_r, item_r, export_r, start_r, elem_r, data_r, ImportName, funcs, tables, mems, globals, types, elems, datas}
 use Rattle.definition.specs.Reader.{got, Reader, require, give, byte, choose, ◌>>=◌, ◌>>◌}
 use Rattle.definition.specs.Token.{counted, identifier, string, bytes, val_type, present}

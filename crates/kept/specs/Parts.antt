@@ -1,6 +1,5 @@
 -- The bytes of entries that are kept while they are resolved: each section has a part of the kept bytes to itself.
-use Rattle.std.specs.Prelude.{ℕ, ◌+◌, ◌-◌, ◌*◌, ◌/◌, leb, eqb, length, take, drop}
-use Rattle.definition.specs.Basic.{if◌then◌else◌}
+use Rattle.std.specs.Prelude.{ℕ, ◌+◌, ◌-◌, ◌*◌, ◌/◌, leb, eqb, length, take, drop, if◌then◌else◌}
 use Rattle.definition.specs.Syntax.{Bytes}
 
 -- how many of the 32 units stand before the part of section k: exports have 2, code has 7, data have 14, every other section has 1

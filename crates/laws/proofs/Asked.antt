@@ -1,4 +1,5 @@
 -- What the records of a stream declare is what their fields declare; and what they ask for is what their fields use, in flat order.
+use Rattle.std.specs.Prelude.{if◌then◌else◌}
 use Prim.Native.Nat.{ℕ, zero, suc, ◌+◌, ◌-◌}
 use mathlib.Core.Path.{◌≡◌, refl, ap, ◌∙◌, sym}
 use mathlib.Core.Bool.{Bool, true, false}
@@ -10,7 +11,7 @@ use lib.Dec.{leb}
 use lib.ListN.{length}
 use borrow.Author.Tests.{leb-true, leb-false}
 use native.Mathlib.Omega.{arith}
-use Rattle.definition.specs.Basic.{if◌then◌else◌, ok, concat_map}
+use Rattle.definition.specs.Basic.{ok, concat_map}
 use Rattle.definition.specs.Syntax as Syntax
 use Rattle.definition.specs.Syntax.{Bytes, Identifier, Space, FuncType, ExternType, Index, absent, number, named, TypeUse, Instr, Own, Source, FieldRec, Rec, field, instr, folded, body_end, Body, own_index}
 use Rattle.definition.specs.Reader.{got}

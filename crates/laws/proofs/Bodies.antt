@@ -1,5 +1,6 @@
 -- What a record of a body that was read tells: how it was read, where its end stands, that it was admitted, and that it is read again by the depth
 -- alone.
+use Rattle.std.specs.Prelude.{if◌then◌else◌}
 use mathlib.Core.Path.{◌≡◌, refl, ap, sym, ◌∙◌}
 use Prim.Native.Nat.{ℕ, zero, suc, ◌+◌, ◌-◌, ◌≤◌, ◌<◌}
 use mathlib.Core.Bool.{Bool, true, false, not, false≢true}
@@ -9,7 +10,6 @@ use lib.Dec.{eqb, leb, ltb}
 use lib.ListN.{length, get_or, length-replicate}
 use borrow.Author.Tests.{leb-true, ltb-true, lt-ltb}
 use native.Mathlib.Omega.{arith}
-use Rattle.definition.specs.Basic.{if◌then◌else◌}
 use Rattle.definition.specs.Syntax.{Bytes, Identifier, Instr, opens, elses, ends, indirect, plain, FieldRec, Rec, field, instr, folded, body_end}
 use Rattle.definition.specs.Reader.{Step, got, fault, onward, require, give, byte, ◌>>=◌, ◌>>◌}
 use Rattle.definition.specs.Token.{u32, up_to, identifier, type_use, optional}

@@ -1,4 +1,5 @@
 -- No type too many (document 02, §14): the types of an accepted stream serve it, no list that does has fewer, and they are what section 1 holds.
+use Rattle.std.specs.Prelude.{if◌then◌else◌}
 use Prim.Native.Nat.{ℕ, ◌≤◌}
 use mathlib.Core.Path.{◌≡◌, ap, ◌∙◌, sym}
 use mathlib.Core.Bool.{Bool, true, false}
@@ -7,7 +8,7 @@ use mathlib.Core.Option.{some}
 use lib.Dec.{leb}
 use lib.ListN.{length}
 use native.Mathlib.Omega.{arith}
-use Rattle.definition.specs.Basic.{if◌then◌else◌, ok, refused, ◌>>=◌, same_bytes, at}
+use Rattle.definition.specs.Basic.{ok, refused, ◌>>=◌, same_bytes, at}
 use Rattle.definition.specs.Syntax.{Bytes, Identifier, funcs, FuncType, Rec, Item}
 use Rattle.definition.specs.Read.{read}
 use Rattle.definition.specs.Deinline.{Numbered, import_order, deinline}

@@ -1,4 +1,5 @@
 -- Section 1 of a module holds one list of types: bytes that hold two lists hold the same twice.
+use Rattle.std.specs.Prelude.{if◌then◌else◌}
 use Prim.Native.Nat.{ℕ, zero, suc, ◌+◌, ◌/◌, ◌%◌}
 use mathlib.Core.Path.{◌≡◌, refl, sym, ◌∙◌, ap}
 use mathlib.Core.Bool.{Bool, true, false}
@@ -8,7 +9,7 @@ use lib.Dec.{ltb}
 use lib.ListN.{length}
 use borrow.Author.Tests.{ltb-true}
 use native.Mathlib.Omega.{arith}
-use Rattle.definition.specs.Basic.{if◌then◌else◌, concat_map, at}
+use Rattle.definition.specs.Basic.{concat_map, at}
 use Rattle.definition.specs.Syntax.{Bytes, FuncType}
 use Rattle.definition.specs.Binary.{unsigned, u, vec, sized, byte, func_type, joined, content, section_of, preamble}
 use Rattle.laws.specs.TypeLists.{HoldsTypes}

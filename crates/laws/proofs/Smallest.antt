@@ -1,4 +1,5 @@
 -- The types that interning finds are the shortest list that begins with the declared ones and has an equal signature for each use.
+use Rattle.std.specs.Prelude.{if◌then◌else◌}
 use mathlib.Core.Path.{◌≡◌, refl, ap, ◌∙◌, sym}
 use Prim.Native.Nat.{ℕ, zero, suc, ◌+◌, ◌≤◌}
 use mathlib.Core.Bool.{Bool, true, false, false≢true}
@@ -10,7 +11,7 @@ use lib.Dec.{eqb, leb}
 use lib.ListN.{length, length-append}
 use borrow.Author.Tests.{eqb-true}
 use native.Mathlib.Omega.{arith}
-use Rattle.definition.specs.Basic.{if◌then◌else◌, ok, refused, same, same_bytes, first_at, later, at}
+use Rattle.definition.specs.Basic.{ok, refused, same, same_bytes, first_at, later, at}
 use Rattle.definition.specs.Syntax.{FuncType}
 use Rattle.definition.specs.Types.{same_type, type_at, take_or_add, intern, Uses}
 use Rattle.laws.proofs.Equal.{and_true}

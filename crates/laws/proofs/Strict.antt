@@ -1,5 +1,6 @@
 -- The strict call (document 02, §8) says what the plain call says, or 20. So where it accepts, the plain call gives the same answer and bytes,
 -- and where it refuses by another number, so does the plain call, at the same record.
+use Rattle.std.specs.Prelude.{if◌then◌else◌}
 use mathlib.Core.Path.{◌≡◌, refl, ap, sym}
 use Prim.Native.Nat.{ℕ, ◌+◌}
 use mathlib.Core.Bool.{Bool, true, false, ◌&&◌, not, false≢true}
@@ -7,7 +8,7 @@ use mathlib.Core.List.{List, [], ◌∷◌}
 use mathlib.Core.Option.{Option, none, some}
 use lib.Dec.{eqb, ltb}
 use lib.ListN.{length}
-use Rattle.definition.specs.Basic.{if◌then◌else◌, refusal, Answer, ok, fails, refused, ◌>>=◌, each, concat_map, same_bytes}
+use Rattle.definition.specs.Basic.{refusal, Answer, ok, fails, refused, ◌>>=◌, each, concat_map, same_bytes}
 use Rattle.definition.specs.Syntax.{Bytes, Identifier, Space, funcs, tables, mems, types, FuncType, ExternType, func, table, mem, global, Mode, passive, active}
 use Rattle.definition.specs.Syntax.{Index, absent, number, named, own_index, TypeUse, Own, own_func, own_table, own_mem, own_global}
 use Rattle.definition.specs.Syntax.{Operand, nothing, label, labels, local, item, items, access, int32, int64, raw, Plain, Instr, opens, elses, ends, indirect, plain}

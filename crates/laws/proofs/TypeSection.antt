@@ -1,4 +1,5 @@
 -- Section 1 of a module holds the types of its scope, declared and added, in their order.
+use Rattle.std.specs.Prelude.{if◌then◌else◌}
 use mathlib.Core.Path.{◌≡◌, refl, ap, ◌∙◌, sym}
 use Prim.Native.Nat.{ℕ}
 use mathlib.Core.Bool.{Bool, true, false, not, ◌&&◌, false≢true}
@@ -8,7 +9,7 @@ use lib.Dec.{eqb}
 use lib.ListN.{length, drop}
 use lib.Seq.{drop-append_seam}
 use borrow.Author.Tests.{eqb-false}
-use Rattle.definition.specs.Basic.{if◌then◌else◌, Answer, ok, ◌>>=◌, each, concat_map, any, at}
+use Rattle.definition.specs.Basic.{Answer, ok, ◌>>=◌, each, concat_map, any, at}
 use Rattle.definition.specs.Syntax.{Bytes, Body, FuncType, Own, own_func, own_table, own_mem, own_global, Field, type_f, import_f, own_f, export_f, start_f, elem_f, data_f}
 use Rattle.definition.specs.Syntax.{Item, type_i}
 use Rattle.definition.specs.Deinline.{Numbered}

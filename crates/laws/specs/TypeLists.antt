@@ -1,9 +1,9 @@
 -- No type too many (document 02, §14): which lists of types serve a stream, which of them is the smallest, and what section 1 of a module holds. In
 -- document 01's words, and without a word of how the assembler finds its types.
-use Rattle.std.specs.Prelude.{ℕ, ◌≤◌, ◌≡◌, ◌&&◌, eqb, leb, length}
+use Rattle.std.specs.Prelude.{ℕ, ◌≤◌, ◌≡◌, ◌&&◌, eqb, leb, length, if◌then◌else◌}
 use mathlib.Core.List.{List, [], ◌∷◌, ◌++◌, map, Memᴰ}
 use Rattle.std.proofs.Math.Option.{some}
-use Rattle.definition.specs.Basic.{if◌then◌else◌, ok, concat_map, at}
+use Rattle.definition.specs.Basic.{ok, concat_map, at}
 use Rattle.definition.specs.Syntax.{Bytes, Identifier, FuncType, ExternType, func, table, mem, global, Index, absent, number, named, own_index, TypeUse}
 use Rattle.definition.specs.Syntax.{Instr, opens, elses, ends, indirect, plain, Own, own_func, own_table, own_mem, own_global}
 use Rattle.definition.specs.Syntax.{Source, own, imported, table_of, mem_of, FieldRec, type_r, import_r, item_r, export_r, start_r, elem_r, data_r, Rec, field, instr, folded, body_end}

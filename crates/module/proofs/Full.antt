@@ -1,4 +1,5 @@
 -- No entry of an item is empty, so no section has more entries than bytes.
+use Rattle.std.specs.Prelude.{if◌then◌else◌}
 use Prim.Native.Nat.{ℕ, zero, suc, ◌+◌, ◌/◌, ◌%◌, ◌≤◌}
 use mathlib.Core.Bool.{Bool, true, false}
 use mathlib.Core.List.{List, [], ◌∷◌, ◌++◌}
@@ -6,7 +7,7 @@ use mathlib.Core.Option.{Option, none, some}
 use lib.Dec.{eqb, ltb}
 use lib.ListN.{length, length-append}
 use native.Mathlib.Omega.{arith}
-use Rattle.definition.specs.Basic.{if◌then◌else◌, concat_map}
+use Rattle.definition.specs.Basic.{concat_map}
 use Rattle.definition.specs.Syntax.{Bytes, ValType, Limits, Op, passive, active}
 use Rattle.definition.specs.Syntax.{Item, type_i, import_i, func_i, table_i, mem_i, global_i, export_i, start_i, elem_i, data_i}
 use Rattle.definition.specs.Binary.{unsigned, u, sized, limits, limits_of, table_type, global_type, extern_type, expr, func_code, elem, data', entries, in_section, joined}

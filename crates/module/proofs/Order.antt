@@ -1,4 +1,5 @@
 -- The sections in their order: the data count, which no item brings, stands before code and data.
+use Rattle.std.specs.Prelude.{if◌then◌else◌}
 use Prim.Native.Nat.{ℕ, zero, suc, ◌+◌, ◌-◌, ◌≤◌, ◌<◌}
 use mathlib.Core.Path.{◌≡◌, refl, sym, ◌∙◌, ap}
 use mathlib.Core.Bool.{Bool, true, false, ◌||◌}
@@ -7,7 +8,7 @@ use lib.Dec.{eqb}
 use lib.ListN.{length, length-append}
 use native.Mathlib.Omega.{arith}
 use borrow.Author.Tests.{ne_eqb}
-use Rattle.definition.specs.Basic.{if◌then◌else◌, concat_map, any}
+use Rattle.definition.specs.Basic.{concat_map, any}
 use Rattle.definition.specs.Syntax.{Bytes, Item, type_i, import_i, func_i, table_i, mem_i, global_i, export_i, start_i, elem_i, data_i}
 use Rattle.definition.specs.Binary.{u, sized, entries, in_section, names_data, data_count, joined, content, section_of, section, preamble, section_numbers, sections, module'}
 use Rattle.laws.proofs.TypeSection.{section-append}

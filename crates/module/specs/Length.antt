@@ -1,6 +1,5 @@
 -- How long sections and the module are, by the size beside the types and the tally of the other entries.
-use Rattle.std.specs.Prelude.{ℕ, zero, suc, ◌+◌, ◌-◌, ◌≤◌, ◌≡◌, Bool, List, [], ◌∷◌, ◌++◌, map, eqb, length, get_or}
-use Rattle.definition.specs.Basic.{if◌then◌else◌}
+use Rattle.std.specs.Prelude.{ℕ, zero, suc, ◌+◌, ◌-◌, ◌≤◌, ◌≡◌, Bool, List, [], ◌∷◌, ◌++◌, map, eqb, length, get_or, if◌then◌else◌}
 use Rattle.definition.specs.Syntax.{Bytes}
 use Rattle.definition.specs.Binary.{u, sized, func_type, in_section, joined, section_of, section}
 use Rattle.emit.specs.Put.{past}

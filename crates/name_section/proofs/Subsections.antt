@@ -1,4 +1,5 @@
 -- The section: its length by the tally, and its bytes.
+use Rattle.std.specs.Prelude.{if◌then◌else◌}
 use Prim.Native.Nat.{ℕ, ◌*◌, ◌^◌, ◌≤◌, ◌<◌}
 use mathlib.Core.Path.{◌≡◌, refl, sym, ◌∙◌, ap}
 use mathlib.Core.Bool.{true, false}
@@ -7,7 +8,7 @@ use lib.Dec.{eqb}
 use lib.ListN.{length, get_or, length-append, length-map}
 use native.Mathlib.Omega.{arith}
 use borrow.Author.Tests.{eq-eqb, ne_eqb}
-use Rattle.definition.specs.Basic.{if◌then◌else◌, concat_map}
+use Rattle.definition.specs.Basic.{concat_map}
 use Rattle.definition.specs.Syntax.{Bytes, Identifier, funcs}
 use Rattle.definition.specs.Binary.{unsigned, u, sized, joined, content, section_of}
 use Rattle.emit.specs.Put.{Put, past}

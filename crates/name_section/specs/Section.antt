@@ -1,6 +1,5 @@
 -- The name section, by the tally of its subsections' entries.
-use Rattle.std.specs.Prelude.{ℕ, ◌≡◌, List, ◌∷◌, map, eqb, length, get_or}
-use Rattle.definition.specs.Basic.{if◌then◌else◌}
+use Rattle.std.specs.Prelude.{ℕ, ◌≡◌, List, ◌∷◌, map, eqb, length, get_or, if◌then◌else◌}
 use Rattle.definition.specs.Syntax.{Bytes, funcs}
 use Rattle.definition.specs.Binary.{u, joined}
 use Rattle.emit.specs.Put.{past}

@@ -1,4 +1,5 @@
 -- Plain mathematics of the loops over the work area.
+use Rattle.std.specs.Prelude.{if◌then◌else◌}
 use Prim.Native.Nat.{ℕ, zero, suc, ◌+◌, ◌-◌, ◌*◌, ◌/◌, ◌%◌, ◌≤◌, ◌<◌, min}
 use mathlib.Core.Path.{◌≡◌, refl, sym, ◌∙◌, ap}
 use mathlib.Core.Bool.{Bool, true, false, ◌&&◌, not, false≢true}
@@ -13,7 +14,7 @@ use mir.Val.{Fits}
 use native.Mathlib.Omega.{arith}
 use native.Mathlib.Decide.{dec_le}
 use native.Mathlib.Numerals.{add-one}
-use Rattle.definition.specs.Basic.{if◌then◌else◌, Answer, same, same_bytes, first_at, later, is_some, ok, refused}
+use Rattle.definition.specs.Basic.{Answer, same, same_bytes, first_at, later, is_some, ok, refused}
 use Rattle.laws.proofs.Equal.{same-eq}
 use Rattle.definition.specs.Syntax.{Identifier}
 use Rattle.definition.specs.Names.{carries, find, below, number_in, taken, Namespace}

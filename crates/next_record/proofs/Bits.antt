@@ -1,4 +1,5 @@
 -- The marks of the open blocks: a bit each, and what moving them comes to.
+use Rattle.std.specs.Prelude.{if◌then◌else◌}
 use mathlib.Core.Path.{◌≡◌, refl, ap, sym, ◌∙◌}
 use Prim.Native.Nat.{ℕ, zero, suc, ◌+◌, ◌-◌, ◌*◌, ◌/◌, ◌%◌, ◌^◌, ◌≤◌, ◌<◌}
 use mathlib.Core.Bool.{Bool, true, false}
@@ -13,7 +14,6 @@ use native.Mathlib.Numerals.{add-one}
 use Rattle.definition.specs.Instructions.{may_else, elsed}
 use Rattle.syntax.specs.Marks.{bits_of, marks_in, inside_of}
 use Rattle.syntax.specs.declared.Marks.{Marks}
-use Rattle.definition.specs.Basic.{if◌then◌else◌}
 use Rattle.next_record.specs.declared.marks.Innermost.{Innermost}
 use Rattle.next_record.specs.Marks.{mark_of, innermost_of, Opened, Elsed, Ended}
 

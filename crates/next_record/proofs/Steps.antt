@@ -1,10 +1,10 @@
 -- The small steps of the code: depths, bytes.
+use Rattle.std.specs.Prelude.{if◌then◌else◌}
 use mathlib.Core.Path.{◌≡◌, refl}
 use Prim.Native.Nat.{ℕ}
 use mathlib.Core.Bool.{Bool, true, false}
 use mathlib.Core.List.{List}
 use lib.ListN.{get_or}
-use Rattle.definition.specs.Basic.{if◌then◌else◌}
 use Rattle.definition.specs.Read.{begins_in}
 use Rattle.syntax.specs.declared.Part.{Part}
 use Rattle.syntax.specs.declared.List as Records

@@ -1,6 +1,6 @@
 -- What the code's answers and small steps mean.
-use Rattle.std.specs.Prelude.{ℕ, Bool, false, eqb, ltb}
-use Rattle.definition.specs.Basic.{if◌then◌else◌, Answer, ok, fails, refused}
+use Rattle.std.specs.Prelude.{ℕ, Bool, false, eqb, ltb, if◌then◌else◌}
+use Rattle.definition.specs.Basic.{Answer, ok, fails, refused}
 use Rattle.definition.specs.Syntax.{Bytes, Identifier, Instr, opens, elses, ends, indirect, plain, Rec, field, instr, folded, body_end}
 use Rattle.definition.specs.Reader.{Step, got, fault, Reader, ◌>>◌, require}
 use Rattle.definition.specs.Instructions.{Operands, opening, elsing, ending, instruction, may_else}

@@ -1,7 +1,7 @@
 -- Folded records in the reading pass: one is read with all its operands.
-use Rattle.std.specs.Prelude.{◌≡◌, ℕ, zero, suc, ◌-◌, ◌*◌, ◌^◌, ◌≤◌, ◌<◌, true, false, ◌||◌, eqb, leb, get_or}
+use Rattle.std.specs.Prelude.{◌≡◌, ℕ, zero, suc, ◌-◌, ◌*◌, ◌^◌, ◌≤◌, ◌<◌, true, false, ◌||◌, eqb, leb, get_or, if◌then◌else◌}
 use Rattle.std.proofs.Math.Option.{Option, none, some}
-use Rattle.definition.specs.Basic.{if◌then◌else◌, Answer, ok, refused}
+use Rattle.definition.specs.Basic.{Answer, ok, refused}
 use Rattle.definition.specs.Syntax.{Bytes, Identifier, Instr, Rec, field, instr, folded, body_end}
 use Rattle.definition.specs.Reader.{Step, got, fault, byte}
 use Rattle.definition.specs.Instructions.{Form, opening, elsing, ending, calling, operands, form_of, fold}

@@ -1,7 +1,6 @@
 -- How the marks of the open blocks move, for as many of them as are open.
-use Rattle.std.specs.Prelude.{ℕ, ◌+◌, ◌-◌, ◌<◌, ◌%◌, Bool, ◌≡◌, eqb}
+use Rattle.std.specs.Prelude.{ℕ, ◌+◌, ◌-◌, ◌<◌, ◌%◌, Bool, ◌≡◌, eqb, if◌then◌else◌}
 use mathlib.Core.List.{◌∷◌, tail}
-use Rattle.definition.specs.Basic.{if◌then◌else◌}
 use Rattle.definition.specs.Instructions.{elsed}
 use Rattle.syntax.specs.Marks.{bits_of, marks_in}
 use Rattle.syntax.specs.declared.Marks.{Marks}

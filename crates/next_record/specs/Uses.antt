@@ -1,7 +1,6 @@
 -- Which bodies the interning of types has to look at, and which instructions ask for the data count section.
-use Rattle.std.specs.Prelude.{ℕ, ◌+◌, Bool, false, true, not, ◌||◌, [], ◌∷◌, eqb}
+use Rattle.std.specs.Prelude.{ℕ, ◌+◌, Bool, false, true, not, ◌||◌, [], ◌∷◌, eqb, if◌then◌else◌}
 use Rattle.area.specs.Layout.{MARK}
-use Rattle.definition.specs.Basic.{if◌then◌else◌}
 use Rattle.definition.specs.Syntax.{Identifier, Operand, nothing, label, labels, local, item, items, access, int32, int64, raw, Instr, opens, elses, ends, indirect, plain, Body}
 use Rattle.definition.specs.Instructions.{Operands, bare, labelidx, labelidxs, localidx, funcidx, globalidx, memidx, memarg, i32, i64, f32, f64, heaptype, bulk}
 use Rattle.definition.specs.Types.{is_short}

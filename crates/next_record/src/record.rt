@@ -1,6 +1,5 @@
 // One record at the running place, and the place after it.
-ghost use Rattle.std.specs.Prelude.{◌≡◌, ◌≤◌, ◌<◌, get_or};
-ghost use Rattle.definition.specs.Basic.{if◌then◌else◌};
+ghost use Rattle.std.specs.Prelude.{◌≡◌, ◌≤◌, ◌<◌, get_or, if◌then◌else◌};
 ghost use Rattle.definition.specs.Read as Read;
 ghost use Rattle.syntax.specs.Items.{room_of};
 ghost use Rattle.syntax.specs.Marks.{no_marks};

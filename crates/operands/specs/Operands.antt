@@ -1,6 +1,6 @@
 -- Constants, labels and lists of indices: the bytes of what is resolved.
-use Rattle.std.specs.Prelude.{ℕ, ◌≤◌, Bool, List, [], ◌∷◌}
-use Rattle.definition.specs.Basic.{Answer, if◌then◌else◌, each}
+use Rattle.std.specs.Prelude.{ℕ, ◌≤◌, Bool, List, [], ◌∷◌, if◌then◌else◌}
+use Rattle.definition.specs.Basic.{Answer, each}
 use Rattle.definition.specs.Syntax.{Bytes, Depth, Identifier, Index, Op, Space, funcs, int32_imm, int64_imm}
 use Rattle.definition.specs.Names.{item_no, depth_of}
 use Rattle.definition.specs.Binary.{u, expr}

@@ -1,4 +1,5 @@
 -- The stages before the last, and the join with the records.
+use Rattle.std.specs.Prelude.{if◌then◌else◌}
 use Prim.Native.Nat.{ℕ, ◌+◌}
 use mathlib.Core.Path.{◌≡◌, refl, sym, ◌∙◌, ap}
 use mathlib.Core.Bool.{Bool, true, false}
@@ -10,7 +11,7 @@ use Rattle.syntax.specs.Refusals.{refusal_of}
 use Rattle.syntax.specs.declared.Refusal.{Refusal}
 use Rattle.area.specs.Layout.{BYTES, WORDS, STRICT, DECLARED}
 use Rattle.definition.specs.Basic as Basic
-use Rattle.definition.specs.Basic.{if◌then◌else◌, refusal, Answer, ok, fails, refused, ◌>>=◌, same_bytes}
+use Rattle.definition.specs.Basic.{refusal, Answer, ok, fails, refused, ◌>>=◌, same_bytes}
 use Rattle.definition.specs.Syntax.{Bytes, Identifier, Rec, Item, FuncType}
 use Rattle.definition.specs.Read.{read}
 use Rattle.definition.specs.Deinline.{Numbered, import_order, deinline}

@@ -1,4 +1,5 @@
 -- Demand 1 of the assembler: a refusal reports length 0 and keeps the output, and the work area is all zeros after every call.
+use Rattle.std.specs.Prelude.{if◌then◌else◌}
 use Prim.Native.Nat.{ℕ, ◌<◌}
 use mathlib.Core.Path.{◌≡◌, refl, ◌∙◌, ap}
 use mathlib.Core.Bool.{Bool, true, false}
@@ -7,7 +8,7 @@ use lib.Dec.{ltb}
 use lib.ListN.{length, take, drop, take-append-drop}
 use native.Mathlib.Omega.{arith}
 use Rattle.definition.specs.Assemble.{longest_stream, least_work, call_strict, call_strict_names}
-use Rattle.definition.specs.Basic.{if◌then◌else◌, refusal, Answer, ok, fails, same_bytes}
+use Rattle.definition.specs.Basic.{refusal, Answer, ok, fails, same_bytes}
 use Rattle.definition.specs.Syntax.{Bytes, Identifier, Rec}
 use Rattle.definition.specs.Read.{read}
 use Rattle.definition.specs.Assemble.{refusing, Maker, module_in, named_module_in, say, say_read, assemble_by, output_after, work_after, outcome, call_by, call, call_names}

@@ -1,4 +1,5 @@
 -- The call with names writes the module of the call without them, and after it the name section.
+use Rattle.std.specs.Prelude.{if◌then◌else◌}
 use Prim.Native.Nat.{ℕ, ◌≤◌, ◌<◌}
 use mathlib.Core.Path.{◌≡◌, refl, ap}
 use mathlib.Core.Bool.{Bool, true, false}
@@ -9,7 +10,7 @@ use lib.Seq.{take-append_seam}
 use borrow.Author.Tests.{le-ltb, le-leb, leb-true}
 use native.Mathlib.Omega.{arith}
 use Rattle.definition.specs.Assemble.{longest_stream, least_work}
-use Rattle.definition.specs.Basic.{if◌then◌else◌, refusal, Answer, ok, fails, refused, ◌>>=◌, same_bytes}
+use Rattle.definition.specs.Basic.{refusal, Answer, ok, fails, refused, ◌>>=◌, same_bytes}
 use Rattle.definition.specs.Syntax.{Bytes, Identifier, Rec, Item}
 use Rattle.definition.specs.Read.{read}
 use Rattle.definition.specs.Deinline.{Numbered, deinline}

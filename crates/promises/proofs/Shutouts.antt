@@ -1,4 +1,5 @@
 -- What the promise shuts out, by document 01's samples S1 and S7: where there is room, a call has one answer on their streams, to the last byte.
+use Rattle.std.specs.Prelude.{if◌then◌else◌}
 use Prim.Native.Nat.{ℕ, ◌≤◌, ◌<◌}
 use mathlib.Core.Path.{◌≡◌, refl, ◌∙◌, ap}
 use mathlib.Core.List.{List, [], ◌∷◌, ◌++◌}
@@ -7,7 +8,7 @@ use lib.ListN.{length, drop}
 use borrow.Author.Tests.{le-ltb, le-leb}
 use native.Mathlib.Omega.{arith}
 use Rattle.definition.specs.Assemble.{least_work}
-use Rattle.definition.specs.Basic.{if◌then◌else◌, refusal, ok, refused}
+use Rattle.definition.specs.Basic.{refusal, ok, refused}
 use Rattle.definition.specs.Syntax.{Bytes}
 use Rattle.definition.specs.Assemble as Assemble
 use Rattle.definition.specs.Assemble.{refusing, say, assemble, output_after, outcome, call_by, call}

@@ -1,5 +1,6 @@
 -- No type too many in what the assembler writes (document 02, §14). Said once over what makes the bytes of a call: of a further call only
 -- `WritesSmallest` is to be shown.
+use Rattle.std.specs.Prelude.{if◌then◌else◌}
 use Prim.Native.Nat.{ℕ, ◌≤◌, ◌<◌}
 use mathlib.Core.Path.{◌≡◌, refl, ap}
 use mathlib.Core.Bool.{Bool, true, false}
@@ -8,7 +9,7 @@ use lib.Dec.{ltb}
 use lib.ListN.{length, take, drop}
 use lib.Seq.{take-append_seam, take-append-le}
 use native.Mathlib.Omega.{arith}
-use Rattle.definition.specs.Basic.{if◌then◌else◌, refusal, Answer, ok, fails, same_bytes}
+use Rattle.definition.specs.Basic.{refusal, Answer, ok, fails, same_bytes}
 use Rattle.definition.specs.Syntax.{Bytes, Identifier, Rec}
 use Rattle.definition.specs.Read.{read}
 use Rattle.definition.specs.Assemble as Assemble

@@ -1,4 +1,5 @@
 -- The tables hold what has been registered: one item more, and the items of a field.
+use Rattle.std.specs.Prelude.{if◌then◌else◌}
 use Prim.Native.Nat.{ℕ, suc, ◌+◌, ◌*◌, ◌≤◌, ◌<◌}
 use mathlib.Core.Path.{◌≡◌, refl, sym, ◌∙◌, ap}
 use mathlib.Core.Bool.{Bool, true, false}
@@ -9,7 +10,7 @@ use lib.Dec.{eqb}
 use borrow.Author.Tests.{eqb-true, eqb-false, lt-ltb}
 use native.Mathlib.Omega.{arith}
 use native.Mathlib.Decide.{dec_le}
-use Rattle.definition.specs.Basic.{if◌then◌else◌, same_bytes}
+use Rattle.definition.specs.Basic.{same_bytes}
 use Rattle.definition.specs.Syntax.{Identifier, Space, code, same_space}
 use Rattle.definition.specs.Names.{Items, space, definers, holder}
 use Rattle.area.specs.Layout.{WORDS}

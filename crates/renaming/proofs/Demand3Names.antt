@@ -1,4 +1,5 @@
 -- Demand 3 of the call that also writes the names: it speaks of the bytes before the name section, and says nothing of refusal 18.
+use Rattle.std.specs.Prelude.{if◌then◌else◌}
 use mathlib.Core.Path.{◌≡◌, refl}
 use Prim.Native.Nat.{ℕ, ◌≤◌}
 use mathlib.Core.Bool.{Bool, true, false}
@@ -9,7 +10,7 @@ use lib.Seq.{take-append_seam}
 use borrow.Author.Tests.{le-ltb}
 use native.Mathlib.Omega.{arith}
 use Rattle.definition.specs.Assemble.{longest_stream, least_work}
-use Rattle.definition.specs.Basic.{if◌then◌else◌, Answer, ok, fails, refused, ◌>>=◌, same_bytes}
+use Rattle.definition.specs.Basic.{Answer, ok, fails, refused, ◌>>=◌, same_bytes}
 use Rattle.definition.specs.Syntax.{Bytes, Identifier, Rec, Item}
 use Rattle.definition.specs.Read.{read}
 use Rattle.definition.specs.Deinline.{deinline}

@@ -1,11 +1,12 @@
 -- The names of some records are those of their fields.
+use Rattle.std.specs.Prelude.{if◌then◌else◌}
 use mathlib.Core.Path.{◌≡◌, refl}
 use Prim.Native.Nat.{ℕ, zero, suc, ◌+◌, ◌-◌}
 use mathlib.Core.Bool.{Bool, true, false}
 use mathlib.Core.List.{List, [], ◌∷◌, ◌++◌, map, map-append, append_assoc}
 use mathlib.Core.Option.{Option, none, some}
 use lib.Dec.{leb}
-use Rattle.definition.specs.Basic.{if◌then◌else◌, concat_map}
+use Rattle.definition.specs.Basic.{concat_map}
 use Rattle.definition.specs.Syntax.{Bytes, Space, own_index, Source, own, imported, table_of, mem_of}
 use Rattle.definition.specs.Syntax.{FieldRec, type_r, import_r, item_r, export_r, start_r, elem_r, data_r, Rec, field, instr, folded, body_end, Body, Field, export_f}
 use Rattle.definition.specs.Spaces.{own_space, source_space, brings, count}

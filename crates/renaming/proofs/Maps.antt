@@ -1,4 +1,5 @@
 -- What no identifier can change: de-inlining, import order and types commute with `map_rec f`, or do not see it at all.
+use Rattle.std.specs.Prelude.{if◌then◌else◌}
 use mathlib.Core.Path.{◌≡◌, refl, ap}
 use Prim.Native.Nat.{ℕ, zero, suc, ◌+◌, ◌-◌}
 use mathlib.Core.Bool.{Bool, true, false}
@@ -6,7 +7,7 @@ use mathlib.Core.List.{List, [], ◌∷◌, ◌++◌, map, map-append, map-map, 
 use mathlib.Core.Option.{Option, none, some}
 use lib.Dec.{leb}
 use lib.ListN.{length-map, replicate}
-use Rattle.definition.specs.Basic.{if◌then◌else◌, at}
+use Rattle.definition.specs.Basic.{at}
 use Rattle.definition.specs.Syntax.{Bytes, Space, same_space, FuncType, ExternType, func, table, mem, global, TypeNo, Index, absent, number, own_index, named, Local, TypeUse}
 use Rattle.definition.specs.Syntax.{Instr, opens, elses, ends, indirect, plain, Own, own_func, own_table, own_mem, own_global, Source, own, imported, table_of, mem_of}
 use Rattle.definition.specs.Syntax.{FieldRec, type_r, import_r, item_r, export_r, start_r, elem_r, data_r, Rec, field, instr, folded, body_end}

@@ -1,12 +1,13 @@
 -- What a field's names mean under two namings of its places, `f` and `g`. `M k p` says that the place p is of the kind k, and the namings agree
 -- on which places of one kind are equal.
+use Rattle.std.specs.Prelude.{if◌then◌else◌}
 use mathlib.Core.Path.{◌≡◌, refl, ap}
 use Prim.Native.Nat.{ℕ, zero, suc, ◌+◌}
 use mathlib.Core.Bool.{Bool, true, false, ◌&&◌, not}
 use mathlib.Core.List.{List, [], ◌∷◌, ◌++◌, map, map-append}
 use mathlib.Core.Option.{Option, none, some}
 use lib.ListN.{replicate, length, length-map}
-use Rattle.definition.specs.Basic.{if◌then◌else◌, Answer, ◌>>=◌, each, first_at, is_some, at, concat_map}
+use Rattle.definition.specs.Basic.{Answer, ◌>>=◌, each, first_at, is_some, at, concat_map}
 use Rattle.definition.specs.Syntax.{Space, funcs, tables, mems, types, FuncType, ExternType, func, table, mem, global, Mode, passive, active}
 use Rattle.definition.specs.Syntax.{Index, absent, number, named, own_index, Local, TypeUse, TypeNo, Own, own_func, own_table, own_mem, own_global}
 use Rattle.definition.specs.Syntax.{Operand, nothing, label, labels, local, item, items, access, int32, int64, raw, Plain, Instr, opens, elses, ends, indirect, plain}

@@ -1,11 +1,12 @@
 -- Two namings of the places of some records give the same items, or the same refusal.
+use Rattle.std.specs.Prelude.{if◌then◌else◌}
 use mathlib.Core.Path.{◌≡◌, refl, ◌∙◌, sym}
 use Prim.Native.Nat.{ℕ}
 use mathlib.Core.Bool.{Bool, true, false}
 use mathlib.Core.List.{List, [], ◌∷◌, ◌++◌, map, map-append}
 use mathlib.Core.Option.{Option, none, some}
 use borrow.Author.Tests.{eqb-true}
-use Rattle.definition.specs.Basic.{if◌then◌else◌, Answer, ok, fails, ◌>>=◌, each, at}
+use Rattle.definition.specs.Basic.{Answer, ok, fails, ◌>>=◌, each, at}
 use Rattle.definition.specs.Syntax.{Space, funcs, tables, mems, globals, types, elems, datas, code, same_space, FuncType, Rec}
 use Rattle.definition.specs.Deinline.{Numbered, deinline_from, deinline, import_order}
 use Rattle.definition.specs.Names.{Namespace, Items, space, definers, item_of, holder, unheld, register_one, register, resolve_all}

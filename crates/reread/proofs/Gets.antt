@@ -1,4 +1,5 @@
 -- What the record of a function, or of its import, tells when it is known to be readable.
+use Rattle.std.specs.Prelude.{if◌then◌else◌}
 use mathlib.Core.Path.{◌≡◌, refl, ap, ◌∙◌}
 use mathlib.Core.Bool.{Bool, true, false}
 use mathlib.Core.List.{List, []}
@@ -7,7 +8,6 @@ use Prim.Native.Nat.{ℕ}
 use lib.Dec.{eqb}
 use borrow.Author.Tests.{ne_eqb, eqb-true}
 use native.Mathlib.Omega.{arith}
-use Rattle.definition.specs.Basic.{if◌then◌else◌}
 use Rattle.definition.specs.Syntax.{Bytes, Identifier, Local, FieldRec, ImportName, func, funcs, import_r, item_r, imported, own, own_func}
 use Rattle.definition.specs.Reader.{Step, got, fault, onward, byte, choose}
 use Rattle.definition.specs.Token.{identifier, string, counted, param, type_use}

@@ -1,4 +1,5 @@
 -- What a field that was read tells: its bytes of kind and form, what it brings had room, and a function has at most 64 parameters and 64 locals.
+use Rattle.std.specs.Prelude.{if◌then◌else◌}
 use mathlib.Core.Path.{◌≡◌, refl, ap, sym, ◌∙◌, subst}
 use Prim.Native.Nat.{ℕ, zero, suc, ◌+◌, ◌≤◌}
 use mathlib.Core.Bool.{Bool, true, false}
@@ -8,7 +9,6 @@ use lib.Dec.{eqb, leb}
 use lib.ListN.{length}
 use borrow.Author.Tests.{eqb-true, leb-true}
 use native.Mathlib.Omega.{arith}
-use Rattle.definition.specs.Basic.{if◌then◌else◌}
 use Rattle.definition.specs.Syntax.{Bytes, Identifier, Space, funcs, tables, mems, globals, types, elems, datas, code, TypeUse, Local, ExternType, ImportName}
 use Rattle.definition.specs.Syntax.{own_func, own_table, own_mem, own_global, Source, own, imported, table_of, mem_of, FieldRec, type_r, import_r, item_r, export_r, start_r, elem_r, data_r}
 use Rattle.definition.specs.Reader.{got, Reader, require, give, byte, many, choose, ◌>>=◌, ◌>>◌}

@@ -1,4 +1,5 @@
 -- Runs of equal locals. The definition joins them from the right; the loops go from the left, with a run that is pending.
+use Rattle.std.specs.Prelude.{if◌then◌else◌}
 use Prim.Native.Nat.{ℕ, zero, suc, ◌+◌, ◌-◌, ◌≤◌, ◌<◌}
 use mathlib.Core.Path.{◌≡◌, refl, sym, ◌∙◌, ap}
 use mathlib.Core.Bool.{Bool, true, false}
@@ -7,7 +8,7 @@ use lib.Dec.{eqb}
 use lib.ListN.{length}
 use native.Mathlib.Omega.{arith}
 use borrow.Author.Tests.{eqb-true, eq-eqb, ne_eqb}
-use Rattle.definition.specs.Basic.{if◌then◌else◌, concat_map}
+use Rattle.definition.specs.Basic.{concat_map}
 use Rattle.definition.specs.Syntax.{Bytes, ValType}
 use Rattle.definition.specs.Reader.{many}
 use Rattle.definition.specs.Token.{param}

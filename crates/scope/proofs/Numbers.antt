@@ -1,4 +1,5 @@
 -- The number of a type use's type, and the type of a block.
+use Rattle.std.specs.Prelude.{if◌then◌else◌}
 use Prim.Native.Nat.{ℕ, zero, suc, ◌+◌, ◌<◌}
 use mathlib.Core.Path.{◌≡◌, refl, sym, ◌∙◌}
 use mathlib.Core.Bool.{Bool, true, false, ◌&&◌}
@@ -6,7 +7,7 @@ use mathlib.Core.List.{List, [], ◌∷◌}
 use mathlib.Core.Option.{Option, none, some}
 use lib.ListN.{get_or}
 use native.Mathlib.Omega.{arith}
-use Rattle.definition.specs.Basic.{if◌then◌else◌, Answer, ok, refused, ◌>>=◌, at}
+use Rattle.definition.specs.Basic.{Answer, ok, refused, ◌>>=◌, at}
 use Rattle.definition.specs.Syntax as Syntax
 use Rattle.definition.specs.Syntax.{FuncType, types, empty, single, typed}
 use Rattle.definition.specs.Token.{val_type}

@@ -1,4 +1,5 @@
 -- The number of a local: the nameless places come first.
+use Rattle.std.specs.Prelude.{if◌then◌else◌}
 use Prim.Native.Nat.{ℕ, zero, suc, ◌+◌, ◌*◌, ◌≤◌, ◌<◌}
 use mathlib.Core.Path.{◌≡◌, refl}
 use mathlib.Core.Bool.{Bool, true, false}
@@ -8,7 +9,7 @@ use mir.Syntax.{w32}
 use mir.Val.{Fits}
 use lib.ListN.{length, replicate, length-append, length-replicate}
 use native.Mathlib.Omega.{arith}
-use Rattle.definition.specs.Basic.{if◌then◌else◌, ok, ◌>>=◌, same_bytes, first_at, later, Answer}
+use Rattle.definition.specs.Basic.{ok, ◌>>=◌, same_bytes, first_at, later, Answer}
 use Rattle.definition.specs.Syntax.{Identifier, LocalNo}
 use Rattle.definition.specs.Names.{Namespace, carries, find, number_in, local_no, below}
 use Rattle.area.specs.Layout.{LOCALS, WORDS}

@@ -1,9 +1,9 @@
 -- What names mean, by the work area: the definition's scope, the locals of a function, and the open blocks.
-use Rattle.std.specs.Prelude.{ℕ, ◌+◌, ◌≤◌, min, List, ◌++◌, get_or, replicate}
+use Rattle.std.specs.Prelude.{ℕ, ◌+◌, ◌≤◌, min, List, ◌++◌, get_or, replicate, if◌then◌else◌}
 use Rattle.std.proofs.Math.Option.{none}
 use Rattle.area.specs.Layout.{BYTES, LABELS, LOCALS, TOTAL}
 use Rattle.area.specs.Flags.{strict_in}
-use Rattle.definition.specs.Basic.{if◌then◌else◌, same_bytes, Answer, ok, ◌>>=◌}
+use Rattle.definition.specs.Basic.{same_bytes, Answer, ok, ◌>>=◌}
 use Rattle.definition.specs.Syntax.{Bytes, Identifier, Space, types, same_space, LocalNo, TypeNo, TypeUse, Index}
 use Rattle.definition.specs.Names.{Namespace, Scope, below, item_no, checked}
 use Rattle.name_table.specs.Area.{names, labels}

@@ -1,4 +1,5 @@
 -- Laws of element and data segments.
+use Rattle.std.specs.Prelude.{if◌then◌else◌}
 use Prim.Native.Nat.{ℕ}
 use mathlib.Core.Path.{◌≡◌, refl, ◌∙◌, ap}
 use mathlib.Core.Bool.{Bool, true, false}
@@ -6,7 +7,7 @@ use mathlib.Core.List.{List, [], ◌∷◌, ◌++◌, append_assoc}
 use mathlib.Core.Option.{Option, none, some}
 use lib.Dec.{eqb}
 use borrow.Author.Tests.{eq-eqb, ne_eqb}
-use Rattle.definition.specs.Basic.{if◌then◌else◌, Answer, ok, ◌>>=◌, each}
+use Rattle.definition.specs.Basic.{Answer, ok, ◌>>=◌, each}
 use Rattle.definition.specs.Syntax as Syntax
 use Rattle.definition.specs.Syntax.{Bytes, Identifier, Op, Mode, passive, active, funcs, tables, mems}
 use Rattle.definition.specs.Deinline.{zero_offset}

@@ -1,7 +1,7 @@
 -- Element and data segments: what stands before the functions and the bytes.
-use Rattle.std.specs.Prelude.{ℕ, [], ◌∷◌, ◌++◌, eqb}
+use Rattle.std.specs.Prelude.{ℕ, [], ◌∷◌, ◌++◌, eqb, if◌then◌else◌}
 use Rattle.std.proofs.Math.Option.{Option, none, some}
-use Rattle.definition.specs.Basic.{if◌then◌else◌, Answer, ok}
+use Rattle.definition.specs.Basic.{Answer, ok}
 use Rattle.definition.specs.Syntax.{Bytes, Op, Mode, passive, active}
 use Rattle.definition.specs.Binary.{u, expr}
 use Rattle.syntax.specs.Refusals.{refused_by}

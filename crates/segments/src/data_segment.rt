@@ -1,8 +1,7 @@
 // Data segments.
-ghost use Rattle.std.specs.Prelude.{[], ◌∷◌, ◌≤◌, eqb, length};
+ghost use Rattle.std.specs.Prelude.{[], ◌∷◌, ◌≤◌, eqb, length, if◌then◌else◌};
 ghost use Rattle.std.proofs.Math.Option.{none};
 ghost use Rattle.area.specs.Layout.{WORDS};
-ghost use Rattle.definition.specs.Basic.{if◌then◌else◌};
 ghost use Rattle.definition.specs.Syntax.{mems, active, data_f};
 ghost use Rattle.definition.specs.Names as Names;
 ghost use Rattle.definition.specs.Binary as Binary;

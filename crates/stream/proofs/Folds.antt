@@ -1,4 +1,5 @@
 -- A folded record with all its operands: the definition's pass over its records, one by one, goes where the code's recursion goes.
+use Rattle.std.specs.Prelude.{if◌then◌else◌}
 use mathlib.Core.Path.{◌≡◌, refl, ap, sym, ◌∙◌, subst}
 use Prim.Native.Nat.{ℕ, zero, suc, ◌+◌, ◌-◌, ◌≤◌, ◌<◌}
 use mathlib.Core.Bool.{Bool, true, false, ◌||◌, false≢true}
@@ -8,7 +9,7 @@ use lib.Dec.{eqb, leb, ltb}
 use lib.ListN.{length, get_or}
 use borrow.Author.Tests.{lt-ltb, le-ltb, ltb-true, ltb-false, lt-leb, leb-true, leb-false}
 use native.Mathlib.Omega.{arith}
-use Rattle.definition.specs.Basic.{if◌then◌else◌, refused}
+use Rattle.definition.specs.Basic.{refused}
 use Rattle.definition.specs.Syntax.{Bytes, Identifier, Space, Instr, Rec, field, instr, folded, body_end}
 use Rattle.definition.specs.Reader.{Step, got, fault, byte}
 use Rattle.definition.specs.Instructions.{Blocks, Inside, is_due, complete, awaiting, folded_after, fold, folded_rec, body_rec, body_begins}

@@ -1,4 +1,5 @@
 -- The loop over all records: what it started from passes as what is left passes from here.
+use Rattle.std.specs.Prelude.{if◌then◌else◌}
 use mathlib.Core.Path.{◌≡◌, refl, ap, sym, ◌∙◌, subst}
 use Prim.Native.Nat.{ℕ, zero, suc, ◌+◌, ◌-◌, ◌*◌, ◌≤◌, ◌<◌, ◌^◌}
 use mathlib.Core.Bool.{Bool, true, false, ◌||◌, not}
@@ -14,7 +15,7 @@ use native.Mathlib.Numerals.{add-one}
 use mir.Syntax.{w32}
 use mir.Val.{Fits}
 use Rattle.definition.specs.Basic as Basic
-use Rattle.definition.specs.Basic.{if◌then◌else◌, Answer, ok, fails, refused}
+use Rattle.definition.specs.Basic.{Answer, ok, fails, refused}
 use Rattle.definition.specs.Syntax as Syntax
 use Rattle.definition.specs.Syntax.{Bytes, Identifier, Rec, field, instr, folded, body_end}
 use Rattle.definition.specs.Reader.{Step, got, fault, onward, ◌>>=◌, ◌>>◌, give, require}

@@ -1,6 +1,6 @@
 -- What the exported call says and leaves.
-use Rattle.std.specs.Prelude.{ℕ, ◌≡◌, List, leb, length, set, replicate}
-use Rattle.definition.specs.Basic.{if◌then◌else◌, Answer, ok, fails}
+use Rattle.std.specs.Prelude.{ℕ, ◌≡◌, List, leb, length, set, replicate, if◌then◌else◌}
+use Rattle.definition.specs.Basic.{Answer, ok, fails}
 use Rattle.definition.specs.Syntax.{Bytes}
 use Rattle.stream.specs.Pass.{reading}
 

@@ -1,12 +1,12 @@
 -- What the reading pass says and leaves.
-use Rattle.std.specs.Prelude.{ℕ, zero, suc, ◌+◌, Bool, false, ◌||◌, List, [], ◌∷◌, ◌++◌, ◌≡◌, leb, ltb, length, take, set}
+use Rattle.std.specs.Prelude.{ℕ, zero, suc, ◌+◌, Bool, false, ◌||◌, List, [], ◌∷◌, ◌++◌, ◌≡◌, leb, ltb, length, take, set, if◌then◌else◌}
 use Rattle.std.proofs.lemmas.List.Edits.{sets}
 use Rattle.syntax.specs.Marks.{no_marks}
 use Rattle.syntax.specs.Refusals.{refusal, refused_by}
 use Rattle.syntax.specs.declared.Place.{Place}
 use Rattle.area.specs.Layout.{BYTES, COUNTS, DATA_NAMED, ENDS, WORDS, end_at}
 use Rattle.area.specs.Flags.{flag_put}
-use Rattle.definition.specs.Basic.{if◌then◌else◌, Answer, ok, fails, refused}
+use Rattle.definition.specs.Basic.{Answer, ok, fails, refused}
 use Rattle.definition.specs.Syntax.{Bytes, Identifier, Rec, field, instr, folded, body_end}
 use Rattle.definition.specs.Reader.{Step, got, fault}
 use Rattle.definition.specs.Read.{Seen, nothing_seen, seen_after, one_record, at_end, records, read}

@@ -1,9 +1,10 @@
 -- A pass over all fields finds the first import that comes too late.
+use Rattle.std.specs.Prelude.{if◌then◌else◌}
 use Prim.Native.Nat.{ℕ, ◌+◌}
 use mathlib.Core.Path.{◌≡◌, refl, ◌∙◌}
 use mathlib.Core.Bool.{Bool, true, false}
 use mathlib.Core.List.{List, [], ◌∷◌, ◌++◌, map}
-use Rattle.definition.specs.Basic.{if◌then◌else◌, Answer, ok, refused}
+use Rattle.definition.specs.Basic.{Answer, ok, refused}
 use Rattle.definition.specs.Syntax.{Bytes, Identifier, Space, Field, export_f, own_index, Body}
 use Rattle.definition.specs.Token as Token
 use Rattle.definition.specs.Read.{field_body}

@@ -1,4 +1,5 @@
 -- Laws of the walk over all fields, and of what is told where something is refused.
+use Rattle.std.specs.Prelude.{if◌then◌else◌}
 use Prim.Native.Nat.{ℕ, ◌+◌, ◌≤◌, min}
 use mathlib.Core.Path.{◌≡◌, refl, ◌∙◌, ap}
 use mathlib.Core.Bool.{Bool, true, false}
@@ -7,7 +8,7 @@ use mathlib.Core.Option.{none, some}
 use lib.ListN.{length, get_or, set}
 use lib.Seq.{sets, get_or-set_same, get_or-set_other}
 use native.Mathlib.Omega.{arith}
-use Rattle.definition.specs.Basic.{if◌then◌else◌, ok, ◌>>=◌, same_bytes}
+use Rattle.definition.specs.Basic.{ok, ◌>>=◌, same_bytes}
 use Rattle.definition.specs.Syntax.{Bytes}
 use Rattle.definition.specs.Read.{field_body}
 use Rattle.definition.specs.Deinline.{imports_from, import_order}

@@ -1,7 +1,7 @@
 -- What the walk over all fields leaves: the order of imports, the table of types and the number of each use at its record, and the names.
-use Rattle.std.specs.Prelude.{ℕ, ◌≤◌, ◌≡◌, Bool, List, [], length, get_or}
+use Rattle.std.specs.Prelude.{ℕ, ◌≤◌, ◌≡◌, Bool, List, [], length, get_or, if◌then◌else◌}
 use Rattle.std.proofs.Math.Option.{Option, none, some}
-use Rattle.definition.specs.Basic.{if◌then◌else◌, Answer, ok, ◌>>=◌, same_bytes}
+use Rattle.definition.specs.Basic.{Answer, ok, ◌>>=◌, same_bytes}
 use Rattle.definition.specs.Syntax.{Bytes, Identifier, FuncType}
 use Rattle.definition.specs.Read.{field_body}
 use Rattle.definition.specs.Deinline.{Numbered, imports_from, import_order}

@@ -1,6 +1,5 @@
 -- What the answers of the readers mean: each as a step of the definition.
-use Rattle.std.specs.Prelude.{ℕ}
-use Rattle.definition.specs.Basic.{if◌then◌else◌}
+use Rattle.std.specs.Prelude.{ℕ, if◌then◌else◌}
 use Rattle.definition.specs.Reader.{Step, got, fault}
 use Rattle.definition.specs.Token.{needed}
 use Rattle.syntax.specs.declared.U32.{U32}

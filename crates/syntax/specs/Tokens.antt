@@ -1,7 +1,6 @@
 -- What the answers of the readers mean: places of a stream as the definition's values.
-use Rattle.std.specs.Prelude.{ℕ, eqb, take, drop}
+use Rattle.std.specs.Prelude.{ℕ, eqb, take, drop, if◌then◌else◌}
 use Rattle.std.proofs.Math.Option.{Option, none, some}
-use Rattle.definition.specs.Basic.{if◌then◌else◌}
 use Rattle.definition.specs.Syntax as Syntax
 use Rattle.definition.specs.Syntax.{Bytes, Identifier, absent, number, named}
 use Rattle.definition.specs.Reader.{Step, got, fault}

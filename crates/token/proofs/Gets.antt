@@ -1,4 +1,5 @@
 -- What is known to be readable: the parts of a reader that gets something, and where the bytes of a name or a string end.
+use Rattle.std.specs.Prelude.{if◌then◌else◌}
 use mathlib.Core.Path.{◌≡◌, refl, ap, sym, ◌∙◌}
 use mathlib.Core.Bool.{Bool, true, false}
 use mathlib.Core.Option.{none, some}
@@ -9,7 +10,6 @@ use lib.Dec.{eqb, leb}
 use mir.Syntax.{w64}
 use mir.Val.{Fits}
 use borrow.Author.Tests.{ne_eqb, leb-true}
-use Rattle.definition.specs.Basic.{if◌then◌else◌}
 use Rattle.definition.specs.Syntax as Syntax
 use Rattle.definition.specs.Syntax.{Bytes, Identifier, absent}
 use Rattle.definition.specs.Reader.{Step, got, fault, Reader, onward, require, byte, many}

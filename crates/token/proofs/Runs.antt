@@ -1,4 +1,5 @@
 -- Runs of bytes of a class: what a loop over them shows, and that they are the part of the stream that starts at their first byte.
+use Rattle.std.specs.Prelude.{if◌then◌else◌}
 use mathlib.Core.Path.{◌≡◌, refl, ap, sym, ◌∙◌}
 use mathlib.Core.Bool.{Bool, true, false, not}
 use mathlib.Core.List.{List, ◌∷◌}
@@ -10,7 +11,7 @@ use lib.ListN.{length, get_or, take, drop}
 use lib.Seq.{drop-cons}
 use lib.Dec.{ltb}
 use borrow.Author.Tests.{ltb-true, not-true, not-false}
-use Rattle.definition.specs.Basic.{if◌then◌else◌, between}
+use Rattle.definition.specs.Basic.{between}
 use Rattle.definition.specs.Syntax.{Bytes}
 use Rattle.definition.specs.Reader.{Step, got, fault, Reader, onward, byte, byte_of, many}
 use Rattle.definition.specs.Token.{idchar, id_byte, string_byte}

@@ -1,4 +1,5 @@
 -- The size beside the types (document 02, §10): what one type more adds to it, and that it fits its word.
+use Rattle.std.specs.Prelude.{if◌then◌else◌}
 use Prim.Native.Nat.{ℕ, zero, suc, ◌+◌, ◌-◌, ◌*◌, ◌/◌, ◌%◌, ◌^◌, ◌≤◌, ◌<◌, min}
 use mathlib.Core.Path.{◌≡◌, refl, sym, ◌∙◌, ap}
 use mathlib.Core.Bool.{Bool, true, false}
@@ -10,7 +11,7 @@ use mir.Syntax.{w32}
 use mir.Val.{Fits}
 use native.Mathlib.Omega.{arith}
 use native.Mathlib.Decide.{dec_lt}
-use Rattle.definition.specs.Basic.{if◌then◌else◌, concat_map}
+use Rattle.definition.specs.Basic.{concat_map}
 use Rattle.definition.specs.Syntax.{Bytes, FuncType}
 use Rattle.definition.specs.Binary.{unsigned, u, vec, sized, byte, func_type, joined, content, section_of, types_size}
 use Rattle.area.specs.Layout.{BYTES, SIZE, TOTAL, TYPES}

@@ -1,6 +1,5 @@
 -- The uses of a block.
-use Rattle.std.specs.Prelude.{List, []}
-use Rattle.definition.specs.Basic.{if◌then◌else◌}
+use Rattle.std.specs.Prelude.{List, [], if◌then◌else◌}
 use Rattle.definition.specs.Syntax as Syntax
 use Rattle.definition.specs.Syntax.{FuncType}
 use Rattle.definition.specs.Types.{is_short, use_of}

@@ -1,4 +1,5 @@
 -- A reader that reads something goes by the bytes it takes and by nothing else: wherever they stand it reads the same.
+use Rattle.std.specs.Prelude.{if◌then◌else◌}
 use mathlib.Core.Path.{◌≡◌, refl, ◌∙◌, sym, ap}
 use Prim.Native.Nat.{ℕ, zero, suc, ◌+◌, ◌-◌, ◌*◌, ◌%◌, ◌<◌}
 use mathlib.Core.Bool.{Bool, true, false}
@@ -8,7 +9,6 @@ use lib.ListN.{length, get_or, drop, length-append, length-drop}
 use lib.Seq.{slice, take-append_seam, drop-cons, drop-drop, drop-append_seam, get_or-drop}
 use borrow.Author.Tests.{ltb-true, lt-ltb}
 use native.Mathlib.Omega.{arith}
-use Rattle.definition.specs.Basic.{if◌then◌else◌}
 use Rattle.definition.specs.Syntax.{Bytes}
 use Rattle.definition.specs.Reader.{got, fault, Reader, ◌>>=◌, give, refuse, require, byte, many}
 use Rattle.definition.specs.Token.{needed, groups}

@@ -1,11 +1,12 @@
 -- The numbers of a body's records change no result: a refusal's number and what is written stay, and of a refusal only its record differs.
+use Rattle.std.specs.Prelude.{if◌then◌else◌}
 use mathlib.Core.Path.{◌≡◌, refl}
 use Prim.Native.Nat.{ℕ}
 use mathlib.Core.Bool.{Bool, true, false}
 use mathlib.Core.List.{List, [], ◌∷◌, ◌++◌}
 use mathlib.Core.Option.{Option, none, some}
 use lib.Dec.{ltb}
-use Rattle.definition.specs.Basic.{if◌then◌else◌, Answer, ok, fails, refused, ◌>>=◌, each}
+use Rattle.definition.specs.Basic.{Answer, ok, fails, refused, ◌>>=◌, each}
 use Rattle.definition.specs.Syntax.{Space, FuncType, Index, absent, number, named, own_index, TypeUse, Body}
 use Rattle.definition.specs.Syntax.{Operand, nothing, label, labels, local, item, items, access, int32, int64, raw, Instr, opens, elses, ends, indirect, plain}
 use Rattle.definition.specs.Types.{Uses, used_at, instr_uses, body_uses, type_at, take_or_add, intern}

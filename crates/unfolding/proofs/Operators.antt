@@ -1,4 +1,5 @@
 -- A folded record's operator stands by itself where no operand is due: it is read there, and leaves everything as it is.
+use Rattle.std.specs.Prelude.{if◌then◌else◌}
 use mathlib.Core.Path.{◌≡◌, refl, ◌∙◌, sym, ap₂}
 use Prim.Native.Nat.{ℕ, ◌+◌, ◌-◌}
 use mathlib.Core.Bool.{Bool, true, false, not, false≢true}
@@ -10,7 +11,6 @@ use lib.Seq.{slice}
 use borrow.Author.Tests.{eqb-true, leb-true}
 use native.Mathlib.Omega.{arith}
 use Rattle.definition.specs.Basic as Basic
-use Rattle.definition.specs.Basic.{if◌then◌else◌}
 use Rattle.definition.specs.Syntax.{Bytes, Identifier, Instr, opens, elses, ends, indirect, plain, instr, folded, body_end}
 use Rattle.definition.specs.Reader.{Step, got, fault, onward, ◌>>=◌, ◌>>◌, give, require, byte}
 use Rattle.definition.specs.Token.{u32, up_to}

@@ -1,11 +1,12 @@
 -- Fields that differ in the numbers of their bodies' records alone give the same module, with its name section or without.
+use Rattle.std.specs.Prelude.{if◌then◌else◌}
 use mathlib.Core.Path.{◌≡◌, refl, ap, ap₂, fun_ext}
 use Prim.Native.Nat.{ℕ}
 use mathlib.Core.Bool.{Bool}
 use mathlib.Core.List.{List, [], ◌∷◌, ◌++◌}
 use mathlib.Core.Option.{Option}
 use lib.ListN.{length}
-use Rattle.definition.specs.Basic.{if◌then◌else◌, Answer, refused, each, concat_map, same_bytes}
+use Rattle.definition.specs.Basic.{Answer, refused, each, concat_map, same_bytes}
 use Rattle.definition.specs.Syntax.{Identifier, Own, own_func, own_table, own_mem, own_global, Rec, Body, Field, type_f, import_f, own_f, export_f, start_f, elem_f, data_f}
 use Rattle.definition.specs.Deinline.{Numbered, imports_from, import_order, deinline}
 use Rattle.definition.specs.Types.{used_at, own_uses, field_uses, uses, declared_by, declared, all_types}

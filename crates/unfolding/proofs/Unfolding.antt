@@ -1,4 +1,5 @@
 -- A folded stream gives the bytes of its flat one (document 02, §4). Said once over what makes the bytes of a call.
+use Rattle.std.specs.Prelude.{if◌then◌else◌}
 use mathlib.Core.Path.{◌≡◌, refl, ◌∙◌, sym, ap}
 use Prim.Native.Nat.{ℕ, ◌≤◌}
 use mathlib.Core.Bool.{Bool, true, false}
@@ -7,7 +8,7 @@ use lib.Dec.{ltb}
 use lib.ListN.{length, length-map}
 use borrow.Author.Tests.{le-ltb, ltb-true, ltb-false}
 use native.Mathlib.Omega.{arith}
-use Rattle.definition.specs.Basic.{if◌then◌else◌, refusal, Answer, ok, fails, same_bytes}
+use Rattle.definition.specs.Basic.{refusal, Answer, ok, fails, same_bytes}
 use Rattle.definition.specs.Syntax.{Bytes, Identifier, Rec}
 use Rattle.definition.specs.Read.{read}
 use Rattle.definition.specs.Assemble.{Said, refusing, say, Maker, module_in, named_module_in, say_read, longest_stream, least_work, assemble_by, assemble, assemble_names, assemble_strict, assemble_strict_names}
