@@ -1,4 +1,4 @@
-//! With the feature `proved`: links libstream.a, made by `rt staticlib stream`.
+//! With the feature `proved`: links libstream.a, made by `tools/staticlib stream`.
 //! BARRIZUPPA_STATICLIB names its folder if it is not ../target/staticlib. The
 //! assembler's library is linked by its own wrapper.
 use std::env;

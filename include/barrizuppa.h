@@ -2,7 +2,7 @@
  * Barrizuppa: an assembler for WebAssembly. A record stream (docs/STREAM.md)
  * goes in, a binary module or a refusal comes out.
  *
- * Link with target/staticlib/libassembler.a, which `rt staticlib assembler`
+ * Link with target/staticlib/libassembler.a, which `tools/staticlib assembler`
  * proves and writes, for x86-64 Linux; installed by bindings/c/install.sh it is
  * `pkg-config --cflags --libs barrizuppa`. It needs memcpy and memset and nothing
  * else, allocates nothing, keeps nothing between calls, and may be called from

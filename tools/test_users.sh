@@ -1,7 +1,7 @@
 #!/bin/sh
 # Tests what users meet: the example of docs/STREAM.md, the Rust crate with its
 # program, and the example in C. The parts that call the assembler need its
-# library (`rt staticlib assembler`) and are left out, with a word, where it is
+# library (`tools/staticlib assembler`) and are left out, with a word, where it is
 # not there.
 # usage: tools/test_users.sh [STREAMS]    how many are made by chance; 5,000
 set -eu

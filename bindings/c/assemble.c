@@ -3,8 +3,8 @@
  * says "refused N at R" on standard error, and of a name that is taken also where
  * it was first used. From the repository's root:
  *
- *   rt staticlib assembler
- *   cc -Iinclude bindings/c/assemble.c target/staticlib/libassembler.a -o target/bin/assemble_c
+ *   tools/staticlib assembler
+ *   cc -Iinclude bindings/c/assemble.c target/staticlib/libassembler.a -o target/assemble_c
  *
  * or, where bindings/c/install.sh has put the library:
  *

@@ -1,5 +1,5 @@
 #!/bin/sh
-# Installs header, library and pkg-config file for C. `rt staticlib assembler`
+# Installs header, library and pkg-config file for C. `tools/staticlib assembler`
 # makes the library first.
 # usage: install.sh [PREFIX]    /usr/local if not given; DESTDIR goes before it
 set -eu
@@ -11,7 +11,7 @@ case $prefix in
     *) echo "install.sh: a prefix begins with /" >&2; exit 2 ;;
 esac
 if [ ! -f "$library" ]; then
-    echo "install.sh: $library is not there: run \`rt staticlib assembler\` first" >&2
+    echo "install.sh: $library is not there: run \`tools/staticlib assembler\` first" >&2
     exit 2
 fi
 version=$(sed -n 's/^#define BARRIZUPPA_VERSION "\(.*\)"/\1/p' include/barrizuppa.h)

@@ -1,4 +1,4 @@
-//! Links libassembler.a, which `rt staticlib assembler` makes.
+//! Links libassembler.a, which `tools/staticlib assembler` makes.
 //! BARRIZUPPA_STATICLIB is its folder if it is not target/staticlib of the
 //! repository. Without the feature `library` nothing is linked.
 use std::env;
@@ -16,7 +16,7 @@ fn main() {
     let library = folder.join("libassembler.a");
     if !library.exists() {
         panic!(
-            "{} is not there: run `rt staticlib assembler` first",
+            "{} is not there: run `tools/staticlib assembler` first",
             library.display()
         );
     }

@@ -1,4 +1,4 @@
-//! Links the static library that `rt staticlib` made. BARRIZUPPA_LIBRARY is its
+//! Links the static library that tools/staticlib made. BARRIZUPPA_LIBRARY is its
 //! name if it is not `assembler`, and BARRIZUPPA_STATICLIB its folder if it is
 //! not target/staticlib.
 use std::env;

@@ -77,7 +77,7 @@ enum Word {
     Other,
 }
 
-fn word(s: &[u8]) -> Word {
+fn word_of(s: &[u8]) -> Word {
     match s {
         b"--names" => Word::Names,
         b"--strict" => Word::Strict,
@@ -89,7 +89,7 @@ fn word(s: &[u8]) -> Word {
 fn word_at(env: &impl Env, i: usize) -> Option<Word> {
     let mut buf = [0u8; 8];
     match env.arg(i, &mut buf) {
-        Ok(n) => Some(word(&buf[..n])),
+        Ok(n) => Some(word_of(&buf[..n])),
         Err(FillError::TooLong) => Some(Word::Other),
         Err(FillError::NotPresent) => None,
     }

@@ -1,4 +1,4 @@
-// The calls for programs in C or Rust; include/barrizuppa.h says their contracts in words.
+// The calls for programs in C or Rust, which crate assembler_c exports; include/barrizuppa.h says their contracts in words.
 ghost use Rattle.std.specs.Prelude.{◌≡◌, min};
 ghost use Rattle.definition.specs.Assemble.{call_by};
 ghost use Rattle.passes.specs.Passes.{makes};
@@ -33,8 +33,7 @@ fn answered(
 }
 
 // The module.
-#[unsafe(no_mangle)]
-pub extern "C" fn barrizuppa_assemble(
+pub fn barrizuppa_assemble(
     stream: &[u8],
     work: &mut [u32],
     out: &mut [u8],
@@ -46,8 +45,7 @@ pub extern "C" fn barrizuppa_assemble(
 }
 
 // The module, and after it its name section.
-#[unsafe(no_mangle)]
-pub extern "C" fn barrizuppa_assemble_names(
+pub fn barrizuppa_assemble_names(
     stream: &[u8],
     work: &mut [u32],
     out: &mut [u8],
@@ -59,8 +57,7 @@ pub extern "C" fn barrizuppa_assemble_names(
 }
 
 // The module, in a strict call.
-#[unsafe(no_mangle)]
-pub extern "C" fn barrizuppa_assemble_strict(
+pub fn barrizuppa_assemble_strict(
     stream: &[u8],
     work: &mut [u32],
     out: &mut [u8],
@@ -72,8 +69,7 @@ pub extern "C" fn barrizuppa_assemble_strict(
 }
 
 // The module in a strict call, and after it its name section.
-#[unsafe(no_mangle)]
-pub extern "C" fn barrizuppa_assemble_strict_names(
+pub fn barrizuppa_assemble_strict_names(
     stream: &[u8],
     work: &mut [u32],
     out: &mut [u8],

@@ -1,4 +1,4 @@
-// The reading pass for callers in Rust or C.
+// The reading pass for callers in Rust or C; crate stream_c exports it.
 ghost use Rattle.std.specs.Prelude.{◌≡◌};
 ghost use Rattle.stream.specs.Export.{told_in, Told};
 
@@ -16,8 +16,7 @@ fn tell(answer: &mut [u32], number: u32, rec: u32)
 
 // Returns 0, or the refusal's number. The answer's first word is the same, its second the count of records, or the refusal's
 // record. The work area is all zeros.
-#[unsafe(no_mangle)]
-pub extern "C" fn barrizuppa_read(stream: &[u8], work: &mut [u32], answer: &mut [u32]) -> u32
+pub fn barrizuppa_read(stream: &[u8], work: &mut [u32], answer: &mut [u32]) -> u32
     ensures { Told stream.now work.old answer.old result work.new answer.new }
 {
     let said = read_all(stream, work);
