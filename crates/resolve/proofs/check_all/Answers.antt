@@ -10,7 +10,8 @@ pub visit-m-requires : goal.visit-m-requires
 visit-m-requires c = search sweep_ahead
 
 pub check_field-requires : goal.check_field-requires
-check_field-requires c = (search (sweep_long, visit_few, rules), search sweep_ready, search sweep_slots)
+check_field-requires c =
+    (record { lent = record { stream = search rules; area = search (sweep_long, rules) }; few = search visit_few }, search sweep_ready, search sweep_slots)
 
 pub loop-f-smaller : goal.loop-f-smaller
 loop-f-smaller c = search visit_less
