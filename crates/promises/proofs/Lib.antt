@@ -1,5 +1,6 @@
 pub mod Exported
 pub mod OneAnswer
+pub mod OneAnswerCalls
 pub mod Demand1
 pub mod Demand3
 pub mod NamesAfter

@@ -17,29 +17,17 @@ use Rattle.stream.specs.Pass.{counted, Reads}
 use Rattle.stream.specs.Export.{Told}
 use Rattle.stream.specs.declared.pass.Count.{Count}
 use Rattle.stream.specs.declared.pass.Count.TheVariants as C
-use Rattle.assembler.specs.Run.{Call, AssemblesBy, Assembles, AssemblesNames, AssemblesStrict, AssemblesStrictNames}
+use Rattle.assembler.specs.Run.{Call, AssemblesBy}
 use Rattle.assembler.specs.Export.{ExportsBy, Exports, ExportsNames, ExportsStrict, ExportsStrictNames}
 use Rattle.promises.specs.Promise.{OneAnswer, OneExport}
 
 -- ## The assembler
 
--- an outcome says all of an answer
-answer-one : (f : Call) (s work old : List ℕ) → OneAnswer (AssemblesBy f s work old)
+-- an outcome says all of an answer (of each call: OneAnswerCalls.antt)
+pub answer-one : (f : Call) (s work old : List ℕ) → OneAnswer (AssemblesBy f s work old)
 answer-one f s work old r r' out out' w w' k k' =
     let e = k ∙ sym k' in
     (λ i. record { number = (e i).number; rec = (e i).rec; first = (e i).first; len = (e i).written }, λ i. (e i).output, λ i. (e i).work)
-
-pub assemble-one : (s work old : List ℕ) → OneAnswer (Assembles s work old)
-assemble-one = answer-one call
-
-pub assemble-names-one : (s work old : List ℕ) → OneAnswer (AssemblesNames s work old)
-assemble-names-one = answer-one call_names
-
-pub assemble-strict-one : (s work old : List ℕ) → OneAnswer (AssemblesStrict s work old)
-assemble-strict-one = answer-one call_strict
-
-pub assemble-strict-names-one : (s work old : List ℕ) → OneAnswer (AssemblesStrictNames s work old)
-assemble-strict-names-one = answer-one call_strict_names
 
 -- and so does what is handed over
 handed-one : (f : Call) (s work old : List ℕ) → OneExport (ExportsBy f s work old)
