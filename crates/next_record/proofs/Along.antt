@@ -3,8 +3,10 @@ use mathlib.Core.Path.{◌≡◌, refl, sym, ap, ◌∙◌}
 use Prim.Native.Nat.{ℕ, zero, suc, ◌+◌, ◌*◌, ◌-◌, ◌/◌, ◌%◌, ◌^◌, ◌≤◌, ◌<◌}
 use mathlib.Core.Bool.{Bool, true, false}
 use mathlib.Core.List.{List, [], ◌∷◌}
-use lib.Count.{count_trailing_zeros}
+use lib.Count.{count_trailing_zeros, trailing_le}
 use lib.Pow.{pow_pos, pow-lt, shr-shr, shr_le}
+use mir.Syntax.{w32, w64}
+use mir.Val.{Fits}
 use native.Mathlib.Nat.{pow-suc, mul_assoc, mul-one, one-mul, div-one, mod-eq_of_lt, le-div_iff_mul-le}
 use native.Mathlib.Omega.{arith}
 use Rattle.definition.specs.Syntax.{Bytes}
@@ -162,6 +164,16 @@ ended s (suc k) (false ∷ bs) h l =
     let g : 2 ^ suc k ≡ 2 ^ k * 2 = pow-suc 2 k in
     rw (twice-more k (value bs)) (ended-more s bs (count_trailing_zeros k (value bs)) (ended s k bs (omega arith) (omega arith)))
 
+-- are fewer than all
+ended-few : (k : ℕ) (bs : List Bool) → 0 < value bs → value bs < 2 ^ k → count_trailing_zeros k (value bs) < k
+ended-few k [] h l = absurd (omega arith)
+ended-few zero (b ∷ bs) h l = absurd (omega arith)
+ended-few (suc k) (true ∷ bs) h l = rw (odd_none k (value bs)) (omega arith)
+ended-few (suc k) (false ∷ bs) h l =
+    let g : 2 ^ suc k ≡ 2 ^ k * 2 = pow-suc 2 k in
+    let i = ended-few k bs (omega arith) (omega arith) in
+    rw (twice-more k (value bs)) (omega (arith, i))
+
 -- ## The loop
 
 -- what is due, and that it comes to what the operands from `p` on come to
@@ -186,6 +198,9 @@ one_shifted n h =
     lt_64 : n ≤ 16 → n < 64
     lt_64 g = omega arith
 
+pub first-due : (n : ℕ) → n ≤ 16 → 1 ≤ (1 * 2 ^ n) % 2 ^ 64
+first-due n h = omega (arith, one_shifted n h)
+
 pub due-begin : (nesting : ℕ) (s : Bytes) (p : Place) (n : ℕ) (does : Does) → n ≤ 16 → nesting ≤ 32
     → Due nesting s p n does p.at p.rec nesting ((1 * 2 ^ n) % 2 ^ 64 - 1) does
 due-begin nesting s p n does h g =
@@ -208,9 +223,18 @@ module _ {nesting : ℕ} {s : Bytes} {p : Place} {n : ℕ} {does : Does} {at rec
   pub due-none : (o : Place) → due ≤ 0 → o ≡ Here → L.Past d o ≡ operands_by (folded_at nesting s) n does p
   due-none o h i = let z : value v.bits ≡ 0 = omega (arith, v.is) in rw i (sym (none-due s v.bits left d Here z) ∙ v.same)
 
+  pub left-fits : Fits w32 (left + zeros)
+  left-fits = let z = trailing_le 64 due in omega (arith, v.level, v.shallow)
+
+  pub zeros_fit : Fits w64 zeros
+  zeros_fit = let z = trailing_le 64 due in omega arith
+
   module _ (h : 0 < due) where
     begins : Ended s v.bits zeros
     begins = let e = v.is in rw (← e) at (ended s 64 v.bits (omega (arith, e)) (omega (arith, e, v.room)))
+
+    pub zeros_few : zeros < 64
+    zeros_few = let e = v.is in rw (← e) at (ended-few 64 v.bits (omega (arith, e)) (omega (arith, e, v.room)))
 
     -- what is due begins with an operand
     record Begun : Type 0 where

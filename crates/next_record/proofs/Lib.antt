@@ -7,3 +7,5 @@ pub mod Frequent
 pub mod Heads
 pub mod Along
 pub mod Steps
+pub mod Lent
+pub mod LentTypes
