@@ -20,7 +20,7 @@ fn report(to: &impl Print, r: Said, out: &[u8]) -> io::Result<()> {
     if r.number == 0 {
         let len = r.len;
         if len <= out.len() {
-            console::text(to, &out[0..len])?;
+            to.write_all(&out[..len])?;
         }
         return Ok(());
     }

@@ -1,4 +1,6 @@
 -- A call is its writer after the passes.
+use Rattle.std.specs.Prelude.{Ok, Err}
+use Rattle.syntax.specs.Refusals.{number, Resolved}
 use Prim.Native.Nat.{ℕ, ◌+◌}
 use mathlib.Core.Path.{◌≡◌, sym, ◌∙◌, ap}
 use mathlib.Core.Bool.{Bool, true, false}
@@ -12,8 +14,6 @@ use Rattle.walk.specs.Walk.{fields_in}
 use Rattle.scope.specs.Scope.{scope_in}
 use Rattle.kept.specs.Tally.{tallies, no_tally}
 use Rattle.kept.specs.declared.tally.Tally.{Tally}
-use Rattle.kept.specs.declared.tally.Verdict.{Verdict}
-use Rattle.kept.specs.declared.tally.Verdict.TheVariants as V'
 use Rattle.sections.specs.Write.{Writable, Held, all_entries, module_items}
 use Rattle.name_section.specs.Section.{names_in}
 use Rattle.passes.specs.Passes.{Prepared}
@@ -23,46 +23,41 @@ use Rattle.assembler.specs.Run.{Runs, outcome_of}
 use Rattle.writers.specs.declared.Said.{Said}
 use Rattle.passes.specs.declared.Passed.{Passed}
 
-module _ (strict : Bool) (s w : List ℕ) (p : Passed) (w₁ b : List ℕ) (h : Prepares strict s w p w₁ b) (v : Verdict) (g : v ≡ p.verdict) where
-  is-ready : v ≡ V'.Fine → Prepared s p w₁ b
-  is-ready e = go p.verdict (sym g ∙ e) h.ready
-    where
-      go : (u : Verdict) → u ≡ V'.Fine → ReadyBy u s p w₁ b → Prepared s p w₁ b
-      go u f z = rw f at z
+module _ (strict : Bool) (s w : List ℕ) (q : Resolved Passed) (w₁ b : List ℕ) (h : Prepares strict s w q w₁ b) where
+  module _ (p : Passed) (d : q ≡ Ok p) where
+    done : Prepares strict s w (Ok p) w₁ b
+    done = rw d at h
 
-  pub run-writable : v ≡ V'.Fine → Writable s w₁
-  run-writable e = (is-ready e).writable
+    pub run-writable : Writable s w₁
+    run-writable = done.ready.writable
 
-  pub run-held : v ≡ V'.Fine → Held b (all_entries s w₁)
-  run-held e = (is-ready e).held
+    pub run-held : Held b (all_entries s w₁)
+    run-held = done.ready.held
 
-  pub run-tally : (t : Tally) → t ≡ p.tally → v ≡ V'.Fine → t ≡ tallies no_tally (all_entries s w₁)
-  run-tally t i e = i ∙ (is-ready e).tally
+    pub run-tally : p.tally ≡ tallies no_tally (all_entries s w₁)
+    run-tally = done.ready.tally
 
-  -- the writer does the rest
-  writer_done : (names : Bool) (old : List ℕ) (z : Said) (w₂ new : List ℕ) → v ≡ V'.Fine
-      → Does p.count (writes names (fields_in s) (scope_in s w₁, module_items s w₁)) w₁ old z w₂ new → Runs (makes strict names) s w old z w₂ new
-  writer_done names old z w₂ new e y =
-      let f : p.verdict ≡ V'.Fine = sym g ∙ e in
-      let x = h.says names (length old) in
-      record { says = y.says ∙ ap (heard old) (sym (rw f at x)); long = y.long ∙ h.long }
+    -- the writer does the rest
+    writer_done : (names : Bool) (old : List ℕ) (z : Said) (w₂ new : List ℕ)
+        → Does p.count (writes names (fields_in s) (scope_in s w₁, module_items s w₁)) w₁ old z w₂ new → Runs (makes strict names) s w old z w₂ new
+    writer_done names old z w₂ new y = record { says = y.says ∙ ap (heard old) (sym (done.says names (length old))); long = y.long ∙ done.long }
 
-  pub run-names : (names : Bool) (old : List ℕ) (z : Said) (w₂ new : List ℕ) → v ≡ V'.Fine → names ≡ true
-      → Does p.count (module' (module_items s w₁) ++ names_in s w₁) w₁ old z w₂ new → Runs (makes strict names) s w old z w₂ new
-  unfolding names_in
-  run-names names old z w₂ new e b y = rw b (writer_done true old z w₂ new e y)
+    pub run-names : (names : Bool) (old : List ℕ) (z : Said) (w₂ new : List ℕ) → names ≡ true
+        → Does p.count (module' (module_items s w₁) ++ names_in s w₁) w₁ old z w₂ new → Runs (makes strict names) s w old z w₂ new
+    unfolding names_in
+    run-names names old z w₂ new b y = rw b (writer_done true old z w₂ new y)
 
-  pub run_module : (names : Bool) (old : List ℕ) (z : Said) (w₂ new : List ℕ) → v ≡ V'.Fine → names ≡ false
-      → Does p.count (module' (module_items s w₁)) w₁ old z w₂ new → Runs (makes strict names) s w old z w₂ new
-  run_module names old z w₂ new e b y = rw b (writer_done false old z w₂ new e y)
+    pub run_module : (names : Bool) (old : List ℕ) (z : Said) (w₂ new : List ℕ) → names ≡ false
+        → Does p.count (module' (module_items s w₁)) w₁ old z w₂ new → Runs (makes strict names) s w old z w₂ new
+    run_module names old z w₂ new b y = rw b (writer_done false old z w₂ new y)
 
   -- a pass has refused
-  pub run_not : (names : Bool) (old : List ℕ) (r : Refusal) → v ≡ V'.Refused r → Runs (makes strict names) s w old (record { number = r.number; rec = r.rec; first = r.first; len = 0 }) w₁ old
+  pub run_not : (names : Bool) (old : List ℕ) (r : Refusal) (n : ℕ) → q ≡ Err r → n ≡ number r.fault
+      → Runs (makes strict names) s w old (record { number = n; rec = r.rec; first = r.first; len = 0 }) w₁ old
   unfolding heard output_after
-  run_not names old r e =
-      let f : p.verdict ≡ V'.Refused r = sym g ∙ e in
-      let x = h.says names (length old) in
-      record { says = ap (heard old) (sym (rw f at x)); long = h.long }
+  run_not names old r n d e =
+      let x : Prepares strict s w (Err r) w₁ b = rw d at h in
+      rw e (record { says = ap (heard old) (sym (x.says names (length old))); long = x.long })
 
 pub call-is : (make : Maker) (s w old : List ℕ) (r : Said) (w' w'' new : List ℕ) → Runs make s w old r w' new → w'' ≡ replicate (length w') 0 → outcome_of r new w'' ≡ call_by make s w old
 unfolding call_by outcome work_after heard

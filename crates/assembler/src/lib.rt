@@ -3,11 +3,11 @@
 
 pub mod export;
 
+ghost use Rattle.std.specs.Prelude.{◌≤◌};
 ghost use Rattle.definition.specs.Assemble.{call_by};
 ghost use Rattle.passes.specs.Passes.{makes};
 ghost use Rattle.assembler.specs.Run.{Runs, AssemblesBy, Assembles, AssemblesNames, AssemblesStrict, AssemblesStrictNames};
 
-use kept::Verdict;
 pub use writers::Said;
 
 // The passes, and then the writer that is asked for. Whatever has room in the kept bytes is resolved once.
@@ -21,18 +21,15 @@ fn run_keeping(
 ) -> Said
     ensures { Runs (makes strict names) s.now work.old out.old result work.new out.new }
 {
-    let p = passes::prepare(s, work, kept, strict);
-    let t = p.tally;
-    let v = p.verdict;
-    match v {
-        Verdict::Fine => {
+    match passes::prepare(s, work, kept, strict) {
+        Ok(p) => {
             if names {
-                return writers::write_names(s, work, out, kept, p.count, t);
+                return writers::write_names(s, work, out, kept, p.count, p.tally);
             }
-            writers::write_module(s, work, out, kept, p.count, t)
+            writers::write_module(s, work, out, kept, p.count, p.tally)
         }
-        Verdict::Refused(q) => Said {
-            number: q.number,
+        Err(q) => Said {
+            number: u8::from(q.fault),
             rec: q.rec,
             first: q.first,
             len: 0,
@@ -40,38 +37,32 @@ fn run_keeping(
     }
 }
 
+// With room for so many kept bytes.
+fn run_in<const N: usize>(
+    s: &[u8],
+    work: &mut [u32],
+    out: &mut [u8],
+    strict: bool,
+    names: bool,
+) -> Said
+    requires { N ≤ 65536 }
+    ensures { Runs (makes strict names) s.now work.old out.old result work.new out.new }
+{
+    let mut kept = [0u8; N];
+    run_keeping(s, work, out, &mut kept, strict, names)
+}
+
 // A short stream keeps little, and pays for little room.
-fn run_tiny(s: &[u8], work: &mut [u32], out: &mut [u8], strict: bool, names: bool) -> Said
-    ensures { Runs (makes strict names) s.now work.old out.old result work.new out.new }
-{
-    let mut kept = [0u8; 2048];
-    run_keeping(s, work, out, &mut kept, strict, names)
-}
-
-fn run_short(s: &[u8], work: &mut [u32], out: &mut [u8], strict: bool, names: bool) -> Said
-    ensures { Runs (makes strict names) s.now work.old out.old result work.new out.new }
-{
-    let mut kept = [0u8; 8192];
-    run_keeping(s, work, out, &mut kept, strict, names)
-}
-
-fn run_long(s: &[u8], work: &mut [u32], out: &mut [u8], strict: bool, names: bool) -> Said
-    ensures { Runs (makes strict names) s.now work.old out.old result work.new out.new }
-{
-    let mut kept = [0u8; 65536];
-    run_keeping(s, work, out, &mut kept, strict, names)
-}
-
 fn run(s: &[u8], work: &mut [u32], out: &mut [u8], strict: bool, names: bool) -> Said
     ensures { Runs (makes strict names) s.now work.old out.old result work.new out.new }
 {
     if s.len() <= 1536 {
-        return run_tiny(s, work, out, strict, names);
+        return run_in::<2048>(s, work, out, strict, names);
     }
     if s.len() <= 6144 {
-        return run_short(s, work, out, strict, names);
+        return run_in::<8192>(s, work, out, strict, names);
     }
-    run_long(s, work, out, strict, names)
+    run_in::<65536>(s, work, out, strict, names)
 }
 
 // The same with the work area cleared.

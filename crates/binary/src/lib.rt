@@ -10,10 +10,3 @@ pub use instructions::{
 pub use names::{put_export, put_import_name, put_name, put_part};
 
 // Where an emitter that also resolves came to, or a refusal's number and record.
-use syntax::Refusal;
-
-#[derive(Clone, Copy)]
-pub enum Emitted {
-    To(usize),
-    Refused(Refusal),
-}

@@ -8,7 +8,7 @@ ghost use Rattle.definition.specs.Deinline as Deinline;
 ghost use Rattle.emit.specs.Put.{Put};
 ghost use Rattle.syntax.specs.CoreTypes.{limits_is, table_type_is, global_type_is};
 
-use syntax::{GlobalType, Limits, Maximum, TableType};
+use syntax::{GlobalType, Limits, TableType};
 
 // The flag of limits without a maximum.
 fn flag(is64: bool) -> u8
@@ -50,8 +50,8 @@ pub fn put_limits(out: &mut [u8], at: usize, l: Limits) -> usize
 {
     let maximum = l.maximum;
     match maximum {
-        Maximum::Unbounded => put_minimum(out, at, l.is64, l.minimum),
-        Maximum::Is(high) => put_both(out, at, l.is64, l.minimum, high),
+        None => put_minimum(out, at, l.is64, l.minimum),
+        Some(high) => put_both(out, at, l.is64, l.minimum, high),
     }
 }
 

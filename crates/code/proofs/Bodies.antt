@@ -1,4 +1,8 @@
 -- The loop over a body: what has been written and what is still to come are the whole.
+use Rattle.std.specs.Prelude.{Option, Ok, Err, Some, None, IsErrAnd}
+use Rattle.std.specs.Result.{IsErr}
+use Rattle.syntax.specs.Refusals.{Resolved}
+use Rattle.syntax.proofs.Ways.{handed}
 use Rattle.std.specs.Prelude.{if◌then◌else◌}
 use Prim.Native.Nat.{ℕ, ◌+◌, ◌-◌, ◌*◌, ◌≤◌, ◌<◌, ◌^◌}
 use mathlib.Core.Path.{◌≡◌, refl, sym, ◌∙◌, ap}
@@ -23,10 +27,7 @@ use Rattle.syntax.specs.declared.Refusal.{Refusal}
 use Rattle.emit.specs.Put.{Put}
 use Rattle.emit.proofs.Laws.{put-none, put_then, put_is, put-length}
 use Rattle.area.specs.Layout.{LABELS, LOCALS, WORDS}
-use Rattle.syntax.specs.Tokens.{byte_at}
 use Rattle.token.specs.Known.{Gets}
-use Rattle.syntax.specs.declared.ByteAt.{ByteAt}
-use Rattle.syntax.specs.declared.ByteAt.TheVariants as B
 use Rattle.token.proofs.Gets.{gets_first}
 use Rattle.syntax.specs.Plain.{operands_is}
 use Rattle.syntax.specs.declared.Operands.{Operands}
@@ -44,12 +45,9 @@ use Rattle.scope.specs.Scope.{scope_in, locals_in, FewLocals, labels_in}
 use Rattle.scope.specs.declared.Locals.{Locals}
 use Rattle.scope.proofs.Frames.{scope_kept, locals-kept, recalled-left, recalled_right, recalled-scope}
 use Rattle.binary.specs.Emits.{Wrote, Emits}
-use Rattle.binary.specs.declared.Emitted.TheVariants as E
 use Rattle.binary.proofs.Emitting.{bind_ok, bind_not, wrote, halts}
 use Rattle.operands.proofs.Elements.{after}
 use Rattle.plain.specs.Turns.{InBody, record_of, plain_record, read_uses, Stepped, Halted, Turned, AnyLocals}
-use Rattle.plain.specs.declared.turn.Turn.{Turn}
-use Rattle.plain.specs.declared.turn.Turn.TheVariants as T
 use Rattle.code.specs.Code.{closing_form}
 use Rattle.code.specs.Body.{Resolvable, Within, stretch_answer, Unfolded, StretchTurned, body_answer, Advanced, Over, Halts, BodyTurned, EmitsBody}
 use Rattle.code.proofs.Stretches.{concat_append, all_after, after-after, resolvable-first, resolvable-rest, never_cut, tree_level, body-append}
@@ -76,19 +74,19 @@ Bare folding = ⊥
 Bare (ended next) = Unit {0}
 Bare unread = Unit {0}
 
-module _ (s : List ℕ) (k here : ℕ) (q : ByteAt) (told : byte s here ≡ byte_at q) where
-  head_byteless : (n : ℕ) → q ≡ B.Fault n → Bare (head_at k s here)
+module _ (s : List ℕ) (k here : ℕ) where
+  head_byteless : (n : ℕ) → byte s here ≡ fault n → Bare (head_at k s here)
   unfolding head_at
-  head_byteless n d = rw (told, d) tt
+  head_byteless n d = rw d tt
 
-  module _ (b a : ℕ) (d : q ≡ B.Got b a) where
+  module _ (b a : ℕ) (d : byte s here ≡ got b a) where
     head-folding : b ≡ 0xF0 → head_at k s here ≡ folding
     unfolding head_at
-    head-folding e = rw (told, d, eq-eqb b 0xF0 e) refl
+    head-folding e = rw (d, eq-eqb b 0xF0 e) refl
 
     head_formless : form_of b ≡ none → (b ≡ 0xF0 → ⊥) → Bare (head_at k s here)
     unfolding head_at
-    head_formless says n = rw (told, d, ne_eqb b 0xF0 n, says) (go (eqb b 0xFF) (eqb k 0))
+    head_formless says n = rw (d, ne_eqb b 0xF0 n, says) (go (eqb b 0xFF) (eqb k 0))
       where
         go : (t u : Bool) → Bare (if t then (if u then ended a else unread) else unread)
         go true true = tt
@@ -97,7 +95,7 @@ module _ (s : List ℕ) (k here : ℕ) (q : ByteAt) (told : byte s here ≡ byte
 
     head-formed : (g : Form) → form_of b ≡ some g → head_at k s here ≡ one_of (deep_instr k b g s a)
     unfolding head_at deep_instr
-    head-formed g says = rw (told, d, no_opcode 0xF0 fold_formless b g (eqb b 0xF0) refl says, no_opcode 0xFF end_formless b g (eqb b 0xFF) refl says, says) refl
+    head-formed g says = rw (d, no_opcode 0xF0 fold_formless b g (eqb b 0xF0) refl says, no_opcode 0xFF end_formless b g (eqb b 0xFF) refl says, says) refl
 
 -- ## What comes of it
 
@@ -190,11 +188,11 @@ module _ (s w : List ℕ) (l : Locals) (p : Place) (i : InBody p) where
         let c = body-one s (p.depth - 1) p.rec p.at low x.read x.next (e ∙ instr-read m x.read x.next x.reads) in
         record { says = rw (c, x.says) refl; area = x.area }
 
-    pub turned-one : (r : Turn) → Turned s w (locals_in s w l) (p.depth - 1) p.rec (record_of m) old at r w' new → BodyTurned s w l p old at r w' new
+    pub turned-one : (r : Resolved (Option (ℕ × Place))) → Turned s w (locals_in s w l) (p.depth - 1) p.rec (record_of m) old at r w' new → BodyTurned s w l p old at r w' new
     unfolding Turned BodyTurned
-    turned-one (T.On o q) x = stepped o q x
-    turned-one T.Done x = absurd (let g = head_gets s (p.depth - 1) p.rec p.at low w v m e in x.none g.value g.next (ap (λ (y : Step (Syntax.Instr Identifier)). record_of y) g.is))
-    turned-one (T.Refused q) x = halted q x
+    turned-one (Ok (Some (o, q))) x = stepped o q x
+    turned-one (Ok None) x = absurd (let g = head_gets s (p.depth - 1) p.rec p.at low w v m e in x.none g.value g.next (ap (λ (y : Step (Syntax.Instr Identifier)). record_of y) g.is))
+    turned-one (Err q) x = halted q x
 
   -- a folded record with its operands
   module _ (e : head_at (p.depth - 1) s p.at ≡ folding) (v : Resolvable s w (body_from (p.depth - 1) p.rec s p.at)) where
@@ -234,26 +232,26 @@ module _ (s w : List ℕ) (l : Locals) (p : Place) (i : InBody p) where
             kept = kept_same LABELS w;
           }
 
-      pub turned-folded : (r : Turn) → StretchTurned s w l p.depth (tree_at 32 s p.rec p.at) old at r new → BodyTurned s w l p old at r w new
+      pub turned-folded : (r : Resolved (Option (ℕ × Place))) → StretchTurned s w l p.depth (tree_at 32 s p.rec p.at) old at r new → BodyTurned s w l p old at r w new
       unfolding StretchTurned BodyTurned Emits
-      turned-folded (T.On o q) x = unfolded o q x
-      turned-folded T.Done x = absurd (never_cut (head_tree s (p.depth - 1) p.rec p.at low w v e) x)
-      turned-folded (T.Refused q) x = record { says = answer-folded ∙ bind_not (stretch_answer s w l p.depth Tree) q _ x; area = refl }
+      turned-folded (Ok (Some (o, q))) x = unfolded o q x
+      turned-folded (Ok None) x = absurd (never_cut (head_tree s (p.depth - 1) p.rec p.at low w v e) x)
+      turned-folded (Err q) x = record { says = answer-folded ∙ bind_not (stretch_answer s w l p.depth Tree) q _ x; area = refl }
 
 -- ## `one_record`
 
 -- what each of its calls needs
-module _ (s w : List ℕ) (k r here : ℕ) (v : Resolvable s w (body_from k r s here)) (low : r < 4096) (q : ByteAt) (told : byte s here ≡ byte_at q) (b a : ℕ) (d : q ≡ B.Got b a) where
+module _ (s w : List ℕ) (k r here : ℕ) (v : Resolvable s w (body_from k r s here)) (low : r < 4096) (b a : ℕ) (d : byte s here ≡ got b a) where
   pub folding-resolvable : b ≡ 0xF0 → Resolvable s w (operands_by (tree_at 32 s) 1 r here)
-  folding-resolvable e = rw (operands-one (tree_at 32 s) r here) (head_tree s k r here low w v (head-folding s k here q told b a d e))
+  folding-resolvable e = rw (operands-one (tree_at 32 s) r here) (head_tree s k r here low w v (head-folding s k here b a d e))
 
   module _ (f : Code.Form) (says : form_of b ≡ form_is f) where
     module _ (g : Form) (e : form_is f ≡ some g) where
       formed-uses : Recalled w (types_in s w) (read_uses r (deep_instr k b g s a))
-      formed-uses = head-uses s k r here low w v (deep_instr k b g s a) (head-formed s k here q told b a d g (says ∙ e))
+      formed-uses = head-uses s k r here low w v (deep_instr k b g s a) (head-formed s k here b a d g (says ∙ e))
 
       formed_gets : Gets (deep_instr k b g s a)
-      formed_gets = head_gets s k r here low w v (deep_instr k b g s a) (head-formed s k here q told b a d g (says ∙ e))
+      formed_gets = head_gets s k r here low w v (deep_instr k b g s a) (head-formed s k here b a d g (says ∙ e))
 
     pub opening_uses : f ≡ F.Opening → Recalled w (types_in s w) (read_uses r (deep_instr k b opening s a))
     opening_uses e = formed-uses opening (ap form_is e)
@@ -282,24 +280,24 @@ module _ (s w : List ℕ) (k r here : ℕ) (v : Resolvable s w (body_from k r s 
     plain_gets o e = gets_first _ (plain_of b (operands_is o) s a) (formed_gets (operands (operands_is o)) (ap form_is e))
 
 -- what comes of it, by the byte and its form
-module _ (s w : List ℕ) (l : Locals) (p : Place) (q : ByteAt) (told : byte s p.at ≡ byte_at q) (i : InBody p) where
-  pub byte-fault : (n : ℕ) (old : List ℕ) (at : ℕ) → q ≡ B.Fault n → BodyTurned s w l p old at T.Done w old
+module _ (s w : List ℕ) (l : Locals) (p : Place) (i : InBody p) where
+  pub byte-fault : (n : ℕ) (old : List ℕ) (at : ℕ) → byte s p.at ≡ fault n → BodyTurned s w l p old at (Ok None) w old
   unfolding BodyTurned
-  byte-fault n old at d = over s w l p i old (head_byteless s (p.depth - 1) p.at q told n d)
+  byte-fault n old at d = over s w l p i old (head_byteless s (p.depth - 1) p.at n d)
 
-  pub byte-folding : (b a : ℕ) → q ≡ B.Got b a → Resolvable s w (body_from (p.depth - 1) p.rec s p.at) → (old : List ℕ) (at : ℕ) (r : Turn) (new : List ℕ) → b ≡ 0xF0
+  pub byte-folding : (b a : ℕ) → byte s p.at ≡ got b a → Resolvable s w (body_from (p.depth - 1) p.rec s p.at) → (old : List ℕ) (at : ℕ) (r : Resolved (Option (ℕ × Place))) (new : List ℕ) → b ≡ 0xF0
       → StretchTurned s w l p.depth (operands_by (tree_at 32 s) 1 p.rec p.at) old at r new → BodyTurned s w l p old at r w new
-  byte-folding b a d v old at r new e t = turned-folded s w l p i (head-folding s (p.depth - 1) p.at q told b a d e) v old at new r (rw (operands-one (tree_at 32 s) p.rec p.at) at t)
+  byte-folding b a d v old at r new e t = turned-folded s w l p i (head-folding s (p.depth - 1) p.at b a d e) v old at new r (rw (operands-one (tree_at 32 s) p.rec p.at) at t)
 
-  module _ (b a : ℕ) (d : q ≡ B.Got b a) (f : Code.Form) (says : form_of b ≡ form_is f) where
-    pub form_none : (old : List ℕ) (at : ℕ) → f ≡ F.NoOpcode → (b ≡ 0xF0 → ⊥) → BodyTurned s w l p old at T.Done w old
+  module _ (b a : ℕ) (d : byte s p.at ≡ got b a) (f : Code.Form) (says : form_of b ≡ form_is f) where
+    pub form_none : (old : List ℕ) (at : ℕ) → f ≡ F.NoOpcode → (b ≡ 0xF0 → ⊥) → BodyTurned s w l p old at (Ok None) w old
     unfolding BodyTurned
-    form_none old at e n = over s w l p i old (head_formless s (p.depth - 1) p.at q told b a d (says ∙ ap form_is e) n)
+    form_none old at e n = over s w l p i old (head_formless s (p.depth - 1) p.at b a d (says ∙ ap form_is e) n)
 
-    module _ (v : Resolvable s w (body_from (p.depth - 1) p.rec s p.at)) (old : List ℕ) (at : ℕ) (r : Turn) (w' new : List ℕ) where
+    module _ (v : Resolvable s w (body_from (p.depth - 1) p.rec s p.at)) (old : List ℕ) (at : ℕ) (r : Resolved (Option (ℕ × Place))) (w' new : List ℕ) where
       formed-turn : (g : Form) → form_is f ≡ some g → Turned s w (locals_in s w l) (p.depth - 1) p.rec (record_of (deep_instr (p.depth - 1) b g s a)) old at r w' new
           → BodyTurned s w l p old at r w' new
-      formed-turn g e t = turned-one s w l p i (deep_instr (p.depth - 1) b g s a) (head-formed s (p.depth - 1) p.at q told b a d g (says ∙ e)) v old at w' new r t
+      formed-turn g e t = turned-one s w l p i (deep_instr (p.depth - 1) b g s a) (head-formed s (p.depth - 1) p.at b a d g (says ∙ e)) v old at w' new r t
 
       pub form_opening : f ≡ F.Opening → AnyLocals s w (p.depth - 1) p.rec (record_of (deep_instr (p.depth - 1) b opening s a)) old at r w' new → BodyTurned s w l p old at r w' new
       form_opening e t = formed-turn opening (ap form_is e) (t.each (locals_in s w l))
@@ -371,14 +369,14 @@ module _ {s w₀ : List ℕ} {l : Locals} {rec here : ℕ} {old : List ℕ} {at 
   going_resolvable = v.resolvable
 
   -- no instruction is left
-  empty : body_answer s w₀ l w p ≡ ok [] → EmitsBody s w₀ l rec here old at (E.To o) w out
+  empty : body_answer s w₀ l w p ≡ ok [] → EmitsBody s w₀ l rec here old at (Ok o) w out
   empty e = record {
     emits = wrote (concat_map Binary.instruction) (body (scope_in s w₀) (locals_in s w₀ l) [] (body_from 0 rec s here).body) old at out v.done o v.so_far
         (v.same ∙ bind_ok (body_answer s w₀ l w p) [] (after v.done) (ok v.done) e (unfold after in ap ok (append-nil v.done)));
     kept = v.kept;
   }
 
-  pub going_full : 4096 ≤ p.rec → EmitsBody s w₀ l rec here old at (E.To o) w out
+  pub going_full : 4096 ≤ p.rec → EmitsBody s w₀ l rec here old at (Ok o) w out
   going_full h = empty (no_more (body_full s (p.depth - 1) p.rec p.at h))
     where
       no_more : body_from (p.depth - 1) p.rec s p.at ≡ stopped p.rec p.at → body_answer s w₀ l w p ≡ ok []
@@ -390,15 +388,15 @@ module _ {s w₀ : List ℕ} {l : Locals} {rec here : ℕ} {old : List ℕ} {at 
     unfolding body_answer
     first w' q = rw (scope_kept s w₀ w (kept_less LOCALS LABELS (omega arith) v.kept), locals-kept s w₀ w l v.kept few.named) refl
 
-    module _ (res : Turn) (w' new : List ℕ) (t : BodyTurned s w l p out o res w' new) where
-      advanced : (a : ℕ) (q : Place) → res ≡ T.On a q → Advanced s w l p out o a q w' new
+    module _ (res : Resolved (Option (ℕ × Place))) (w' new : List ℕ) (t : BodyTurned s w l p out o res w' new) where
+      advanced : (a : ℕ) (q : Place) → res ≡ Ok (Some (a, q)) → Advanced s w l p out o a q w' new
       unfolding BodyTurned
       advanced a q d = rw d at t
 
-      pub going_less : (a : ℕ) (q : Place) → res ≡ T.On a q → p.rec < 4096 → 4096 - q.rec < 4096 - p.rec
+      pub going_less : (a : ℕ) (q : Place) → res ≡ Ok (Some (a, q)) → p.rec < 4096 → 4096 - q.rec < 4096 - p.rec
       going_less a q d h = let e : p.rec < q.rec = (advanced a q d).later in omega arith
 
-      pub going_again : (a : ℕ) (q : Place) → res ≡ T.On a q → Going s w₀ l rec here old at w' new a q
+      pub going_again : (a : ℕ) (q : Place) → res ≡ Ok (Some (a, q)) → Going s w₀ l rec here old at w' new a q
       going_again a q d =
           let x : Advanced s w l p out o a q w' new = advanced a q d in
           record {
@@ -418,7 +416,7 @@ module _ {s w₀ : List ℕ} {l : Locals} {rec here : ℕ} {old : List ℕ} {at 
           as_after : (ops : List Op) (m : Answer (List Op)) → (m >>= λ os. ok (ops ++ os)) ≡ (m >>= after ops)
           as_after ops m = unfold after in refl
 
-      pub going_refused : (q : Refusal) → res ≡ T.Refused q → EmitsBody s w₀ l rec here old at (E.Refused q) w' new
+      going_refused : (q : Refusal) → res ≡ Err q → EmitsBody s w₀ l rec here old at (Err q) w' new
       unfolding BodyTurned
       going_refused q d =
           let x : Halts s w l p q w' = rw d at t in
@@ -428,10 +426,14 @@ module _ {s w₀ : List ℕ} {l : Locals} {rec here : ℕ} {old : List ℕ} {at 
             kept = rw x.area v.kept;
           }
 
-      pub going_done : res ≡ T.Done → EmitsBody s w₀ l rec here old at (E.To o) w' new
+      -- a refusal is handed on
+      pub going_stops : (r : Resolved ℕ) (q : Refusal) → res ≡ Err q → IsErr r → IsErrAnd r (λ e. e ≡ q) → EmitsBody s w₀ l rec here old at r w' new
+      going_stops r q d i z = rw (handed r q i z) (going_refused q d)
+
+      pub going_done : res ≡ Ok None → EmitsBody s w₀ l rec here old at (Ok o) w' new
       unfolding BodyTurned
       going_done d =
           let x : Over s w l p out w' new = rw d at t in
           rw (x.area, x.bytes) (empty (first w p ∙ x.none))
 
-pub ruleset goings = (going_again, going_done, going_refused, going_full)
+pub ruleset goings = (going_again, going_done, going_stops, going_full)

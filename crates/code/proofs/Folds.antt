@@ -1,4 +1,8 @@
 -- Folded records: the operator of one, its operands from left to right, and both.
+use Rattle.std.specs.Prelude.{Option, Ok, Err, Some, None, IsErrAnd}
+use Rattle.std.specs.Result.{IsErr}
+use Rattle.syntax.specs.Refusals.{Resolved}
+use Rattle.syntax.proofs.Ways.{handed}
 use Prim.Native.Nat.{ℕ, zero, suc, ◌+◌, ◌-◌, ◌*◌, ◌≤◌, ◌<◌, ◌^◌}
 use mathlib.Core.Path.{◌≡◌, refl, sym, ◌∙◌, ap}
 use mathlib.Core.Bool.{false}
@@ -22,7 +26,6 @@ use Rattle.syntax.specs.declared.Operands.{Operands}
 use Rattle.syntax.specs.declared.Form as Code
 use Rattle.syntax.specs.declared.Form.TheVariants as F
 use Rattle.syntax.specs.declared.Folding.{Folding}
-use Rattle.syntax.specs.declared.Folding.TheVariants as FO
 use Rattle.emit.specs.Put.{Put}
 use Rattle.emit.proofs.Laws.{put-none, put_then, put_is, put-length}
 use Rattle.token.specs.Known.{Gets}
@@ -37,8 +40,6 @@ use Rattle.binary.specs.Emits.{Wrote, Emits}
 use Rattle.binary.proofs.Emitting.{bind_ok, bind_not, wrote}
 use Rattle.operands.proofs.Elements.{after, concat_snoc}
 use Rattle.plain.specs.Turns.{record_of, plain_record, read_uses, Turned, AnyLocals}
-use Rattle.plain.specs.declared.turn.Turn.{Turn}
-use Rattle.plain.specs.declared.turn.Turn.TheVariants as T
 use Rattle.plain.proofs.Turns.{turned-fault}
 use Rattle.code.specs.Body.{Resolvable, Within, stretch_answer, Unfolded, StretchTurned, last_turn, OperatorTurned}
 use Rattle.code.proofs.Stretches.{concat_append, all_after, after-after, resolvable-first, resolvable-rest, resolvable-operands, resolvable-operator, never_cut, operands-level, tree_level, body-append}
@@ -50,7 +51,7 @@ module _ (s w : List ℕ) (l : Locals) (k rec here op : ℕ) (f : Code.Form) (sa
   Operator = operator_of op (form_of op) s here
 
   -- no opcode, or one that is barred
-  pub operator_barred : (old : List ℕ) (at : ℕ) → (f ≡ F.Calling → ⊥) → ((v : Operands) → f ≡ F.Operands v → ⊥) → Turned s w (locals_in s w l) k rec (record_of (operator_of op (form_of op) s here)) old at T.Done w old
+  pub operator_barred : (old : List ℕ) (at : ℕ) → (f ≡ F.Calling → ⊥) → ((v : Operands) → f ≡ F.Operands v → ⊥) → Turned s w (locals_in s w l) k rec (record_of (operator_of op (form_of op) s here)) old at (Ok None) w old
   operator_barred old at h i = turned-fault s w (locals_in s w l) k rec (record_of Operator) old at 4 (ap (λ (m : Step (Syntax.Instr Identifier)). record_of m) (go f refl))
     where
       go : (g : Code.Form) → f ≡ g → operator_of op (form_of op) s here ≡ fault 4
@@ -72,7 +73,7 @@ module _ (s w : List ℕ) (l : Locals) (k rec here op : ℕ) (f : Code.Form) (sa
   pub operator_calling_gets : (j : ℕ) → f ≡ F.Calling → Gets (operator_of op (form_of op) s here) → Gets (deep_instr j 0x11 calling s here)
   operator_calling_gets j e g = rw (calling_is j e) at g
 
-  pub operator_calling : (j : ℕ) (old : List ℕ) (at : ℕ) (r : Turn) (w' new : List ℕ) → f ≡ F.Calling → AnyLocals s w k rec (record_of (deep_instr j 0x11 calling s here)) old at r w' new
+  pub operator_calling : (j : ℕ) (old : List ℕ) (at : ℕ) (r : Resolved (Option (ℕ × Place))) (w' new : List ℕ) → f ≡ F.Calling → AnyLocals s w k rec (record_of (deep_instr j 0x11 calling s here)) old at r w' new
       → Turned s w (locals_in s w l) k rec (record_of (operator_of op (form_of op) s here)) old at r w' new
   operator_calling j old at r w' new e t = rw (calling_is j e) (t.each (locals_in s w l))
 
@@ -85,7 +86,7 @@ module _ (s w : List ℕ) (l : Locals) (k rec here op : ℕ) (f : Code.Form) (sa
     pub operator-plain_gets : Gets (operator_of op (form_of op) s here) → Gets (plain_of op (operands_is v) s here)
     operator-plain_gets g = gets_first _ (plain_of op (operands_is v) s here) (rw plain-is at g)
 
-    pub operator-plain : (old : List ℕ) (at : ℕ) (r : Turn) (w' new : List ℕ) → Turned s w (locals_in s w l) k rec (plain_record (plain_of op (operands_is v) s here)) old at r w' new
+    pub operator-plain : (old : List ℕ) (at : ℕ) (r : Resolved (Option (ℕ × Place))) (w' new : List ℕ) → Turned s w (locals_in s w l) k rec (plain_record (plain_of op (operands_is v) s here)) old at r w' new
         → Turned s w (locals_in s w l) k rec (record_of (operator_of op (form_of op) s here)) old at r w' new
     operator-plain old at r w' new t = rw plain-is t
 
@@ -114,38 +115,38 @@ module _ (s : List ℕ) (left r here : ℕ) (deep : 1 ≤ left) (low : r < 4096)
     read-op : (y : Syntax.Instr Identifier) (k : ℕ) → record_of (operator_of b (form_of b) s a) ≡ got (instr y) k → y ≡ x.operator
     read-op y k e = let f : got (instr x.operator) x.past ≡ got (instr y) k = rw x.reads at e in cc
 
-known : (s : List ℕ) (here b : ℕ) (f : Code.Form) (a n next : ℕ) (q : Folding) → q ≡ FO.Parts b f a n next → Parted s here q → Parts s here b f a n next
+known : (s : List ℕ) (here : ℕ) (f : Folding) → Parted s here (Some f) → Parts s here f.opcode f.form f.at f.count f.next
 unfolding Parted
-known s here b f a n next q d told = rw d at told
+known s here f told = told
 
 -- what its operands and its operator need; the stream that is passed on has a name of its own, since `search` then finds the parts with less computing
-module _ (s : List ℕ) (here : ℕ) (q : Folding) (told : Parted s here q) (b : ℕ) (f : Code.Form) (a n next : ℕ) (d : q ≡ FO.Parts b f a n next) where
-  abbrev Known : Parts s here b f a n next
-  Known = known s here b f a n next q d told
+module _ (s : List ℕ) (here : ℕ) (f : Folding) (told : Parted s here (Some f)) where
+  abbrev Known : Parts s here f.opcode f.form f.at f.count f.next
+  Known = known s here f told
 
-  pub folded-says : form_of b ≡ form_is f
+  pub folded-says : form_of f.opcode ≡ form_is f.form
   folded-says = Known.says
 
-  pub folded_gets : (t : List ℕ) → t ≡ s → Gets (operator_of b (form_of b) t a)
+  pub folded_gets : (t : List ℕ) → t ≡ s → Gets (operator_of f.opcode (form_of f.opcode) t f.at)
   folded_gets t e = rw e (record { value = Known.operator; next = Known.past; is = Known.reads })
 
   module _ (w : List ℕ) (left r : ℕ) (v : Resolvable s w (tree_at left s r here)) (deep : 1 ≤ left) (low : r < 4096) where
-    parted_resolvable : Resolvable s w (operator_last r Known.operator (operands_by (tree_at (left - 1) s) n (r + 1) next))
-    parted_resolvable = rw (tree_parts s left r here deep low b f a n next Known) at v
+    parted_resolvable : Resolvable s w (operator_last r Known.operator (operands_by (tree_at (left - 1) s) f.count (r + 1) f.next))
+    parted_resolvable = rw (tree_parts s left r here deep low f.opcode f.form f.at f.count f.next Known) at v
 
-    pub folded-operands : (t : List ℕ) → t ≡ s → Resolvable t w (operands_by (tree_at (left - 1) t) n (r + 1) next)
-    folded-operands t e = rw e (resolvable-operands s w r Known.operator (operands_by (tree_at (left - 1) s) n (r + 1) next) parted_resolvable)
+    pub folded-operands : (t : List ℕ) → t ≡ s → Resolvable t w (operands_by (tree_at (left - 1) t) f.count (r + 1) f.next)
+    folded-operands t e = rw e (resolvable-operands s w r Known.operator (operands_by (tree_at (left - 1) s) f.count (r + 1) f.next) parted_resolvable)
 
-    pub folded-uses : (t : List ℕ) → t ≡ s → Recalled w (types_in t w) (read_uses r (operator_of b (form_of b) t a))
-    folded-uses t e = rw e (rw Known.reads (resolvable-operator s w r Known.operator (operands_by (tree_at (left - 1) s) n (r + 1) next) parted_resolvable))
+    pub folded-uses : (t : List ℕ) → t ≡ s → Recalled w (types_in t w) (read_uses r (operator_of f.opcode (form_of f.opcode) t f.at))
+    folded-uses t e = rw e (rw Known.reads (resolvable-operator s w r Known.operator (operands_by (tree_at (left - 1) s) f.count (r + 1) f.next) parted_resolvable))
 
 -- nothing that is folded stands there
 module _ (s w : List ℕ) (l : Locals) (depth left r here : ℕ) (old : List ℕ) (at : ℕ) where
-  pub folded-deep : left < 1 → StretchTurned s w l depth (tree_at left s r here) old at T.Done old
+  pub folded-deep : left < 1 → StretchTurned s w l depth (tree_at left s r here) old at (Ok None) old
   unfolding StretchTurned tree_at
   folded-deep h = let m : left ≡ 0 = omega arith in rw m refl
 
-  pub folded_full : 4096 ≤ r → StretchTurned s w l depth (tree_at left s r here) old at T.Done old
+  pub folded_full : 4096 ≤ r → StretchTurned s w l depth (tree_at left s r here) old at (Ok None) old
   unfolding StretchTurned
   folded_full h = go left
     where
@@ -153,12 +154,12 @@ module _ (s w : List ℕ) (l : Locals) (depth left r here : ℕ) (old : List ℕ
       go zero = unfold tree_at in refl
       go (suc k) = unfold tree_at in rw (le-leb 4096 r h) refl
 
-  pub folded-unread : (q : Folding) → q ≡ FO.Unread → Parted s here q → StretchTurned s w l depth (tree_at left s r here) old at T.Done old
+  pub folded-unread : Parted s here None → StretchTurned s w l depth (tree_at left s r here) old at (Ok None) old
   unfolding Parted
-  folded-unread q d told = absurd (rw d at told)
+  folded-unread told = absurd told
 
 -- its operands are put, and then its operator
-module _ (s w : List ℕ) (l : Locals) (p : Place) (left b : ℕ) (f : Code.Form) (a n next : ℕ) (q : Folding) (d : q ≡ FO.Parts b f a n next) (told : Parted s p.at q) (deep : 1 ≤ left) (low : p.rec < 4096) where
+module _ (s w : List ℕ) (l : Locals) (p : Place) (left : ℕ) (f : Folding) (told : Parted s p.at (Some f)) (deep : 1 ≤ left) (low : p.rec < 4096) where
   abbrev depth : ℕ
   depth = p.depth
 
@@ -168,24 +169,24 @@ module _ (s w : List ℕ) (l : Locals) (p : Place) (left b : ℕ) (f : Code.Form
   abbrev here : ℕ
   here = p.at
 
-  abbrev is_known : Parts s here b f a n next
-  is_known = known s here b f a n next q d told
+  abbrev is_known : Parts s here f.opcode f.form f.at f.count f.next
+  is_known = known s here f told
 
   abbrev op : Syntax.Instr Identifier
   op = is_known.operator
 
   abbrev Operands' : Stretch
-  Operands' = operands_by (tree_at (left - 1) s) n (r + 1) next
+  Operands' = operands_by (tree_at (left - 1) s) f.count (r + 1) f.next
 
   is-parts : tree_at left s r here ≡ operator_last r op Operands'
-  is-parts = tree_parts s left r here deep low b f a n next is_known
+  is-parts = tree_parts s left r here deep low f.opcode f.form f.at f.count f.next is_known
 
   answer-parts : stretch_answer s w l depth (tree_at left s r here)
       ≡ (stretch_answer s w l depth Operands' >>= λ os. body (scope_in s w) (locals_in s w l) (labels_in s w (depth - 1)) ((r, op) ∷ []) >>= after os)
   unfolding stretch_answer
   answer-parts =
       rw is-parts
-      (body-append (scope_in s w) (locals_in s w l) (labels_in s w (depth - 1)) Operands'.body ((r, op) ∷ []) (operands-level (tree_at (left - 1) s) (tree_level (left - 1) s) n (r + 1) next))
+      (body-append (scope_in s w) (locals_in s w l) (labels_in s w (depth - 1)) Operands'.body ((r, op) ∷ []) (operands-level (tree_at (left - 1) s) (tree_level (left - 1) s) f.count (r + 1) f.next))
 
   -- the operator comes last
   last_ok : (o : Op) → instr_op (scope_in s w) (locals_in s w l) (labels_in s w (depth - 1)) r op ≡ ok o → (os : List Op)
@@ -205,11 +206,11 @@ module _ (s w : List ℕ) (l : Locals) (p : Place) (left b : ℕ) (f : Code.Form
       wrote_operands = held.emits
 
       -- what came of the operator is what came of the whole
-      pub folded_last : (z : Turn) → Turned s w (locals_in s w l) (depth - 1) r (record_of (operator_of b (form_of b) s a)) mid o z w new → StretchTurned s w l depth (tree_at left s r here) old at (last_turn end z) new
+      pub folded_last : (z : Resolved (Option (ℕ × Place))) → Turned s w (locals_in s w l) (depth - 1) r (record_of (operator_of f.opcode (form_of f.opcode) s f.at)) mid o z w new → StretchTurned s w l depth (tree_at left s r here) old at (last_turn end z) new
       unfolding StretchTurned Turned Emits
-      folded_last (T.On e g) x =
+      folded_last (Ok (Some (e, g))) x =
           let v = wrote_operands in
-          let i : instr_op (scope_in s w) (locals_in s w l) (labels_in s w (depth - 1)) r op ≡ ok x.op = ap (instr_op (scope_in s w) (locals_in s w l) (labels_in s w (depth - 1)) r) (sym (read-op s left r here deep low b f a n next is_known x.read g.at x.reads)) ∙ x.is in
+          let i : instr_op (scope_in s w) (locals_in s w l) (labels_in s w (depth - 1)) r op ≡ ok x.op = ap (instr_op (scope_in s w) (locals_in s w l) (labels_in s w (depth - 1)) r) (sym (read-op s left r here deep low f.opcode f.form f.at f.count f.next is_known x.read g.at x.reads)) ∙ x.is in
           record {
             emits = record {
               value = v.value ++ (x.op ∷ []);
@@ -220,49 +221,50 @@ module _ (s w : List ℕ) (l : Locals) (p : Place) (left b : ℕ) (f : Code.Form
             next = held.next ∙ ap (λ (t : Stretch). t.rec) (sym is-parts);
             level = held.level;
           }
-      folded_last T.Done x =
+      folded_last (Ok None) x =
           absurd (x.none op is_known.past (rw is_known.reads refl))
-      folded_last (T.Refused g) x =
+      folded_last (Err g) x =
           let v = wrote_operands in
-          let i : instr_op (scope_in s w) (locals_in s w l) (labels_in s w (depth - 1)) r op ≡ refused_by g = ap (instr_op (scope_in s w) (locals_in s w l) (labels_in s w (depth - 1)) r) (sym (read-op s left r here deep low b f a n next is_known x.read x.next x.reads)) ∙ x.says in
+          let i : instr_op (scope_in s w) (locals_in s w l) (labels_in s w (depth - 1)) r op ≡ refused_by g = ap (instr_op (scope_in s w) (locals_in s w l) (labels_in s w (depth - 1)) r) (sym (read-op s left r here deep low f.opcode f.form f.at f.count f.next is_known x.read x.next x.reads)) ∙ x.says in
           answer-parts ∙ bind_ok (stretch_answer s w l depth Operands') v.value _ _ v.is (last_not g i v.value)
 
-    pub folded-all : (y z : Turn) (mid : List ℕ) → StretchTurned s w l depth Operands' old at y mid → OperatorTurned s w l (record { at = a; rec = p.rec; depth = p.depth }) b y mid z new
+    pub folded-all : (y z : Resolved (Option (ℕ × Place))) (mid : List ℕ) → StretchTurned s w l depth Operands' old at y mid → OperatorTurned s w l (record { at = f.at; rec = p.rec; depth = p.depth }) f.opcode y mid z new
         → StretchTurned s w l depth (tree_at left s r here) old at z new
     unfolding StretchTurned OperatorTurned Emits
-    folded-all (T.On o end) z mid t u = rw u.is (folded_last o end mid t u.turn u.turned)
-    folded-all T.Done z mid t u = rw u (rw is-parts t)
-    folded-all (T.Refused g) z mid t u = rw u (answer-parts ∙ bind_not (stretch_answer s w l depth Operands') g _ t)
+    folded-all (Ok (Some (o, end))) z mid t u = rw u.is (folded_last o end mid t u.turn u.turned)
+    folded-all (Ok None) z mid t u = rw u (rw is-parts t)
+    folded-all (Err g) z mid t u = rw u (answer-parts ∙ bind_not (stretch_answer s w l depth Operands') g _ t)
 
 pub ruleset foldings = (folded-deep, folded_full, folded-unread, folded-all)
 
 -- ## `operator_last`
 
-module _ (s w : List ℕ) (l : Locals) (p : Place) (op : ℕ) (held : Turn) (old : List ℕ) where
-  pub last_put : (o : ℕ) (end : Place) (y z : Turn) (new : List ℕ) → held ≡ T.On o end → Turned s w (locals_in s w l) (p.depth - 1) p.rec (record_of (operator_of op (form_of op) s p.at)) old o y w new
-      → z ≡ last_turn end y → OperatorTurned s w l p op held old z new
-  unfolding OperatorTurned
-  last_put o end y z new d t e = rw d (record { turn = y; turned = t; is = e })
+module _ (s w : List ℕ) (l : Locals) (p : Place) (op : ℕ) (held : Resolved (Option (ℕ × Place))) (old : List ℕ) where
+  module _ (f : Option (ℕ × Place)) (d : held ≡ Ok f) where
+    module _ (o : ℕ) (end : Place) (i : f ≡ Some (o, end)) (new : List ℕ) where
+      last_put : (y : Resolved (Option (ℕ × Place))) → Turned s w (locals_in s w l) (p.depth - 1) p.rec (record_of (operator_of op (form_of op) s p.at)) old o y w new
+          → OperatorTurned s w l p op held old (last_turn end y) new
+      unfolding OperatorTurned
+      last_put y t = rw (d, i) (record { turn = y; turned = t; is = refl })
 
-  pub last_cut : held ≡ T.Done → OperatorTurned s w l p op held old T.Done old
-  unfolding OperatorTurned
-  last_cut d = rw d refl
+      pub last_on : (g : Option (ℕ × Place)) (b : ℕ) (q : Place) → Turned s w (locals_in s w l) (p.depth - 1) p.rec (record_of (operator_of op (form_of op) s p.at)) old o (Ok g) w new
+          → g ≡ Some (b, q) → OperatorTurned s w l p op held old (Ok (Some (b, (record { at = end.at; rec = end.rec; depth = end.depth })))) new
+      last_on g b q t e = last_put (Ok (Some (b, q))) (rw e at t)
 
-  pub last_stops : (q : Refusal) → held ≡ T.Refused q → OperatorTurned s w l p op held old (T.Refused q) old
+      pub last_done : (g : Option (ℕ × Place)) → Turned s w (locals_in s w l) (p.depth - 1) p.rec (record_of (operator_of op (form_of op) s p.at)) old o (Ok g) w new
+          → g ≡ None → OperatorTurned s w l p op held old (Ok None) new
+      last_done g t e = last_put (Ok None) (rw e at t)
+
+      pub last_refused : (q : Refusal) → Turned s w (locals_in s w l) (p.depth - 1) p.rec (record_of (operator_of op (form_of op) s p.at)) old o (Err q) w new → OperatorTurned s w l p op held old (Err q) new
+      last_refused q t = last_put (Err q) t
+
+    pub last_cut : f ≡ None → OperatorTurned s w l p op held old (Ok None) old
+    unfolding OperatorTurned
+    last_cut i = rw (d, i) refl
+
+  pub last_stops : (q : Refusal) → held ≡ Err q → OperatorTurned s w l p op held old (Err q) old
   unfolding OperatorTurned
   last_stops q d = rw d refl
-
-module _ (end : Place) (y : Turn) where
-  pub last_on : (o : ℕ) (p : Place) → y ≡ T.On o p → T.On o (record { at = end.at; rec = end.rec; depth = end.depth }) ≡ last_turn end y
-  last_on o p d = rw d
-
-  pub last_done : y ≡ T.Done → T.Done ≡ last_turn end y
-  last_done d = rw d
-
-  pub last_refused : (q : Refusal) → y ≡ T.Refused q → T.Refused q ≡ last_turn end y
-  last_refused q d = rw d
-
-pub ruleset lasts = (last_put, last_cut, last_stops, last_on, last_done, last_refused)
 
 -- ## `emit_operands`
 
@@ -308,7 +310,7 @@ module _ {s w : List ℕ} {l : Locals} {depth left n r here : ℕ} {old : List �
   Rest = operands_by (tree_at left s) (due - 1) Tree.rec Tree.at
 
   -- all of them are done
-  pub operating_done : due ≤ 0 → StretchTurned s w l depth (operands_by (tree_at left s) n r here) old at (T.On o p) out
+  pub operating_done : due ≤ 0 → StretchTurned s w l depth (operands_by (tree_at left s) n r here) old at (Ok (Some (o, p))) out
   unfolding StretchTurned
   operating_done h =
       let e : operands_by (tree_at left s) due p.rec p.at ≡ nothing p.rec p.at = operands-none (tree_at left s) due p.rec p.at h in
@@ -335,19 +337,23 @@ module _ {s w : List ℕ} {l : Locals} {depth left n r here : ℕ} {old : List �
     unfolding stretch_answer
     answer-more = rw more (body-append (scope_in s w) (locals_in s w l) (labels_in s w (depth - 1)) Tree.body Rest.body (tree_level left s p.rec p.at))
 
-    module _ (y : Turn) (new : List ℕ) (t : StretchTurned s w l p.depth (tree_at left s p.rec p.at) out o y new) where
-      pub operating_cut : y ≡ T.Done → StretchTurned s w l depth (operands_by (tree_at left s) n r here) old at T.Done new
+    module _ (y : Resolved (Option (ℕ × Place))) (new : List ℕ) (t : StretchTurned s w l p.depth (tree_at left s p.rec p.at) out o y new) where
+      pub operating_cut : y ≡ Ok None → StretchTurned s w l depth (operands_by (tree_at left s) n r here) old at (Ok None) new
       unfolding StretchTurned
       operating_cut e = let c : Tree.whole ≡ false = rw e at t in absurd (never_cut operating_resolvable c)
 
-      pub operating_stops : (q : Refusal) → y ≡ T.Refused q → StretchTurned s w l depth (operands_by (tree_at left s) n r here) old at (T.Refused q) new
+      operating_refused : (q : Refusal) → y ≡ Err q → StretchTurned s w l depth (operands_by (tree_at left s) n r here) old at (Err q) new
       unfolding StretchTurned Emits
-      operating_stops q e =
+      operating_refused q e =
           let f : stretch_answer s w l p.depth Tree ≡ refused_by q = rw e at t in
           let g : stretch_answer s w l depth Tree ≡ refused_by q = rw v.level at f in
           v.same ∙ bind_not _ q _ (answer-more ∙ bind_not (stretch_answer s w l depth Tree) q _ g)
 
-      pub operating_again : (b : ℕ) (q : Place) (left-due : ℕ) → y ≡ T.On b q → left-due ≡ due - 1 → Operating s w l depth left n r here old at new b q left-due
+      -- a refusal is handed on
+      pub operating_stops : (z : Resolved (Option (ℕ × Place))) (q : Refusal) → y ≡ Err q → IsErr z → IsErrAnd z (λ e. e ≡ q) → StretchTurned s w l depth (operands_by (tree_at left s) n r here) old at z new
+      operating_stops z q e i g = rw (handed z q i g) (operating_refused q e)
+
+      pub operating_again : (b : ℕ) (q : Place) (left-due : ℕ) → y ≡ Ok (Some (b, q)) → left-due ≡ due - 1 → Operating s w l depth left n r here old at new b q left-due
       unfolding StretchTurned Emits
       operating_again b q k e d =
           let x : Unfolded s w l p.depth Tree out o b q new = rw e at t in
@@ -373,12 +379,12 @@ module _ {s w : List ℕ} {l : Locals} {depth left n r here : ℕ} {old : List �
             room = put-length z.put ∙ v.room;
           }
 
-pub ruleset operatings = (operating_again, operating_cut, operating_stops, operating_done)
+pub ruleset operatings = (operating_again, operating_done)
 
 -- ## `operands_or_none`
 
 -- none, and so nothing is written
 pub operands-absent : (s w : List ℕ) (l : Locals) (left n : ℕ) (old : List ℕ) (at : ℕ) (p : Place) → length old * 1 < 2 ^ 63 → Within p
     → Resolvable s w (operands_by (tree_at left s) n p.rec p.at) → n ≡ 0
-    → StretchTurned s w l p.depth (operands_by (tree_at left s) n p.rec p.at) old at (T.On at (record { at = p.at; rec = p.rec; depth = p.depth })) old
+    → StretchTurned s w l p.depth (operands_by (tree_at left s) n p.rec p.at) old at (Ok (Some (at, (record { at = p.at; rec = p.rec; depth = p.depth })))) old
 operands-absent s w l left n old at p h v r e = operating_done (operating_begin s w l left n old at p h v r) (omega arith)

@@ -1,12 +1,12 @@
 -- Stretches of a body and all of it, resolved and written.
-use Rattle.std.specs.Prelude.{ℕ, ◌-◌, ◌≤◌, ◌<◌, ◌≡◌, true, false, List, [], ◌++◌}
+use Rattle.std.specs.Prelude.{ℕ, Option, Ok, Err, Some, None, ◌-◌, ◌≤◌, ◌<◌, ◌≡◌, true, false, List, [], ◌++◌}
+use Rattle.syntax.specs.Refusals.{Resolved, refused_by}
 use Rattle.definition.specs.Basic.{Answer, ok, ◌>>=◌, concat_map}
 use Rattle.definition.specs.Syntax.{Op}
 use Rattle.definition.specs.Instructions.{form_of, operator_of}
 use Rattle.definition.specs.Types.{body_uses}
 use Rattle.definition.specs.Names.{body}
 use Rattle.definition.specs.Binary.{instruction}
-use Rattle.syntax.specs.Refusals.{refused_by}
 use Rattle.syntax.specs.declared.Place.{Place}
 use Rattle.syntax.specs.declared.Refusal.{Refusal}
 use Rattle.emit.specs.Put.{Put}
@@ -17,11 +17,7 @@ use Rattle.instr.specs.Bodies.{Stretch, body_from}
 use Rattle.scope.specs.Scope.{scope_in, locals_in, labels_in}
 use Rattle.scope.specs.declared.Locals.{Locals}
 use Rattle.binary.specs.Emits.{Emits}
-use Rattle.binary.specs.declared.Emitted.{Emitted}
-use Rattle.binary.specs.declared.Emitted.TheVariants as E
 use Rattle.plain.specs.Turns.{record_of, Turned}
-use Rattle.plain.specs.declared.turn.Turn.{Turn}
-use Rattle.plain.specs.declared.turn.Turn.TheVariants as T
 
 -- a stretch that may be resolved: its type uses have their numbers, and all of it can be read
 pub record Resolvable (s w : List ℕ) (t : Stretch) : Type 0 where
@@ -42,32 +38,32 @@ stretch_answer s w l depth t = body (scope_in s w) (locals_in s w l) (labels_in 
 
 -- it was written, and the place moved on after it
 pub record Unfolded (s w : List ℕ) (l : Locals) (depth : ℕ) (t : Stretch) (old : List ℕ) (at o : ℕ) (p : Place) (new : List ℕ) : Type 0 where
-  pub emits : Emits (concat_map instruction) (stretch_answer s w l depth t) old at (E.To o) new
+  pub emits : Emits (concat_map instruction) (stretch_answer s w l depth t) old at (Ok o) new
   pub ends : p.at ≡ t.at
   pub next : p.rec ≡ t.rec
   pub level : p.depth ≡ depth
 
-unfoldable pub StretchTurned : List ℕ → List ℕ → Locals → ℕ → Stretch → List ℕ → ℕ → Turn → List ℕ → Type 0
-StretchTurned s w l depth t old at (T.On o p) new = Unfolded s w l depth t old at o p new
-StretchTurned s w l depth t old at T.Done new = t.whole ≡ false
-StretchTurned s w l depth t old at (T.Refused q) new = Emits (concat_map instruction) (stretch_answer s w l depth t) old at (E.Refused q) new
+unfoldable pub StretchTurned : List ℕ → List ℕ → Locals → ℕ → Stretch → List ℕ → ℕ → Resolved (Option (ℕ × Place)) → List ℕ → Type 0
+StretchTurned s w l depth t old at (Ok (Some (o, p))) new = Unfolded s w l depth t old at o p new
+StretchTurned s w l depth t old at (Ok None) new = t.whole ≡ false
+StretchTurned s w l depth t old at (Err q) new = Emits (concat_map instruction) (stretch_answer s w l depth t) old at (Err q) new
 
 -- an operator after operands, of which a turn came: where they were written, it comes after them, and the place stays the one after them; it is known
 -- by its opcode, and what stands after that is at the place `p`
-abbrev pub last_turn : Place → Turn → Turn
-last_turn end (T.On o p) = T.On o end
-last_turn end T.Done = T.Done
-last_turn end (T.Refused q) = T.Refused q
+abbrev pub last_turn : Place → Resolved (Option (ℕ × Place)) → (Resolved (Option (ℕ × Place)))
+last_turn end (Ok (Some (o, p))) = Ok (Some (o, end))
+last_turn end (Ok None) = Ok None
+last_turn end (Err q) = Err q
 
-pub record Last (s w : List ℕ) (l : Locals) (p : Place) (op o : ℕ) (end : Place) (old : List ℕ) (r : Turn) (new : List ℕ) : Type 0 where
-  pub turn : Turn
+pub record Last (s w : List ℕ) (l : Locals) (p : Place) (op o : ℕ) (end : Place) (old : List ℕ) (r : Resolved (Option (ℕ × Place))) (new : List ℕ) : Type 0 where
+  pub turn : Resolved (Option (ℕ × Place))
   pub turned : Turned s w (locals_in s w l) (p.depth - 1) p.rec (record_of (operator_of op (form_of op) s p.at)) old o turn w new
   pub is : r ≡ last_turn end turn
 
-unfoldable pub OperatorTurned : List ℕ → List ℕ → Locals → Place → ℕ → Turn → List ℕ → Turn → List ℕ → Type 0
-OperatorTurned s w l p op (T.On o end) old r new = Last s w l p op o end old r new
-OperatorTurned s w l p op T.Done old r new = r ≡ T.Done
-OperatorTurned s w l p op (T.Refused q) old r new = r ≡ T.Refused q
+unfoldable pub OperatorTurned : List ℕ → List ℕ → Locals → Place → ℕ → Resolved (Option (ℕ × Place)) → List ℕ → Resolved (Option (ℕ × Place)) → List ℕ → Type 0
+OperatorTurned s w l p op (Ok (Some (o, end))) old r new = Last s w l p op o end old r new
+OperatorTurned s w l p op (Ok None) old r new = r ≡ Ok None
+OperatorTurned s w l p op (Err q) old r new = r ≡ Err q
 
 -- ## One turn of a body
 
@@ -95,14 +91,14 @@ pub record Halts (s w : List ℕ) (l : Locals) (p : Place) (q : Refusal) (w' : L
   pub says : body_answer s w l w p ≡ refused_by q
   pub area : w' ≡ w
 
-unfoldable pub BodyTurned : List ℕ → List ℕ → Locals → Place → List ℕ → ℕ → Turn → List ℕ → List ℕ → Type 0
-BodyTurned s w l p old at (T.On o q) w' new = Advanced s w l p old at o q w' new
-BodyTurned s w l p old at T.Done w' new = Over s w l p old w' new
-BodyTurned s w l p old at (T.Refused q) w' new = Halts s w l p q w'
+unfoldable pub BodyTurned : List ℕ → List ℕ → Locals → Place → List ℕ → ℕ → Resolved (Option (ℕ × Place)) → List ℕ → List ℕ → Type 0
+BodyTurned s w l p old at (Ok (Some (o, q))) w' new = Advanced s w l p old at o q w' new
+BodyTurned s w l p old at (Ok None) w' new = Over s w l p old w' new
+BodyTurned s w l p old at (Err q) w' new = Halts s w l p q w'
 
 -- ## All of it
 
 -- the body is what the definition makes of it, and only labels were written into the work area
-pub record EmitsBody (s w : List ℕ) (l : Locals) (rec here : ℕ) (old : List ℕ) (at : ℕ) (r : Emitted) (w' new : List ℕ) : Type 0 where
+pub record EmitsBody (s w : List ℕ) (l : Locals) (rec here : ℕ) (old : List ℕ) (at : ℕ) (r : Resolved ℕ) (w' new : List ℕ) : Type 0 where
   pub emits : Emits (concat_map instruction) (body (scope_in s w) (locals_in s w l) [] (body_from 0 rec s here).body) old at r new
   pub kept : Kept LABELS w w'

@@ -6,18 +6,23 @@ ghost use Rattle.scope.specs.Scope.{FewLocals};
 ghost use Rattle.plain.specs.Turns.{InBody};
 ghost use Rattle.code.specs.Body.{Resolvable, BodyTurned, EmitsBody};
 
-use binary::Emitted;
-use plain::Turn;
 use scope::Locals;
-use syntax::{ByteAt, Form, Place};
+use syntax::{Form, Place, Resolved};
 
 // One record of a body, and all of a folded one. Neither F0 nor the body's end, FF, is an opcode.
-fn one_record(s: &[u8], work: &mut [u32], out: &mut [u8], at: usize, p: Place, l: Locals) -> Turn
+fn one_record(
+    s: &[u8],
+    work: &mut [u32],
+    out: &mut [u8],
+    at: usize,
+    p: Place,
+    l: Locals,
+) -> Resolved<Option<(usize, Place)>>
     requires { Lent s.now work.old × FewLocals l × InBody p × Resolvable s.now work.old (body_from (p.depth - 1) p.rec s.now p.at) }
     ensures { BodyTurned s.now work.old l p out.old at result work.new out.new }
 {
     match token::read_byte(s, p.at) {
-        ByteAt::Got(b, a) => {
+        Ok((b, a)) => {
             let q = Place {
                 at: a,
                 rec: p.rec,
@@ -28,29 +33,15 @@ fn one_record(s: &[u8], work: &mut [u32], out: &mut [u8], at: usize, p: Place, l
                 return crate::fold::emit_operands(s, work, out, at, p, l, 32, 1);
             }
             match instr::opcode_form(b) {
-                Form::NoOpcode => {
-                    return Turn::Done;
-                }
-                Form::Opening => {
-                    return crate::block::opens_record(s, work, out, at, q, b);
-                }
-                Form::Elsing => {
-                    return crate::block::closing_record(s, work, out, at, q, 0x05, 0);
-                }
-                Form::Ending => {
-                    return crate::block::closing_record(s, work, out, at, q, 0x0B, 1);
-                }
-                Form::Calling => {
-                    return crate::block::indirect_record(s, work, out, at, q);
-                }
-                Form::Operands(what) => {
-                    return plain::plain_record(s, work, out, at, q, l, b, what);
-                }
+                Form::NoOpcode => Ok(None),
+                Form::Opening => crate::block::opens_record(s, work, out, at, q, b),
+                Form::Elsing => crate::block::closing_record(s, work, out, at, q, 0x05, 0),
+                Form::Ending => crate::block::closing_record(s, work, out, at, q, 0x0B, 1),
+                Form::Calling => crate::block::indirect_record(s, work, out, at, q),
+                Form::Operands(what) => plain::plain_record(s, work, out, at, q, l, b, what),
             }
         }
-        ByteAt::Fault(_) => {
-            return Turn::Done;
-        }
+        Err(_) => Ok(None),
     }
 }
 
@@ -63,7 +54,7 @@ pub fn emit_body(
     here: usize,
     rec: u32,
     l: Locals,
-) -> Emitted
+) -> Resolved<usize>
     requires { Lent s.now work.old × FewLocals l × (rec ≤ 4096) × Resolvable s.now work.old (body_from 0 rec s.now here) }
     ensures { EmitsBody s.now work.old l rec here out.old at result work.new out.new }
 {
@@ -74,18 +65,15 @@ pub fn emit_body(
         depth: 1,
     };
     while p.rec < 4096 {
-        match one_record(s, work, out, o, p, l) {
-            Turn::On(a, next) => {
+        match one_record(s, work, out, o, p, l)? {
+            Some((a, next)) => {
                 o = a;
                 p = next;
             }
-            Turn::Done => {
-                return Emitted::To(o);
-            }
-            Turn::Refused(q) => {
-                return Emitted::Refused(q);
+            None => {
+                return Ok(o);
             }
         }
     }
-    Emitted::To(o)
+    Ok(o)
 }

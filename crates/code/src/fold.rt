@@ -10,9 +10,8 @@ ghost use Rattle.scope.specs.Scope.{locals_in, FewLocals};
 ghost use Rattle.plain.specs.Turns.{InBody, record_of, read_uses, Turned};
 ghost use Rattle.code.specs.Body.{Within, Resolvable, StretchTurned, OperatorTurned};
 
-use plain::Turn;
 use scope::Locals;
-use syntax::{Folding, Form, Place};
+use syntax::{Form, Place, Resolved};
 
 // The operator of a folded record, by its opcode and form; what stands after its opcode is at `p`. It opens and closes no block.
 fn operator_record(
@@ -24,14 +23,14 @@ fn operator_record(
     l: Locals,
     opcode: u8,
     form: Form,
-) -> Turn
+) -> Resolved<Option<(usize, Place)>>
     requires { (WORDS ≤ length work.now) × FewLocals l × InBody p × (Instructions.form_of opcode ≡ form_is form) × Recalled work.now (types_in s.now work.now) (read_uses p.rec (Instructions.operator_of opcode (Instructions.form_of opcode) s.now p.at)) × Gets (Instructions.operator_of opcode (Instructions.form_of opcode) s.now p.at) }
     ensures { Turned s.now work.now (locals_in s.now work.now l) (p.depth - 1) p.rec (record_of (Instructions.operator_of opcode (Instructions.form_of opcode) s.now p.at)) out.old at result work.now out.new }
 {
     match form {
         Form::Calling => crate::block::indirect_record(s, work, out, at, p),
         Form::Operands(what) => plain::plain_record(s, work, out, at, p, l, opcode, what),
-        _ => Turn::Done,
+        _ => Ok(None),
     }
 }
 
@@ -40,31 +39,31 @@ fn operator_last(
     s: &[u8],
     work: &[u32],
     out: &mut [u8],
-    held: Turn,
+    held: Resolved<Option<(usize, Place)>>,
     p: Place,
     l: Locals,
     opcode: u8,
     form: Form,
-) -> Turn
+) -> Resolved<Option<(usize, Place)>>
     requires { (WORDS ≤ length work.now) × FewLocals l × InBody p × (Instructions.form_of opcode ≡ form_is form) × Recalled work.now (types_in s.now work.now) (read_uses p.rec (Instructions.operator_of opcode (Instructions.form_of opcode) s.now p.at)) × Gets (Instructions.operator_of opcode (Instructions.form_of opcode) s.now p.at) }
     ensures { OperatorTurned s.now work.now l p opcode held out.old result out.new }
 {
     match held {
-        Turn::On(at, end) => match operator_record(s, work, out, at, p, l, opcode, form) {
+        Ok(Some((at, end))) => match operator_record(s, work, out, at, p, l, opcode, form) {
             // by its fields: a copy of the whole waits for all three to be stored
-            Turn::On(o, _) => Turn::On(
+            Ok(Some((o, _))) => Ok(Some((
                 o,
                 Place {
                     at: end.at,
                     rec: end.rec,
                     depth: end.depth,
                 },
-            ),
-            Turn::Done => Turn::Done,
-            Turn::Refused(r) => Turn::Refused(r),
+            ))),
+            Ok(None) => Ok(None),
+            Err(r) => Err(r),
         },
-        Turn::Done => Turn::Done,
-        Turn::Refused(r) => Turn::Refused(r),
+        Ok(None) => Ok(None),
+        Err(r) => Err(r),
     }
 }
 
@@ -79,20 +78,20 @@ fn operands_or_none(
     l: Locals,
     left: u32,
     n: u32,
-) -> Turn
+) -> Resolved<Option<(usize, Place)>>
     requires { (WORDS ≤ length work.now) × FewLocals l × Within p × Resolvable s.now work.now (operands_by (tree_at left s.now) n p.rec p.at) }
     ensures { StretchTurned s.now work.now l p.depth (operands_by (tree_at left s.now) n p.rec p.at) out.old at result out.new }
 {
     if n == 0 {
         // by its fields, as above
-        return Turn::On(
+        return Ok(Some((
             at,
             Place {
                 at: p.at,
                 rec: p.rec,
                 depth: p.depth,
             },
-        );
+        )));
     }
     emit_operands(s, work, out, at, p, l, left, n)
 }
@@ -107,32 +106,32 @@ fn emit_folded(
     p: Place,
     l: Locals,
     left: u32,
-) -> Turn
+) -> Resolved<Option<(usize, Place)>>
     requires { (WORDS ≤ length work.now) × FewLocals l × Within p × Resolvable s.now work.now (tree_at left s.now p.rec p.at) }
     ensures { StretchTurned s.now work.now l p.depth (tree_at left s.now p.rec p.at) out.old at result out.new }
 {
     if left < 1 {
-        return Turn::Done;
+        return Ok(None);
     }
     if 4096 <= p.rec {
-        return Turn::Done;
+        return Ok(None);
     }
     match instr::skip_folded(s, p.at) {
-        Folding::Parts(b, form, a, n, next) => {
+        Some(f) => {
             let first = Place {
-                at: next,
+                at: f.next,
                 rec: p.rec + 1,
                 depth: p.depth,
             };
-            let held = operands_or_none(s, work, out, at, first, l, left - 1, n);
+            let held = operands_or_none(s, work, out, at, first, l, left - 1, f.count);
             let q = Place {
-                at: a,
+                at: f.at,
                 rec: p.rec,
                 depth: p.depth,
             };
-            operator_last(s, work, out, held, q, l, b, form)
+            operator_last(s, work, out, held, q, l, f.opcode, f.form)
         }
-        Folding::Unread => Turn::Done,
+        None => Ok(None),
     }
 }
 
@@ -148,7 +147,7 @@ pub fn emit_operands(
     l: Locals,
     left: u32,
     n: u32,
-) -> Turn
+) -> Resolved<Option<(usize, Place)>>
     requires { (WORDS ≤ length work.now) × FewLocals l × Within p × Resolvable s.now work.now (operands_by (tree_at left s.now) n p.rec p.at) }
     ensures { StretchTurned s.now work.now l p.depth (operands_by (tree_at left s.now) n p.rec p.at) out.old at result out.new }
 {
@@ -156,8 +155,8 @@ pub fn emit_operands(
     let mut q = p;
     let mut due = n;
     while 0 < due {
-        match emit_folded(s, work, out, o, q, l, left) {
-            Turn::On(b, end) => {
+        match emit_folded(s, work, out, o, q, l, left)? {
+            Some((b, end)) => {
                 o = b;
                 // by its fields: a copy of the whole waits for all three to be stored
                 q = Place {
@@ -166,14 +165,11 @@ pub fn emit_operands(
                     depth: end.depth,
                 };
             }
-            Turn::Done => {
-                return Turn::Done;
-            }
-            Turn::Refused(r) => {
-                return Turn::Refused(r);
+            None => {
+                return Ok(None);
             }
         }
         due -= 1;
     }
-    Turn::On(o, q)
+    Ok(Some((o, q)))
 }

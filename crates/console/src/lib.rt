@@ -1,11 +1,10 @@
-// What the programs share: what they lend, text and numbers to what prints, and a list of streams from what reads.
+// What the programs share: what they lend, the line of a refusal, and a list of streams from what reads.
 #![tactic(auto)]
 
 ghost use Rattle.std.specs.Prelude.{◌≡◌, ◌≤◌, length, IfOk};
 
 use std::io;
 use std::io::Read;
-use syntax::U32;
 
 // The least work area.
 pub fn work_area() -> [u32; 16384]
@@ -26,14 +25,6 @@ pub fn list_buffer() -> [u8; 131072]
     ensures { 131072 ≡ length result }
 {
     [0; 131072]
-}
-
-pub fn text(to: &impl Print, s: &[u8]) -> io::Result<()> {
-    to.write_all(s)
-}
-
-pub fn number(to: &impl Print, n: u32) -> io::Result<()> {
-    print!(to; "{n}")
 }
 
 // The line of a refusal; of a duplicate it also tells where the name was first used.
@@ -73,8 +64,8 @@ fn length_of(groups: &[u8; 5], n: usize) -> Length {
         return Length::End;
     }
     match leb::read_u32(groups, 0) {
-        U32::Got(len, _) => Length::Is(len),
-        U32::Fault(_) => Length::Cut,
+        Ok((len, _)) => Length::Is(len),
+        Err(_) => Length::Cut,
     }
 }
 

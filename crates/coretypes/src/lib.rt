@@ -7,12 +7,10 @@ ghost use Rattle.syntax.specs.Numbers.{u64_at};
 ghost use Rattle.syntax.specs.Tokens.{byte_at};
 ghost use Rattle.syntax.specs.CoreTypes.{bool_at, maximum_at, limits_at, table_type_at, global_type_at};
 
-use syntax::{
-    BoolAt, ByteAt, GlobalType, GlobalTypeAt, Limits, LimitsAt, Maximum, MaximumAt, TableType,
-    TableTypeAt, U32, U64,
-};
+use syntax::{Fault, GlobalType, Limits, Read, TableType};
 
 // 70 funcref or 6F externref.
+#[tactic(auto, using(laws::proofs::Exits::ors), unfolding(definition::specs::Token::is_ref))]
 fn is_ref(b: u8) -> bool
     ensures { result ≡ Token.is_ref b }
 {
@@ -23,6 +21,7 @@ fn is_ref(b: u8) -> bool
 }
 
 // A reference type, or 7F i32, 7E i64, 7D f32, 7C f64.
+#[tactic(auto, using(laws::proofs::Exits::ors), unfolding(definition::specs::Token::is_val))]
 fn is_val(b: u8) -> bool
     ensures { result ≡ Token.is_val b }
 {
@@ -35,68 +34,56 @@ fn is_val(b: u8) -> bool
     true
 }
 
-pub fn val_type(s: &[u8], at: usize) -> ByteAt
+#[tactic(auto, using(syntax::proofs::Ways::reads, laws::proofs::Ways::ways), unfolding(definition::specs::Token::val_type))]
+pub fn val_type(s: &[u8], at: usize) -> Read<u8>
     ensures { Token.val_type s.now at ≡ byte_at result }
 {
-    match token::read_byte(s, at) {
-        ByteAt::Got(b, next) => {
-            if is_val(b) {
-                ByteAt::Got(b, next)
-            } else {
-                ByteAt::Fault(4)
-            }
-        }
-        ByteAt::Fault(e) => ByteAt::Fault(e),
+    let (b, next) = token::read_byte(s, at)?;
+    if is_val(b) {
+        Ok((b, next))
+    } else {
+        Err(Fault::UnknownByte)
     }
 }
 
-pub fn ref_type(s: &[u8], at: usize) -> ByteAt
+#[tactic(auto, using(syntax::proofs::Ways::reads, laws::proofs::Ways::ways), unfolding(definition::specs::Token::ref_type))]
+pub fn ref_type(s: &[u8], at: usize) -> Read<u8>
     ensures { Token.ref_type s.now at ≡ byte_at result }
 {
-    match token::read_byte(s, at) {
-        ByteAt::Got(b, next) => {
-            if is_ref(b) {
-                ByteAt::Got(b, next)
-            } else {
-                ByteAt::Fault(4)
-            }
-        }
-        ByteAt::Fault(e) => ByteAt::Fault(e),
+    let (b, next) = token::read_byte(s, at)?;
+    if is_ref(b) {
+        Ok((b, next))
+    } else {
+        Err(Fault::UnknownByte)
     }
 }
 
 // The byte 0 or 1.
-fn flag(s: &[u8], at: usize) -> ByteAt
+#[tactic(auto, using(syntax::proofs::Ways::reads, laws::proofs::Ways::ways), unfolding(definition::specs::Token::flag))]
+fn flag(s: &[u8], at: usize) -> Read<u8>
     ensures { Token.flag s.now at ≡ byte_at result }
 {
-    match token::read_byte(s, at) {
-        ByteAt::Got(b, next) => {
-            if b <= 1 {
-                ByteAt::Got(b, next)
-            } else {
-                ByteAt::Fault(4)
-            }
-        }
-        ByteAt::Fault(e) => ByteAt::Fault(e),
+    let (b, next) = token::read_byte(s, at)?;
+    if b <= 1 {
+        Ok((b, next))
+    } else {
+        Err(Fault::UnknownByte)
     }
 }
 
 // The byte 0, or 4 for 64-bit.
-pub fn flag64(s: &[u8], at: usize) -> BoolAt
+#[tactic(auto, using(syntax::proofs::Ways::reads, laws::proofs::Ways::ways), unfolding(definition::specs::Token::flag64))]
+pub fn flag64(s: &[u8], at: usize) -> Read<bool>
     ensures { Token.flag64 s.now at ≡ bool_at result }
 {
-    match token::read_byte(s, at) {
-        ByteAt::Got(b, next) => {
-            if b == 0 {
-                return BoolAt::Got(false, next);
-            }
-            if b == 4 {
-                return BoolAt::Got(true, next);
-            }
-            BoolAt::Fault(4)
-        }
-        ByteAt::Fault(e) => BoolAt::Fault(e),
+    let (b, next) = token::read_byte(s, at)?;
+    if b == 0 {
+        return Ok((false, next));
     }
+    if b == 4 {
+        return Ok((true, next));
+    }
+    Err(Fault::UnknownByte)
 }
 
 fn wide(n: u32) -> u64
@@ -106,93 +93,79 @@ fn wide(n: u32) -> u64
 }
 
 // A minimum or a maximum.
-fn bound(s: &[u8], at: usize, is64: bool) -> U64
+#[tactic(auto, using(syntax::proofs::Ways::reads, laws::proofs::Ways::ways), unfolding(definition::specs::Token::bound))]
+fn bound(s: &[u8], at: usize, is64: bool) -> Read<u64>
     ensures { Token.bound is64 s.now at ≡ u64_at result }
 {
     if is64 {
         return leb::read_u64(s, at);
     }
-    match leb::read_u32(s, at) {
-        U32::Got(n, next) => U64::Got(wide(n), next),
-        U32::Fault(e) => U64::Fault(e),
-    }
+    let (n, next) = leb::read_u32(s, at)?;
+    Ok((wide(n), next))
 }
 
-fn maximum_at(s: &[u8], at: usize, has: bool, is64: bool) -> MaximumAt
+#[tactic(auto, using(syntax::proofs::Ways::reads, laws::proofs::Ways::ways), unfolding(definition::specs::Token::maximum))]
+fn maximum_at(s: &[u8], at: usize, has: bool, is64: bool) -> Read<Option<u64>>
     ensures { Token.maximum has is64 s.now at ≡ maximum_at result }
 {
     if has {
-        return match bound(s, at, is64) {
-            U64::Got(n, next) => MaximumAt::Got(Maximum::Is(n), next),
-            U64::Fault(e) => MaximumAt::Fault(e),
-        };
+        let (n, next) = bound(s, at, is64)?;
+        return Ok((Some(n), next));
     }
-    MaximumAt::Got(Maximum::Unbounded, at)
+    Ok((None, at))
 }
 
 // Limits, once their first byte is known.
-fn limits_of(s: &[u8], at: usize, has: bool, is64: bool) -> LimitsAt
+#[tactic(auto, using(syntax::proofs::Ways::reads), unfolding(definition::specs::Token::limits_of))]
+fn limits_of(s: &[u8], at: usize, has: bool, is64: bool) -> Read<Limits>
     ensures { Token.limits_of has is64 s.now at ≡ limits_at result }
 {
-    match bound(s, at, is64) {
-        U64::Got(minimum, a) => match maximum_at(s, a, has, is64) {
-            MaximumAt::Got(maximum, b) => LimitsAt::Got(
-                Limits {
-                    is64,
-                    minimum,
-                    maximum,
-                },
-                b,
-            ),
-            MaximumAt::Fault(e) => LimitsAt::Fault(e),
+    let (minimum, a) = bound(s, at, is64)?;
+    let (maximum, b) = maximum_at(s, a, has, is64)?;
+    Ok((
+        Limits {
+            is64,
+            minimum,
+            maximum,
         },
-        U64::Fault(e) => LimitsAt::Fault(e),
-    }
+        b,
+    ))
 }
 
-pub fn read_limits(s: &[u8], at: usize) -> LimitsAt
+#[tactic(auto, using(syntax::proofs::Ways::reads, laws::proofs::Ways::ways), unfolding(definition::specs::Token::limits))]
+pub fn read_limits(s: &[u8], at: usize) -> Read<Limits>
     ensures { Token.limits s.now at ≡ limits_at result }
 {
-    match token::read_byte(s, at) {
-        ByteAt::Got(b, next) => {
-            if b == 0 {
-                return limits_of(s, next, false, false);
-            }
-            if b == 1 {
-                return limits_of(s, next, true, false);
-            }
-            if b == 4 {
-                return limits_of(s, next, false, true);
-            }
-            if b == 5 {
-                return limits_of(s, next, true, true);
-            }
-            LimitsAt::Fault(4)
-        }
-        ByteAt::Fault(e) => LimitsAt::Fault(e),
+    let (b, next) = token::read_byte(s, at)?;
+    if b == 0 {
+        return limits_of(s, next, false, false);
     }
+    if b == 1 {
+        return limits_of(s, next, true, false);
+    }
+    if b == 4 {
+        return limits_of(s, next, false, true);
+    }
+    if b == 5 {
+        return limits_of(s, next, true, true);
+    }
+    Err(Fault::UnknownByte)
 }
 
-pub fn read_table_type(s: &[u8], at: usize) -> TableTypeAt
+#[tactic(auto, using(syntax::proofs::Ways::reads), unfolding(definition::specs::Token::table_type))]
+pub fn read_table_type(s: &[u8], at: usize) -> Read<TableType>
     ensures { Token.table_type s.now at ≡ table_type_at result }
 {
-    match ref_type(s, at) {
-        ByteAt::Got(element, a) => match read_limits(s, a) {
-            LimitsAt::Got(limits, b) => TableTypeAt::Got(TableType { element, limits }, b),
-            LimitsAt::Fault(e) => TableTypeAt::Fault(e),
-        },
-        ByteAt::Fault(e) => TableTypeAt::Fault(e),
-    }
+    let (element, a) = ref_type(s, at)?;
+    let (limits, b) = read_limits(s, a)?;
+    Ok((TableType { element, limits }, b))
 }
 
-pub fn read_global_type(s: &[u8], at: usize) -> GlobalTypeAt
+#[tactic(auto, using(syntax::proofs::Ways::reads), unfolding(definition::specs::Token::global_type))]
+pub fn read_global_type(s: &[u8], at: usize) -> Read<GlobalType>
     ensures { Token.global_type s.now at ≡ global_type_at result }
 {
-    match val_type(s, at) {
-        ByteAt::Got(value, a) => match flag(s, a) {
-            ByteAt::Got(mutable, b) => GlobalTypeAt::Got(GlobalType { value, mutable }, b),
-            ByteAt::Fault(e) => GlobalTypeAt::Fault(e),
-        },
-        ByteAt::Fault(e) => GlobalTypeAt::Fault(e),
-    }
+    let (value, a) = val_type(s, at)?;
+    let (mutable, b) = flag(s, a)?;
+    Ok((GlobalType { value, mutable }, b))
 }

@@ -9,6 +9,7 @@ ghost use Rattle.counting.specs.Counting.{up, one_more, extern_space_of, own_spa
 use syntax::{Extern, Field, Own, Seen, Source, Space};
 
 // One more, 256 at most: whatever passes that is refused before it is counted.
+#[tactic(auto, using(laws::proofs::Exits::exits), unfolding(crate::specs::Counting::up))]
 fn one_up(n: u32) -> u32
     ensures { result ≡ up n }
 {
@@ -18,6 +19,7 @@ fn one_up(n: u32) -> u32
     n
 }
 
+#[tactic(auto, using(sources::proofs::Codes::codes), unfolding(crate::specs::Counting::one_more))]
 pub fn one_more(seen: Seen, k: Space) -> Seen
     ensures { result ≡ one_more seen (space_of k) }
 {
@@ -106,9 +108,7 @@ pub fn put_counts(work: &mut [u32], at: usize, seen: Seen)
     ensures { work.new ≡ sets work.old at seen.counts }
 {
     let counts = seen.counts;
-    let mut i = 0;
-    while i < 7 {
+    for i in 0..7 {
         work[at + i] = counts[i];
-        i += 1;
     }
 }

@@ -1,5 +1,5 @@
 -- What a field puts into the sections, entry by entry.
-use Rattle.std.specs.Prelude.{ℕ, ◌+◌, ◌-◌, ◌≡◌, true, List, [], ◌∷◌, ◌++◌, map, length}
+use Rattle.std.specs.Prelude.{ℕ, Option, Some, None, ◌+◌, ◌-◌, ◌≡◌, true, List, [], ◌∷◌, ◌++◌, map, length}
 use Rattle.std.proofs.Math.Option.{none}
 use Rattle.definition.specs.Basic.{Answer, ok, fails, ◌>>=◌, concat_map}
 use Rattle.definition.specs.Syntax as Syntax
@@ -35,8 +35,6 @@ use Rattle.binary.specs.Code.{code_of}
 use Rattle.counting.specs.Counting.{source_space_of}
 use Rattle.syntax.specs.declared.Entry.{Entry}
 use Rattle.syntax.specs.declared.Entry.TheVariants as E
-use Rattle.deinline.specs.declared.entry.ItemIn.{ItemIn}
-use Rattle.deinline.specs.declared.entry.ItemIn.TheVariants as I
 
 abbrev pub section_no : Entry → ℕ
 section_no E.Nothing = 0
@@ -165,22 +163,22 @@ third_of (S.Imported n x) here = E.Nothing
 third_of (S.TableOf w xs) here = E.InlineTable w xs
 third_of (S.MemOf w d) here = E.InlineMem w d
 
-unfoldable pub item_in : Field → ItemIn
-item_in (F.Type i ps rs) = I.Other
-item_in (F.Import n i x) = I.Other
-item_in (F.Item i es x) = I.Item x
-item_in (F.Export n k x) = I.Other
-item_in (F.Start x) = I.Other
-item_in (F.Elem i m xs) = I.Other
-item_in (F.Data i m d) = I.Other
+unfoldable pub item_in : Field → Option Source
+item_in (F.Type i ps rs) = None
+item_in (F.Import n i x) = None
+item_in (F.Item i es x) = Some x
+item_in (F.Export n k x) = None
+item_in (F.Start x) = None
+item_in (F.Elem i m xs) = None
+item_in (F.Data i m d) = None
 
-abbrev pub second_in : ItemIn → Seen → Entry
-second_in (I.Item x) seen = second_of x seen
-second_in I.Other seen = E.Nothing
+abbrev pub second_in : Option Source → Seen → Entry
+second_in (Some x) seen = second_of x seen
+second_in None seen = E.Nothing
 
-abbrev pub third_in : ItemIn → ℕ → Entry
-third_in (I.Item x) here = third_of x here
-third_in I.Other here = E.Nothing
+abbrev pub third_in : Option Source → ℕ → Entry
+third_in (Some x) here = third_of x here
+third_in None here = E.Nothing
 
 -- in the order in which the definition resolves them
 pub record Three : Type 0 where

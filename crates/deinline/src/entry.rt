@@ -46,6 +46,7 @@ fn exports_of(exports: List, k: Space, seen: Seen) -> Entry
 
 // A field's first entry, and for most the only one; what was seen before the field numbers its items. A type is in the table of types, from
 // which its section is written.
+#[tactic(auto, unfolding(crate::specs::Entry::first_of))]
 pub fn first_of(f: Field, seen: Seen) -> Entry
     ensures { result ≡ first_of f seen }
 {
@@ -68,23 +69,18 @@ pub fn first_of(f: Field, seen: Seen) -> Entry
     }
 }
 
-// An item has entries after its exports; other fields have one entry.
-#[derive(Clone, Copy)]
-pub enum ItemIn {
-    Item(Source),
-    Other,
-}
-
-pub fn item_in(f: Field) -> ItemIn
+#[tactic(auto, unfolding(crate::specs::Entry::item_in))]
+pub fn item_in(f: Field) -> Option<Source>
     ensures { result ≡ item_in f }
 {
     match f {
-        Field::Item { source, .. } => ItemIn::Item(source),
-        _ => ItemIn::Other,
+        Field::Item { source, .. } => Some(source),
+        _ => None,
     }
 }
 
 // An inline table or memory is two entries beside its exports: the segment, and the item with the same number.
+#[tactic(auto, unfolding(crate::specs::Entry::second_of))]
 pub fn second_of(x: Source, seen: Seen) -> Entry
     ensures { result ≡ second_of x seen }
 {
@@ -106,6 +102,7 @@ pub fn second_of(x: Source, seen: Seen) -> Entry
 }
 
 // A function's body begins at `here`.
+#[tactic(auto, unfolding(crate::specs::Entry::third_of))]
 pub fn third_of(x: Source, here: usize) -> Entry
     ensures { result ≡ third_of x here }
 {

@@ -4,4 +4,4 @@
 pub mod entry;
 pub mod section;
 
-pub use entry::{ItemIn, Spot, first_of, item_in, second_of, section_of, third_of};
+pub use entry::{Spot, first_of, item_in, second_of, section_of, third_of};

@@ -1,4 +1,6 @@
 -- The entries, one kind after the other: what its emitter says is what the definition makes of it.
+use Rattle.std.specs.Prelude.{Ok, Err}
+use Rattle.syntax.specs.Refusals.{Resolved}
 use Prim.Native.Nat.{ℕ, ◌*◌, ◌≤◌, ◌<◌, ◌^◌}
 use mathlib.Core.Path.{◌≡◌, refl, sym, ap}
 use mathlib.Core.Bool.{Bool, true, false}
@@ -36,17 +38,13 @@ use Rattle.syntax.specs.Fields as Fields
 use Rattle.syntax.specs.declared.Mode.{Mode}
 use Rattle.type_table.specs.Table.{Recalled}
 use Rattle.binary.specs.Emits.{Emits}
-use Rattle.binary.specs.declared.Emitted.{Emitted}
-use Rattle.binary.specs.declared.Emitted.TheVariants as T
 use Rattle.import_export.specs.Entry.{entry_of, export_entries, Lists}
 use Rattle.operands.specs.Operands.{zero_op}
 use Rattle.import_export.specs.declared.export.Ends.{Ends}
 use Rattle.deinline.specs.Entry.{section_no, one_of, type_bytes, answer_of, uses_of}
-use Rattle.entries.specs.Listed.{Answers, one_end, all_ends, NotCode}
+use Rattle.entries.specs.Listed.{Answers, one_end, NotCode}
 use Rattle.syntax.specs.declared.Entry.{Entry}
 use Rattle.syntax.specs.declared.Entry.TheVariants as E
-use Rattle.entries.specs.declared.EndsAt.{EndsAt}
-use Rattle.entries.specs.declared.EndsAt.TheVariants as A
 
 -- ## Answers
 
@@ -55,49 +53,49 @@ unfolding joined concat_map
 one-joined bs = sym (append-nil bs)
 
 -- an entry that was put
-one-put : (a : Answer (List Bytes)) (bs : Bytes) (old : List ℕ) (at o : ℕ) (new : List ℕ) → a ≡ ok (bs ∷ []) → Put old at bs o new → Answers a old at (A.Ends o 1) new
+one-put : (a : Answer (List Bytes)) (bs : Bytes) (old : List ℕ) (at o : ℕ) (new : List ℕ) → a ≡ ok (bs ∷ []) → Put old at bs o new → Answers a old at (Ok (record { to = o; count = 1 })) new
 unfolding Answers
 one-put a bs old at o new e p = record { entries = bs ∷ []; is = e; put = put_is p (one-joined bs); number = refl }
 
 -- no entry
-no_put : (a : Answer (List Bytes)) (old : List ℕ) (at : ℕ) → a ≡ ok [] → length old * 1 < 2 ^ 63 → Answers a old at (A.Ends at 0) old
+no_put : (a : Answer (List Bytes)) (old : List ℕ) (at : ℕ) → a ≡ ok [] → length old * 1 < 2 ^ 63 → Answers a old at (Ok (record { to = at; count = 0 })) old
 unfolding Answers joined concat_map
 no_put a old at e h = record { entries = []; is = e; put = put-none at (omega arith); number = refl }
 
 -- an entry that was resolved and put, or refused
-one-emits : {A : Type 0} (bytes : A → Bytes) (a : Answer A) (old : List ℕ) (at : ℕ) (q : Emitted) (x : EndsAt) (new : List ℕ) → Emits bytes a old at q new → x ≡ one_end q → Answers (one_of bytes a) old at x new
+one-emits : {A : Type 0} (bytes : A → Bytes) (a : Answer A) (old : List ℕ) (at : ℕ) (q : Resolved ℕ) (x : Resolved Ends) (new : List ℕ) → Emits bytes a old at q new → x ≡ one_end q → Answers (one_of bytes a) old at x new
 unfolding Emits Answers one_of
-one-emits bytes a old at (T.To o) x new w e =
+one-emits bytes a old at (Ok o) x new w e =
     rw e (one-put (one_of bytes a) (bytes w.value) old at o new (ap (one_of bytes) w.is) w.put)
-one-emits bytes a old at (T.Refused r) x new w e = rw e (ap (one_of bytes) w)
+one-emits bytes a old at (Err r) x new w e = rw e (ap (one_of bytes) w)
 
 -- ## Each kind
 
 module _ (Γ : Scope Identifier) (s : Bytes) (r : ℕ) (e : Entry) (old : List ℕ) (at : ℕ) where
-  abbrev Arm : EndsAt → List ℕ → Type 0
+  abbrev Arm : Resolved Ends → List ℕ → Type 0
   Arm x new = Answers (answer_of Γ s r e) old at x new
 
-  pub arm_nothing : e ≡ E.Nothing → length old * 1 < 2 ^ 63 → Arm (A.Ends at 0) old
+  pub arm_nothing : e ≡ E.Nothing → length old * 1 < 2 ^ 63 → Arm (Ok (record { to = at; count = 0 })) old
   unfolding answer_of
   arm_nothing d h = no_put (answer_of Γ s r e) old at (rw d) h
 
-  module _ (o : ℕ) (new : List ℕ) where
-    pub arm_table : (t : TableType) → e ≡ E.Table t → Put old at (table_type (table_type_is t)) o new → Arm (A.Ends o 1) new
+  module _ (o : ℕ) (x : Resolved Ends) (new : List ℕ) where
+    pub arm_table : (t : TableType) → e ≡ E.Table t → Put old at (table_type (table_type_is t)) o new → x ≡ one_end (Ok o) → Arm x new
     unfolding answer_of
-    arm_table t d p = one-put (answer_of Γ s r e) _ old at o new (rw d) p
+    arm_table t d p g = rw g (one-put (answer_of Γ s r e) _ old at o new (rw d) p)
 
     pub arm_inline_table : (w : Bool) (xs : Code.List) → e ≡ E.InlineTable w xs
-        → Put old at (table_type (record { element = 0x70; limits = exactly w (length (list_of Token.present s xs)) })) o new → Arm (A.Ends o 1) new
+        → Put old at (table_type (record { element = 0x70; limits = exactly w (length (list_of Token.present s xs)) })) o new → x ≡ one_end (Ok o) → Arm x new
     unfolding answer_of
-    arm_inline_table w xs d p = one-put (answer_of Γ s r e) _ old at o new (rw d) p
+    arm_inline_table w xs d p g = rw g (one-put (answer_of Γ s r e) _ old at o new (rw d) p)
 
-    pub arm_mem : (l : Limits) → e ≡ E.Mem l → Put old at (limits (limits_is l)) o new → Arm (A.Ends o 1) new
+    pub arm_mem : (l : Limits) → e ≡ E.Mem l → Put old at (limits (limits_is l)) o new → x ≡ one_end (Ok o) → Arm x new
     unfolding answer_of
-    arm_mem l d p = one-put (answer_of Γ s r e) _ old at o new (rw d) p
+    arm_mem l d p g = rw g (one-put (answer_of Γ s r e) _ old at o new (rw d) p)
 
-    pub arm_inline_mem : (w : Bool) (b : Part) → e ≡ E.InlineMem w b → Put old at (limits (exactly w (pages (length (part_of s b))))) o new → Arm (A.Ends o 1) new
+    pub arm_inline_mem : (w : Bool) (b : Part) → e ≡ E.InlineMem w b → Put old at (limits (exactly w (pages (length (part_of s b))))) o new → x ≡ one_end (Ok o) → Arm x new
     unfolding answer_of
-    arm_inline_mem w b d p = one-put (answer_of Γ s r e) _ old at o new (rw d) p
+    arm_inline_mem w b d p g = rw g (one-put (answer_of Γ s r e) _ old at o new (rw d) p)
 
     -- an inline segment's offset needs no name, nor does its item's number
     inline_data : (w : Bool) (n : ℕ) (b : Bytes) → resolve Γ r (data_f none (active (own_index n) (zero_offset w)) b) ≡ ok (Syntax.data_i (active n (zero_op w)) b)
@@ -105,47 +103,46 @@ module _ (Γ : Scope Identifier) (s : Bytes) (r : ℕ) (e : Entry) (old : List �
     inline_data true n b = refl
     inline_data false n b = refl
 
-    pub arm_inline_data : (w : Bool) (n : ℕ) (b : Part) → e ≡ E.InlineData w n b → Put old at (data' (active n (zero_op w)) (part_of s b)) o new → Arm (A.Ends o 1) new
+    pub arm_inline_data : (w : Bool) (n : ℕ) (b : Part) → e ≡ E.InlineData w n b → Put old at (data' (active n (zero_op w)) (part_of s b)) o new → x ≡ one_end (Ok o) → Arm x new
     unfolding answer_of one_of entry_of entries
-    arm_inline_data w n b d p = one-put (answer_of Γ s r e) _ old at o new (rw (d, inline_data w n (part_of s b))) p
+    arm_inline_data w n b d p g = rw g (one-put (answer_of Γ s r e) _ old at o new (rw (d, inline_data w n (part_of s b))) p)
 
-  module _ (x : EndsAt) (new : List ℕ) where
-    pub arm_exports : (es : Code.List) (k : Space) (n : ℕ) (q : Ends) → e ≡ E.Exports es k n → Lists (export_entries (space_of k) n (list_of Token.string s es)) old at q new → x ≡ all_ends q → Arm x new
-    unfolding answer_of Answers
-    arm_exports es k n q d l g = rw (d, g) (record { entries = export_entries (space_of k) n (list_of Token.string s es); is = refl; put = l.put; number = l.number })
+  pub arm_exports : (es : Code.List) (k : Space) (n : ℕ) (q : Ends) (new : List ℕ) → e ≡ E.Exports es k n → Lists (export_entries (space_of k) n (list_of Token.string s es)) old at q new → Arm (Ok q) new
+  unfolding answer_of Answers
+  arm_exports es k n q new d l = rw d (record { entries = export_entries (space_of k) n (list_of Token.string s es); is = refl; put = l.put; number = l.number })
 
-    module _ (q : Emitted) where
-      pub arm_import : (n : ImportName) (i : Extern) → e ≡ E.Import n i → Emits entry_of (resolve Γ r (import_f (name_of s n) none (extern_is s i))) old at q new → x ≡ one_end q → Arm x new
-      unfolding answer_of
-      arm_import n i d w g = rw d (one-emits entry_of _ old at q x new w g)
+  module _ (q : Resolved ℕ) (x : Resolved Ends) (new : List ℕ) where
+    pub arm_import : (n : ImportName) (i : Extern) → e ≡ E.Import n i → Emits entry_of (resolve Γ r (import_f (name_of s n) none (extern_is s i))) old at q new → x ≡ one_end q → Arm x new
+    unfolding answer_of
+    arm_import n i d w g = rw d (one-emits entry_of _ old at q x new w g)
 
-      pub arm_func : (t : TypeUse) → e ≡ E.Func t → Emits type_bytes (type_no Γ r (use_of s t)) old at q new → x ≡ one_end q → Arm x new
-      unfolding answer_of
-      arm_func t d w g = rw d (one-emits type_bytes _ old at q x new w g)
+    pub arm_func : (t : TypeUse) → e ≡ E.Func t → Emits type_bytes (type_no Γ r (use_of s t)) old at q new → x ≡ one_end q → Arm x new
+    unfolding answer_of
+    arm_func t d w g = rw d (one-emits type_bytes _ old at q x new w g)
 
-      pub arm_global : (t : GlobalType) (c : ℕ) → e ≡ E.Global t c → Emits entry_of (resolve Γ r (own_f none (own_global (global_type_is t) (constant_at s c)) [])) old at q new → x ≡ one_end q → Arm x new
-      unfolding answer_of
-      arm_global t c d w g = rw d (one-emits entry_of _ old at q x new w g)
+    pub arm_global : (t : GlobalType) (c : ℕ) → e ≡ E.Global t c → Emits entry_of (resolve Γ r (own_f none (own_global (global_type_is t) (constant_at s c)) [])) old at q new → x ≡ one_end q → Arm x new
+    unfolding answer_of
+    arm_global t c d w g = rw d (one-emits entry_of _ old at q x new w g)
 
-      pub arm_export : (n : Part) (k : Space) (y : Index) → e ≡ E.Export n k y → Emits entry_of (resolve Γ r (export_f (part_of s n) (space_of k) (index_of s y))) old at q new → x ≡ one_end q → Arm x new
-      unfolding answer_of
-      arm_export n k y d w g = rw d (one-emits entry_of _ old at q x new w g)
+    pub arm_export : (n : Part) (k : Space) (y : Index) → e ≡ E.Export n k y → Emits entry_of (resolve Γ r (export_f (part_of s n) (space_of k) (index_of s y))) old at q new → x ≡ one_end q → Arm x new
+    unfolding answer_of
+    arm_export n k y d w g = rw d (one-emits entry_of _ old at q x new w g)
 
-      pub arm_start : (y : Index) → e ≡ E.Start y → Emits entry_of (resolve Γ r (start_f (index_of s y))) old at q new → x ≡ one_end q → Arm x new
-      unfolding answer_of
-      arm_start y d w g = rw d (one-emits entry_of _ old at q x new w g)
+    pub arm_start : (y : Index) → e ≡ E.Start y → Emits entry_of (resolve Γ r (start_f (index_of s y))) old at q new → x ≡ one_end q → Arm x new
+    unfolding answer_of
+    arm_start y d w g = rw d (one-emits entry_of _ old at q x new w g)
 
-      pub arm_elem : (m : Mode) (xs : Code.List) → e ≡ E.Elem m xs → Emits entry_of (resolve Γ r (elem_f none (Fields.mode_of s m) (list_of Token.present s xs))) old at q new → x ≡ one_end q → Arm x new
-      unfolding answer_of
-      arm_elem m xs d w g = rw d (one-emits entry_of _ old at q x new w g)
+    pub arm_elem : (m : Mode) (xs : Code.List) → e ≡ E.Elem m xs → Emits entry_of (resolve Γ r (elem_f none (Fields.mode_of s m) (list_of Token.present s xs))) old at q new → x ≡ one_end q → Arm x new
+    unfolding answer_of
+    arm_elem m xs d w g = rw d (one-emits entry_of _ old at q x new w g)
 
-      pub arm_inline_elem : (b : Bool) (n : ℕ) (xs : Code.List) → e ≡ E.InlineElem b n xs → Emits entry_of (resolve Γ r (elem_f none (active (own_index n) (zero_offset b)) (list_of Token.present s xs))) old at q new → x ≡ one_end q → Arm x new
-      unfolding answer_of
-      arm_inline_elem b n xs d w g = rw d (one-emits entry_of _ old at q x new w g)
+    pub arm_inline_elem : (b : Bool) (n : ℕ) (xs : Code.List) → e ≡ E.InlineElem b n xs → Emits entry_of (resolve Γ r (elem_f none (active (own_index n) (zero_offset b)) (list_of Token.present s xs))) old at q new → x ≡ one_end q → Arm x new
+    unfolding answer_of
+    arm_inline_elem b n xs d w g = rw d (one-emits entry_of _ old at q x new w g)
 
-      pub arm_data : (m : Mode) (b : Part) → e ≡ E.Data m b → Emits entry_of (resolve Γ r (data_f none (Fields.mode_of s m) (part_of s b))) old at q new → x ≡ one_end q → Arm x new
-      unfolding answer_of
-      arm_data m b d w g = rw d (one-emits entry_of _ old at q x new w g)
+    pub arm_data : (m : Mode) (b : Part) → e ≡ E.Data m b → Emits entry_of (resolve Γ r (data_f none (Fields.mode_of s m) (part_of s b))) old at q new → x ≡ one_end q → Arm x new
+    unfolding answer_of
+    arm_data m b d w g = rw d (one-emits entry_of _ old at q x new w g)
 
 -- ## Which are left
 
@@ -212,7 +209,7 @@ pub arm_left : (Γ : Scope Identifier) (s : Bytes) (r : ℕ) (e : Entry) (old : 
     → ((w : Bool) (n : ℕ) (xs : Code.List) → e ≡ E.InlineElem w n xs → ⊥)
     → ((m : Mode) (d : Part) → e ≡ E.Data m d → ⊥)
     → ((w : Bool) (n : ℕ) (d : Part) → e ≡ E.InlineData w n d → ⊥)
-    → Answers (answer_of Γ s r e) old at (A.Ends at 0) new
+    → Answers (answer_of Γ s r e) old at (Ok (record { to = at; count = 0 })) new
 arm_left Γ s r e old at new q l a b d f g i j = absurd (none_left e q l a b d f g i j)
 
 -- ## Their uses

@@ -1,7 +1,13 @@
 -- What stands after FC: the indices after the second byte, for all second bytes at once.
-use mathlib.Core.Path.{◌≡◌, refl, ◌∙◌}
+use Rattle.std.specs.Prelude.{Ok, Err, IsErrAnd}
+use Rattle.std.specs.Result.{IsErr}
+use Rattle.syntax.specs.Reads.{Pass}
+use Rattle.syntax.specs.Refusals.{number}
+use Rattle.syntax.specs.declared.Fault.{Fault}
+use Rattle.syntax.proofs.Ways.{skip_handed}
+use mathlib.Core.Path.{◌≡◌, refl, ap, ◌∙◌}
 use mathlib.Core.List.{List, [], ◌∷◌}
-use mathlib.Core.Option.{some}
+use mathlib.Core.Option.{none, some}
 use Prim.Native.Nat.{ℕ}
 use native.Mathlib.Omega.{arith}
 use Rattle.definition.specs.Syntax as Syntax
@@ -10,18 +16,12 @@ use Rattle.definition.specs.Reader.{Step, got, fault, onward, byte}
 use Rattle.definition.specs.Token.{present, optional}
 use Rattle.definition.specs.Instructions.{spaces_of, index_in, indices, bulk_of, plain_of, bulk}
 use Rattle.laws.specs.Steps.{stops}
-use Rattle.syntax.specs.Tokens.{byte_at, space_of, skip}
-use Rattle.syntax.specs.declared.ByteAt.{ByteAt}
-use Rattle.syntax.specs.declared.ByteAt.TheVariants as B
-use Rattle.syntax.specs.declared.Skip.{Skip}
-use Rattle.syntax.specs.declared.Skip.TheVariants as S
+use Rattle.syntax.specs.Tokens.{space_of, skip}
 use Rattle.syntax.specs.declared.Space.{Space}
 use Rattle.syntax.specs.declared.Space.TheVariants as K
-use Rattle.syntax.specs.declared.Spaces.{Spaces}
-use Rattle.syntax.specs.declared.Spaces.TheVariants as P
 use Rattle.syntax.specs.TypeUses.{on_step}
-use Rattle.syntax.specs.Plain.{spaces_is, indices_at, bulk_at}
-use Rattle.token.proofs.Skips.{stops-made, stops_then, stops_not, gave, gave_not}
+use Rattle.syntax.specs.Plain.{indices_at}
+use Rattle.token.proofs.Skips.{stops-made, stops_then, stops_not, gave_at, stopped_at}
 use Rattle.expr.specs.Readers.{bulk_past}
 
 -- indices, each with its space
@@ -46,21 +46,20 @@ module _ (k : Space) where
       go K.Datas h = refl
 
   module _ (s : Bytes) (at : ℕ) where
-    module _ (x : Step (Syntax.Index Identifier)) where
-      pub in_memory : k ≡ K.Mems → optional s at ≡ x → index_in (space_of k) s at ≡ x
-      unfolding index_in
-      in_memory d p = rw d p
+    pub in_memory : k ≡ K.Mems → index_in (space_of k) s at ≡ optional s at
+    unfolding index_in
+    in_memory d = rw d
 
-      pub in_other : (k ≡ K.Mems → ⊥) → present s at ≡ x → index_in (space_of k) s at ≡ x
-      in_other h p = rw (others h) p
+    pub in_other : (k ≡ K.Mems → ⊥) → index_in (space_of k) s at ≡ present s at
+    in_other h = rw (others h)
 
-    module _ (x : Step (Unit {0})) where
-      pub memory_past : k ≡ K.Mems → stops (optional s at) ≡ x → stops (index_in (space_of k) s at) ≡ x
-      unfolding index_in
-      memory_past d p = rw d p
+    pub memory_past : k ≡ K.Mems → stops (index_in (space_of k) s at) ≡ stops (optional s at)
+    memory_past d = ap stops (in_memory d)
 
-      pub other-past : (k ≡ K.Mems → ⊥) → stops (present s at) ≡ x → stops (index_in (space_of k) s at) ≡ x
-      other-past h p = rw (others h) p
+    pub other_past : (k ≡ K.Mems → ⊥) → stops (index_in (space_of k) s at) ≡ stops (present s at)
+    other_past h = ap stops (in_other h)
+
+pub ruleset ins = (in_memory, in_other, memory_past, other_past)
 
 -- ## Indices that are passed over
 
@@ -71,14 +70,14 @@ module _ (k : Syntax.Space) (s : Bytes) (at : ℕ) (x : Step (Unit {0})) where
   last p = stops-made _ (index_in k s at) ∙ p
 
   -- one, and the others after it
-  first : (ks : List Syntax.Space) (r : Skip) (n : ℕ) → stops (index_in k s at) ≡ skip r → r ≡ S.Past n → stops (indices ks s n) ≡ x → stops (indices (k ∷ ks) s at) ≡ x
+  first : (ks : List Syntax.Space) (n : ℕ) → stops (index_in k s at) ≡ got tt n → stops (indices ks s n) ≡ x → stops (indices (k ∷ ks) s at) ≡ x
   unfolding indices
-  first ks r n e d p = stops_then _ x (index_in k s at) r n e d (λ a. stops-made _ (indices ks s n) ∙ p)
+  first ks n e p = stops_then x _ (index_in k s at) n e (λ a. stops-made _ (indices ks s n) ∙ p)
 
   -- one that cannot be read
-  first_not : (ks : List Syntax.Space) (r : Skip) (n : ℕ) → stops (index_in k s at) ≡ skip r → r ≡ S.Fault n → fault n ≡ x → stops (indices (k ∷ ks) s at) ≡ x
+  first_not : (ks : List Syntax.Space) (n : ℕ) → stops (index_in k s at) ≡ fault n → fault n ≡ x → stops (indices (k ∷ ks) s at) ≡ x
   unfolding indices
-  first_not ks r n e d p = stops_not _ (index_in k s at) r n e d ∙ p
+  first_not ks n e p = stops_not x _ (index_in k s at) n e p
 
 -- where indices are read, they are those at their place
 indices_are : (ks : List Syntax.Space) (s : Bytes) (at : ℕ) (xs : Pairs) (q : ℕ) → indices ks s at ≡ got xs q → indices_at ks s at ≡ xs
@@ -98,50 +97,44 @@ indices_are (k ∷ ks) s at xs q e = go (λ next ys z. indices_are ks s next ys 
 
 -- where they end says what the operand is
 module _ (b : ℕ) (s : Bytes) (at : ℕ) where
-  ends : (ks : List Syntax.Space) (r : Skip) → spaces_of b ≡ some ks → stops (indices ks s at) ≡ skip r → bulk_of b (spaces_of b) s at ≡ bulk_past b s at r
-  ends ks (S.Past n) d e = let g = gave (indices ks s at) (S.Past n) n e refl in let i = indices_are ks s at g.value n g.is in rw (d, g.is, i)
-  ends ks (S.Fault n) d e = rw (d, gave_not (indices ks s at) (S.Fault n) n e refl)
+  ends : (ks : List Syntax.Space) (r : Pass) → spaces_of b ≡ some ks → stops (indices ks s at) ≡ skip r → bulk_of b (spaces_of b) s at ≡ bulk_past b s at r
+  ends ks (Ok n) d e = let g = gave_at (indices ks s at) n e in let i = indices_are ks s at g.value n g.is in rw (d, g.is, i)
+  ends ks (Err n) d e = rw (d, stopped_at (indices ks s at) (number n) e)
 
   -- `pass_indices`: none are asked for, one, or two
-  module _ (r : Spaces) (told : spaces_of b ≡ spaces_is r) where
-    pub bulk_none : r ≡ P.None → bulk_of b (spaces_of b) s at ≡ bulk_past b s at (S.Fault 4)
-    bulk_none d = rw (told, d)
+  pub bulk_none : spaces_of b ≡ none → bulk_of b (spaces_of b) s at ≡ fault 4
+  bulk_none d = rw d
 
-    pub bulk_one : (k : Space) (q : Skip) → r ≡ P.One k → stops (index_in (space_of k) s at) ≡ skip q → bulk_of b (spaces_of b) s at ≡ bulk_past b s at q
-    bulk_one k q d e = ends (space_of k ∷ []) q (told ∙ rw d) (last (space_of k) s at (skip q) e)
+  pub bulk_one : (k : Space) (q : Pass) → spaces_of b ≡ some (space_of k ∷ []) → stops (index_in (space_of k) s at) ≡ skip q → bulk_of b (spaces_of b) s at ≡ bulk_past b s at q
+  bulk_one k q d e = ends (space_of k ∷ []) q d (last (space_of k) s at (skip q) e)
 
-    module _ (j k : Space) (d : r ≡ P.Two j k) (q : Skip) (e : stops (index_in (space_of j) s at) ≡ skip q) where
-      pub bulk_two : (n : ℕ) (u : Skip) → q ≡ S.Past n → stops (index_in (space_of k) s n) ≡ skip u → bulk_of b (spaces_of b) s at ≡ bulk_past b s at u
-      bulk_two n u f g = ends (space_of j ∷ space_of k ∷ []) u (told ∙ rw d) (first (space_of j) s at (skip u) (space_of k ∷ []) q n e f (last (space_of k) s n (skip u) g))
+  module _ (j k : Space) (d : spaces_of b ≡ some (space_of j ∷ space_of k ∷ [])) where
+    pub bulk_two : (n : ℕ) (q : Pass) → stops (index_in (space_of j) s at) ≡ got tt n → stops (index_in (space_of k) s n) ≡ skip q → bulk_of b (spaces_of b) s at ≡ bulk_past b s at q
+    bulk_two n q f g = ends (space_of j ∷ space_of k ∷ []) q d (first (space_of j) s at (skip q) (space_of k ∷ []) n f (last (space_of k) s n (skip q) g))
 
-      pub bulk_first_not : (n : ℕ) → q ≡ S.Fault n → bulk_of b (spaces_of b) s at ≡ bulk_past b s at (S.Fault n)
-      bulk_first_not n f = ends (space_of j ∷ space_of k ∷ []) (S.Fault n) (told ∙ rw d) (first_not (space_of j) s at (fault n) (space_of k ∷ []) q n e f refl)
+    pub bulk_first_not : (n : ℕ) → stops (index_in (space_of j) s at) ≡ fault n → bulk_of b (spaces_of b) s at ≡ fault n
+    bulk_first_not n f = rw (d, stopped_at (indices (space_of j ∷ space_of k ∷ []) s at) n (first_not (space_of j) s at (fault n) (space_of k ∷ []) n f refl))
 
-pub ruleset bulks-passed = (bulk_none, bulk_one, bulk_two, bulk_first_not)
+  pub bulk_handed : (r : Pass) (n : Fault) → IsErr r → IsErrAnd r (λ e. e ≡ n) → fault (number n) ≡ bulk_past b s at r
+  bulk_handed (Ok a) n i p = absurd p
+  bulk_handed (Err e) n i p = rw p
 
--- ## How `search` follows the definition past them
-
-module _ {C : Type 0} (x : Step C) (b : ℕ) (s : Bytes) (at : ℕ) (k : Syntax.Operand Identifier → ℕ → Step C) (m : Step (Syntax.Operand Identifier)) (r : Skip) (n : ℕ) (told : m ≡ bulk_past b s at r) where
-  pub bulk_got : r ≡ S.Past n → k (Syntax.items b (bulk_at (spaces_of b) s at)) n ≡ x → onward k m ≡ x
-  bulk_got d p = rw (told, d) p
-
-  pub bulk_not : r ≡ S.Fault n → fault n ≡ x → onward k m ≡ x
-  bulk_not d p = rw (told, d) p
-
-pub ruleset bulk-answers = (bulk_got, bulk_not)
+pub ruleset bulks_passed = (bulk_none, bulk_one, bulk_two, bulk_first_not, bulk_handed)
 
 -- ## `pass_bulk`
 
 -- an instruction that is only made of them stops where they do
-stops_bulk : {A : Type 0} (f : Syntax.Operand Identifier → A) (b : ℕ) (s : Bytes) (at : ℕ) (m : Step (Syntax.Operand Identifier)) (r : Skip) → m ≡ bulk_past b s at r → stops (onward (λ x next. got (f x) next) m) ≡ skip r
-stops_bulk f b s at m (S.Past n) e = rw e
-stops_bulk f b s at m (S.Fault n) e = rw e
+stops_bulk : {A : Type 0} (f : Syntax.Operand Identifier → A) (b : ℕ) (s : Bytes) (at : ℕ) (m : Step (Syntax.Operand Identifier)) (r : Pass) → m ≡ bulk_past b s at r → stops (onward (λ x next. got (f x) next) m) ≡ skip r
+stops_bulk f b s at m (Ok n) e = rw e
+stops_bulk f b s at m (Err n) e = rw e
 
-module _ (s : Bytes) (at : ℕ) (r : ByteAt) (told : byte s at ≡ byte_at r) where
-  pub second_past : (b n : ℕ) (q : Skip) → r ≡ B.Got b n → bulk_of b (spaces_of b) s n ≡ bulk_past b s n q → stops (plain_of 0 bulk s at) ≡ skip q
+module _ (s : Bytes) (at : ℕ) where
+  pub second_past : (b n : ℕ) (q : Pass) → byte s at ≡ got b n → bulk_of b (spaces_of b) s n ≡ bulk_past b s n q → stops (plain_of 0 bulk s at) ≡ skip q
   unfolding plain_of
-  second_past b n q d e = rw (told, d) (stops_bulk _ b s n (bulk_of b (spaces_of b) s n) q e)
+  second_past b n q d e = rw d (stops_bulk _ b s n (bulk_of b (spaces_of b) s n) q e)
 
-  pub second_not : (k : ℕ) → r ≡ B.Fault k → stops (plain_of 0 bulk s at) ≡ fault k
+  pub second_not : (k : ℕ) → byte s at ≡ fault k → stops (plain_of 0 bulk s at) ≡ fault k
   unfolding plain_of
-  second_not k d = rw (told, d)
+  second_not k d = rw d
+
+pub ruleset seconds = (second_past, second_not, skip_handed)

@@ -1,40 +1,33 @@
 -- Constants that are known by their places.
+use Rattle.std.specs.Prelude.{Ok, Err, IsErrAnd}
+use Rattle.std.specs.Result.{IsErr}
+use Rattle.syntax.specs.Reads.{Pass}
+use Rattle.syntax.specs.Refusals.{number}
+use Rattle.syntax.specs.declared.Fault.{Fault}
+use Rattle.syntax.proofs.Ways.{reads}
 use mathlib.Core.Path.{◌≡◌}
 use Prim.Native.Nat.{ℕ}
 use Rattle.definition.specs.Syntax as Syntax
 use Rattle.definition.specs.Syntax.{Bytes, Identifier}
-use Rattle.definition.specs.Reader.{Step, fault, onward}
+use Rattle.definition.specs.Reader.{got, fault}
 use Rattle.definition.specs.Instructions.{constant}
-use Rattle.syntax.specs.declared.Skip.{Skip}
-use Rattle.syntax.specs.declared.Skip.TheVariants as S
-use Rattle.syntax.specs.Plain.{plain_is, plain_at, no_constant, constant_at, constant_past}
-use Rattle.syntax.specs.declared.Plain.{Plain}
-use Rattle.syntax.specs.declared.PlainAt.{PlainAt}
-use Rattle.syntax.specs.declared.PlainAt.TheVariants as PA
+use Rattle.syntax.specs.Plain.{no_constant, constant_at, constant_past}
 
 -- what was read is the constant at its place
-module _ (s : Bytes) (at : ℕ) (r : PlainAt) (told : constant s at ≡ plain_at s r) where
-  pub const_is : (c : Plain) (n : ℕ) → r ≡ PA.Got c n → plain_is s c ≡ constant_at s at
+module _ (s : Bytes) (at : ℕ) where
+  pub const_is : (c : Syntax.Plain Identifier) (n : ℕ) → constant s at ≡ got c n → constant_at s at ≡ c
   unfolding constant_at
-  const_is c n d = rw (told, d)
+  const_is c n e = rw e
 
-  pub const_none : (p : Plain) (n : ℕ) → r ≡ PA.Fault n → plain_is s p ≡ no_constant → plain_is s p ≡ constant_at s at
+  pub const_none : (n : ℕ) → constant s at ≡ fault n → constant_at s at ≡ no_constant
   unfolding constant_at
-  const_none p n d e = rw (told, d) e
+  const_none n e = rw e
 
-  pub const_past : (c : Plain) (n : ℕ) → r ≡ PA.Got c n → constant s at ≡ constant_past s at (S.Past n)
-  unfolding constant_at
-  const_past c n d = rw (told, d)
+  pub const_handed : (r : Pass) (n : Fault) → IsErr r → IsErrAnd r (λ e. e ≡ n) → fault (number n) ≡ constant_past s at r
+  const_handed (Ok a) n i p = absurd p
+  const_handed (Err e) n i p = rw p
 
-  pub const_stops : (n : ℕ) → r ≡ PA.Fault n → constant s at ≡ constant_past s at (S.Fault n)
-  const_stops n d = rw (told, d)
+pub ruleset constants = (const_is, const_none, const_handed)
 
 -- how `search` follows the definition past a constant
-module _ {C : Type 0} (x : Step C) (s : Bytes) (at : ℕ) (k : Syntax.Plain Identifier → ℕ → Step C) (m : Step (Syntax.Plain Identifier)) (r : Skip) (n : ℕ) (told : m ≡ constant_past s at r) where
-  pub constant-got : r ≡ S.Past n → k (constant_at s at) n ≡ x → onward k m ≡ x
-  constant-got d p = rw (told, d) p
-
-  pub constant_not : r ≡ S.Fault n → fault n ≡ x → onward k m ≡ x
-  constant_not d p = rw (told, d) p
-
-pub ruleset constant-answers = (constant-got, constant_not)
+pub ruleset constant-answers = (reads)

@@ -7,19 +7,8 @@ use Rattle.definition.specs.Token.{u32, u64, counted, ref_type, present, optiona
 use Rattle.definition.specs.Instructions as Instructions
 use Rattle.definition.specs.Instructions.{plain_of, alignment, bare, labelidx, labelidxs, localidx, funcidx, globalidx, memidx, memarg, i32, i64, f32, f64, heaptype, bulk, bulk_of, spaces_of}
 use Rattle.laws.specs.Steps.{stops}
-use Rattle.syntax.specs.Numbers.{u64_at}
-use Rattle.syntax.specs.declared.U64.{U64}
-use Rattle.syntax.specs.declared.U64.TheVariants as U64
-use Rattle.syntax.specs.Tokens.{byte_at, skip}
-use Rattle.syntax.specs.declared.ByteAt.{ByteAt}
-use Rattle.syntax.specs.declared.ByteAt.TheVariants as B
-use Rattle.syntax.specs.declared.Skip.{Skip}
-use Rattle.syntax.specs.declared.Skip.TheVariants as S
+use Rattle.syntax.proofs.Ways.{skip_handed}
 use Rattle.token.proofs.Skips.{stops-made, stops_then, stops_not}
-use Rattle.syntax.specs.TypeUses.{list_at}
-use Rattle.syntax.specs.declared.List as Code
-use Rattle.syntax.specs.declared.ListAt.{ListAt}
-use Rattle.syntax.specs.declared.ListAt.TheVariants as LA
 use Rattle.syntax.specs.Plain.{operands_is}
 use Rattle.syntax.specs.declared.Operands.{Operands}
 
@@ -73,38 +62,23 @@ module _ (op : ℕ) (s : Bytes) (at : ℕ) (x : Step (Unit {0})) where
   unfolding plain_of
   heap_past p = stops-made _ (ref_type s at) ∙ p
 
-  -- labels, and one more
-  module _ (r : ListAt) (told : counted 1024 present s at ≡ list_at present s r) where
-    pub labels-past : (l : Code.List) (n : ℕ) → r ≡ LA.Got l n → stops (present s n) ≡ x → stops (plain_of op labelidxs s at) ≡ x
-    unfolding plain_of
-    labels-past l n d p = rw (told, d) (stops-made _ (present s n) ∙ p)
+pub ruleset operands-passed = (bare_past, label-past, local-past, func-past, global-past, mem-past, i32_past, i64_past, f32_past, f64_past, heap_past, refl)
 
-    pub labels_not : (k : ℕ) → r ≡ LA.Fault k → fault k ≡ x → stops (plain_of op labelidxs s at) ≡ x
-    unfolding plain_of
-    labels_not k d p = rw (told, d) p
+-- the alignment, the offset, the memory
+module _ (op : ℕ) (s : Bytes) (at : ℕ) where
+  pub access_past : (b a c : ℕ) → alignment s at ≡ got b a → stops (u32 s a) ≡ got tt c → stops (plain_of op memarg s at) ≡ stops (optional s c)
+  unfolding plain_of
+  access_past b a c d e = rw d (stops_then (stops (optional s c)) _ (u32 s a) c e (λ o. stops-made _ (optional s c)))
 
-  -- the alignment, the offset, the memory
-  module _ (r : ByteAt) (told : alignment s at ≡ byte_at r) where
-    pub access-past : (b a c : ℕ) (u : Skip) → r ≡ B.Got b a → stops (u32 s a) ≡ skip u → u ≡ S.Past c → stops (optional s c) ≡ x → stops (plain_of op memarg s at) ≡ x
-    unfolding plain_of
-    access-past b a c u d e g p = rw (told, d) (stops_then _ x (u32 s a) u c e g (λ o. stops-made _ (optional s c) ∙ p))
+  pub access_no_offset : (b a k : ℕ) → alignment s at ≡ got b a → stops (u32 s a) ≡ fault k → stops (plain_of op memarg s at) ≡ fault k
+  unfolding plain_of
+  access_no_offset b a k d e = rw d (stops_not (fault k) _ (u32 s a) k e refl)
 
-    pub access_no_offset : (b a k : ℕ) (u : Skip) → r ≡ B.Got b a → stops (u32 s a) ≡ skip u → u ≡ S.Fault k → fault k ≡ x → stops (plain_of op memarg s at) ≡ x
-    unfolding plain_of
-    access_no_offset b a k u d e g p = rw (told, d) (stops_not _ (u32 s a) u k e g ∙ p)
+  pub access_not : (k : ℕ) → alignment s at ≡ fault k → stops (plain_of op memarg s at) ≡ fault k
+  unfolding plain_of
+  access_not k d = rw d
 
-    pub access_not : (k : ℕ) → r ≡ B.Fault k → fault k ≡ x → stops (plain_of op memarg s at) ≡ x
-    unfolding plain_of
-    access_not k d p = rw (told, d) p
-
-pub ruleset operands-passed = (bare_past, label-past, local-past, func-past, global-past, mem-past, i32_past, i64_past, f32_past, f64_past, heap_past, labels-past, labels_not, access-past, access_no_offset, access_not, refl)
-
--- an answer whose value is not needed
-pub u64-past : (m : Step ℕ) (r : U64) (v n : ℕ) → m ≡ u64_at r → r ≡ U64.Got v n → stops m ≡ got tt n
-u64-past m r v n e d = rw (e, d)
-
-pub u64-stops : (m : Step ℕ) (r : U64) (n : ℕ) → m ≡ u64_at r → r ≡ U64.Fault n → stops m ≡ fault n
-u64-stops m r n e d = rw (e, d)
+pub ruleset accesses = (access_past, access_no_offset, access_not, skip_handed)
 
 -- ## Where the operands end is the same for every opcode
 

@@ -1,4 +1,7 @@
 -- Readers of the definition as the code divides them.
+use Rattle.std.specs.Prelude.{Ok, Err}
+use Rattle.syntax.specs.Reads.{Pass}
+use Rattle.syntax.specs.Refusals.{number}
 use Rattle.std.specs.Prelude.{ℕ}
 use Rattle.definition.specs.Syntax as Syntax
 use Rattle.definition.specs.Syntax.{Bytes, Identifier, label, local, item, items, raw}
@@ -6,8 +9,6 @@ use Rattle.definition.specs.Reader.{Step, got, fault, Reader, byte, many, ◌>>=
 use Rattle.definition.specs.Token as Token
 use Rattle.definition.specs.Instructions as Instructions
 use Rattle.syntax.specs.Plain.{bulk_at}
-use Rattle.syntax.specs.declared.Skip.{Skip}
-use Rattle.syntax.specs.declared.Skip.TheVariants as S
 use Rattle.syntax.specs.declared.Operand.{Operand}
 use Rattle.syntax.specs.declared.Operand.TheVariants as O
 use Rattle.syntax.specs.declared.Plain.{Plain}
@@ -38,6 +39,6 @@ unfoldable pub raw_of : ℕ → ℕ → Reader (Syntax.Plain Identifier)
 raw_of op len = many len byte >>= λ bs. Instructions.done op (raw bs)
 
 -- the indices after the second byte `b`, passed over
-abbrev pub bulk_past : ℕ → Bytes → ℕ → Skip → Step (Syntax.Operand Identifier)
-bulk_past b s at (S.Past next) = got (items b (bulk_at (Instructions.spaces_of b) s at)) next
-bulk_past b s at (S.Fault n) = fault n
+abbrev pub bulk_past : ℕ → Bytes → ℕ → Pass → Step (Syntax.Operand Identifier)
+bulk_past b s at (Ok next) = got (items b (bulk_at (Instructions.spaces_of b) s at)) next
+bulk_past b s at (Err e) = fault (number e)

@@ -6,10 +6,11 @@ ghost use Rattle.syntax.specs.Tokens.{space_of, index_at, skip};
 ghost use Rattle.syntax.specs.Plain.{plain_at};
 ghost use Rattle.expr.specs.Readers.{bulk_past};
 
-use syntax::{ByteAt, IndexAt, Operand, Plain, PlainAt, Skip, Space, Spaces};
+use syntax::{Fault, Index, Operand, Pass, Plain, Read, Space, Spaces};
 
 // An index of this space: that of a memory may be absent.
-pub fn read_in(s: &[u8], at: usize, k: Space) -> IndexAt
+#[tactic(auto, using(crate::proofs::Bulks::ins))]
+pub fn read_in(s: &[u8], at: usize, k: Space) -> Read<Index>
     ensures { Instructions.index_in (space_of k) s.now at ≡ index_at s.now result }
 {
     match k {
@@ -18,7 +19,8 @@ pub fn read_in(s: &[u8], at: usize, k: Space) -> IndexAt
     }
 }
 
-fn pass_in(s: &[u8], at: usize, k: Space) -> Skip
+#[tactic(auto, using(crate::proofs::Bulks::ins))]
+fn pass_in(s: &[u8], at: usize, k: Space) -> Pass
     ensures { stops (Instructions.index_in (space_of k) s.now at) ≡ skip result }
 {
     match k {
@@ -28,60 +30,39 @@ fn pass_in(s: &[u8], at: usize, k: Space) -> Skip
 }
 
 // Where the indices after the second byte end.
-fn pass_indices(s: &[u8], at: usize, b: u8) -> Skip
+#[tactic(auto, using(crate::proofs::Bulks::bulks_passed))]
+fn pass_indices(s: &[u8], at: usize, b: u8) -> Pass
     ensures { Instructions.bulk_of b (Instructions.spaces_of b) s.now at ≡ bulk_past b s.now at result }
 {
     match syntax::bulk_spaces(b) {
-        Spaces::None => {
-            return Skip::Fault(4);
+        Spaces::None => Err(Fault::UnknownByte),
+        Spaces::One(k) => pass_in(s, at, k),
+        Spaces::Two(j, k) => {
+            let a = pass_in(s, at, j)?;
+            return pass_in(s, a, k);
         }
-        Spaces::One(k) => {
-            return pass_in(s, at, k);
-        }
-        Spaces::Two(j, k) => match pass_in(s, at, j) {
-            Skip::Past(a) => {
-                return pass_in(s, a, k);
-            }
-            Skip::Fault(e) => {
-                return Skip::Fault(e);
-            }
-        },
     }
 }
 
-pub fn bulk_plain(s: &[u8], at: usize, opcode: u8) -> PlainAt
+#[tactic(auto, using(syntax::proofs::Ways::reads), unfolding(definition::specs::Instructions::plain_of))]
+pub fn bulk_plain(s: &[u8], at: usize, opcode: u8) -> Read<Plain>
     ensures { Instructions.plain_of opcode Instructions.bulk s.now at ≡ plain_at s.now result }
 {
-    match token::read_byte(s, at) {
-        ByteAt::Got(b, a) => match pass_indices(s, a, b) {
-            Skip::Past(next) => {
-                return PlainAt::Got(
-                    Plain {
-                        opcode,
-                        operand: Operand::Items(b, a),
-                    },
-                    next,
-                );
-            }
-            Skip::Fault(e) => {
-                return PlainAt::Fault(e);
-            }
+    let (b, a) = token::read_byte(s, at)?;
+    let next = pass_indices(s, a, b)?;
+    Ok((
+        Plain {
+            opcode,
+            operand: Operand::Items(b, a),
         },
-        ByteAt::Fault(e) => {
-            return PlainAt::Fault(e);
-        }
-    }
+        next,
+    ))
 }
 
-pub fn pass_bulk(s: &[u8], at: usize) -> Skip
+#[tactic(auto, using(crate::proofs::Bulks::seconds))]
+pub fn pass_bulk(s: &[u8], at: usize) -> Pass
     ensures { stops (Instructions.plain_of 0 Instructions.bulk s.now at) ≡ skip result }
 {
-    match token::read_byte(s, at) {
-        ByteAt::Got(b, a) => {
-            return pass_indices(s, a, b);
-        }
-        ByteAt::Fault(e) => {
-            return Skip::Fault(e);
-        }
-    }
+    let (b, a) = token::read_byte(s, at)?;
+    pass_indices(s, a, b)
 }

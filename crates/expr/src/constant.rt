@@ -3,35 +3,29 @@ ghost use Rattle.std.specs.Prelude.{◌≡◌};
 ghost use Rattle.definition.specs.Instructions as Instructions;
 ghost use Rattle.syntax.specs.Plain.{plain_is, constant_at, constant_past};
 
-use syntax::{Operand, Plain, PlainAt, Skip};
+use syntax::{Operand, Pass, Plain};
 
 // Where a constant ends.
-pub fn pass_const(s: &[u8], at: usize) -> Skip
+#[tactic(auto, using(crate::proofs::Constants::constants))]
+pub fn pass_const(s: &[u8], at: usize) -> Pass
     ensures { Instructions.constant s.now at ≡ constant_past s.now at result }
 {
-    match crate::read_const(s, at) {
-        PlainAt::Got(_, next) => {
-            return Skip::Past(next);
-        }
-        PlainAt::Fault(e) => {
-            return Skip::Fault(e);
-        }
-    }
+    let (_, next) = crate::read_const(s, at)?;
+    Ok(next)
 }
 
 // The constant at a place that was passed over.
+#[tactic(auto, using(crate::proofs::Constants::constants))]
 pub fn const_at(s: &[u8], at: usize) -> Plain
     ensures { plain_is s.now result ≡ constant_at s.now at }
 {
     match crate::read_const(s, at) {
-        PlainAt::Got(c, _) => {
-            return c;
-        }
-        PlainAt::Fault(_) => {
-            return Plain {
+        Ok((c, _)) => c,
+        Err(_) => {
+            Plain {
                 opcode: 0,
                 operand: Operand::Nothing,
-            };
+            }
         }
     }
 }

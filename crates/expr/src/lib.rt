@@ -14,10 +14,7 @@ ghost use Rattle.expr.specs.Readers.{operand_to, indexed, raw_of};
 pub use bulk::read_in;
 pub use constant::{const_at, pass_const};
 pub use pass::pass_plain;
-use syntax::{
-    ByteAt, Elem, Index, IndexAt, ListAt, Operand, Operands, PartAt, Plain, PlainAt, Space, U32,
-    U64,
-};
+use syntax::{Elem, Fault, Index, Local, Operand, Operands, Plain, Read, Space};
 
 // What an index refers to.
 #[derive(Clone, Copy)]
@@ -28,87 +25,62 @@ pub enum Refers {
     Global,
 }
 
+#[tactic(auto, using(crate::proofs::Ways::to_is))]
 fn operand_to(to: Refers, x: Index) -> Operand
     ensures { result ≡ operand_to to x }
 {
     match to {
-        Refers::Label => {
-            return Operand::Label(x);
-        }
-        Refers::Local => {
-            return Operand::Local(x);
-        }
-        Refers::Func => {
-            return Operand::Item(Space::Funcs, x);
-        }
-        Refers::Global => {
-            return Operand::Item(Space::Globals, x);
-        }
+        Refers::Label => Operand::Label(x),
+        Refers::Local => Operand::Local(x),
+        Refers::Func => Operand::Item(Space::Funcs, x),
+        Refers::Global => Operand::Item(Space::Globals, x),
     }
 }
 
 // An instruction whose operand is an index that must be present.
-fn index_plain(s: &[u8], at: usize, opcode: u8, to: Refers) -> PlainAt
+#[tactic(auto, using(syntax::proofs::Ways::reads, crate::proofs::Ways::index_operand), unfolding(crate::specs::Readers::indexed))]
+fn index_plain(s: &[u8], at: usize, opcode: u8, to: Refers) -> Read<Plain>
     ensures { indexed opcode to s.now at ≡ plain_at s.now result }
 {
-    match token::read_present(s, at) {
-        IndexAt::Got(x, next) => {
-            let operand = operand_to(to, x);
-            return PlainAt::Got(Plain { opcode, operand }, next);
-        }
-        IndexAt::Fault(e) => {
-            return PlainAt::Fault(e);
-        }
-    }
+    let (x, next) = token::read_present(s, at)?;
+    let operand = operand_to(to, x);
+    Ok((Plain { opcode, operand }, next))
 }
 
-fn labels_plain(s: &[u8], at: usize, opcode: u8) -> PlainAt
+#[tactic(auto, using(syntax::proofs::Ways::reads), unfolding(definition::specs::Instructions::plain_of))]
+fn labels_plain(s: &[u8], at: usize, opcode: u8) -> Read<Plain>
     ensures { Instructions.plain_of opcode Instructions.labelidxs s.now at ≡ plain_at s.now result }
 {
-    match typeuse::read_list(s, at, 1024, Elem::Index) {
-        ListAt::Got(xs, a) => match token::read_present(s, a) {
-            IndexAt::Got(x, b) => {
-                return PlainAt::Got(
-                    Plain {
-                        opcode,
-                        operand: Operand::Labels(xs, x),
-                    },
-                    b,
-                );
-            }
-            IndexAt::Fault(e) => {
-                return PlainAt::Fault(e);
-            }
+    let (xs, a) = typeuse::read_list(s, at, 1024, Elem::Index)?;
+    let (x, b) = token::read_present(s, a)?;
+    Ok((
+        Plain {
+            opcode,
+            operand: Operand::Labels(xs, x),
         },
-        ListAt::Fault(e) => {
-            return PlainAt::Fault(e);
-        }
-    }
+        b,
+    ))
 }
 
-fn mem_plain(s: &[u8], at: usize, opcode: u8) -> PlainAt
+#[tactic(auto, using(syntax::proofs::Ways::reads), unfolding(definition::specs::Instructions::plain_of))]
+fn mem_plain(s: &[u8], at: usize, opcode: u8) -> Read<Plain>
     ensures { Instructions.plain_of opcode Instructions.memidx s.now at ≡ plain_at s.now result }
 {
-    match token::read_optional(s, at) {
-        IndexAt::Got(x, next) => {
-            return PlainAt::Got(
-                Plain {
-                    opcode,
-                    operand: Operand::Item(Space::Mems, x),
-                },
-                next,
-            );
-        }
-        IndexAt::Fault(e) => {
-            return PlainAt::Fault(e);
-        }
-    }
+    let (x, next) = token::read_optional(s, at)?;
+    Ok((
+        Plain {
+            opcode,
+            operand: Operand::Item(Space::Mems, x),
+        },
+        next,
+    ))
 }
 
 // The natural exponents of the opcodes 28 to 3E.
 const NATURAL: [u8; 23] =
     *b"\x02\x03\x02\x03\x00\x00\x01\x01\x00\x00\x01\x01\x02\x02\x02\x03\x02\x03\x00\x01\x00\x01\x02";
 
+#[tactic(auto, using(crate::proofs::Ways::natural_low, crate::proofs::Ways::natural_high), unfolding(definition::specs::Instructions::exponent, definition::specs::Instructions::naturals))]
 fn natural(op: u8) -> u8
     ensures { result ≡ Instructions.exponent op 0 }
 {
@@ -122,6 +94,7 @@ fn natural(op: u8) -> u8
 }
 
 // The exponent that an alignment byte says.
+#[tactic(auto, using(laws::proofs::Exits::exits), unfolding(definition::specs::Instructions::exponent))]
 fn exponent(op: u8, b: u8) -> u8
     ensures { result ≡ Instructions.exponent op b }
 {
@@ -131,140 +104,103 @@ fn exponent(op: u8, b: u8) -> u8
     b - 1
 }
 
-fn alignment(s: &[u8], at: usize) -> ByteAt
+#[tactic(auto, using(syntax::proofs::Ways::reads, laws::proofs::Ways::ways), unfolding(definition::specs::Instructions::alignment))]
+fn alignment(s: &[u8], at: usize) -> Read<u8>
     ensures { Instructions.alignment s.now at ≡ byte_at result }
 {
-    match token::read_byte(s, at) {
-        ByteAt::Got(b, next) => {
-            if b <= 32 {
-                return ByteAt::Got(b, next);
-            }
-            return ByteAt::Fault(4);
-        }
-        ByteAt::Fault(e) => {
-            return ByteAt::Fault(e);
-        }
+    let (b, next) = token::read_byte(s, at)?;
+    if b <= 32 {
+        return Ok((b, next));
     }
+    Err(Fault::UnknownByte)
 }
 
-fn access_plain(s: &[u8], at: usize, opcode: u8) -> PlainAt
+#[tactic(auto, using(syntax::proofs::Ways::reads), unfolding(definition::specs::Instructions::plain_of))]
+fn access_plain(s: &[u8], at: usize, opcode: u8) -> Read<Plain>
     ensures { Instructions.plain_of opcode Instructions.memarg s.now at ≡ plain_at s.now result }
 {
-    match alignment(s, at) {
-        ByteAt::Got(b, a) => match leb::read_u32(s, a) {
-            U32::Got(offset, c) => match token::read_optional(s, c) {
-                IndexAt::Got(x, d) => {
-                    let e = exponent(opcode, b);
-                    return PlainAt::Got(
-                        Plain {
-                            opcode,
-                            operand: Operand::Access(e, offset, x),
-                        },
-                        d,
-                    );
-                }
-                IndexAt::Fault(e) => {
-                    return PlainAt::Fault(e);
-                }
-            },
-            U32::Fault(e) => {
-                return PlainAt::Fault(e);
-            }
+    let (b, a) = alignment(s, at)?;
+    let (offset, c) = leb::read_u32(s, a)?;
+    let (x, d) = token::read_optional(s, c)?;
+    let e = exponent(opcode, b);
+    Ok((
+        Plain {
+            opcode,
+            operand: Operand::Access(e, offset, x),
         },
-        ByteAt::Fault(e) => {
-            return PlainAt::Fault(e);
-        }
-    }
+        d,
+    ))
 }
 
-fn i32_plain(s: &[u8], at: usize, opcode: u8) -> PlainAt
+#[tactic(auto, using(syntax::proofs::Ways::reads), unfolding(definition::specs::Instructions::plain_of))]
+fn i32_plain(s: &[u8], at: usize, opcode: u8) -> Read<Plain>
     ensures { Instructions.plain_of opcode Instructions.i32 s.now at ≡ plain_at s.now result }
 {
-    match leb::read_u32(s, at) {
-        U32::Got(n, next) => {
-            return PlainAt::Got(
-                Plain {
-                    opcode,
-                    operand: Operand::Int32(n),
-                },
-                next,
-            );
-        }
-        U32::Fault(e) => {
-            return PlainAt::Fault(e);
-        }
-    }
+    let (n, next) = leb::read_u32(s, at)?;
+    Ok((
+        Plain {
+            opcode,
+            operand: Operand::Int32(n),
+        },
+        next,
+    ))
 }
 
-fn i64_plain(s: &[u8], at: usize, opcode: u8) -> PlainAt
+#[tactic(auto, using(syntax::proofs::Ways::reads), unfolding(definition::specs::Instructions::plain_of))]
+fn i64_plain(s: &[u8], at: usize, opcode: u8) -> Read<Plain>
     ensures { Instructions.plain_of opcode Instructions.i64 s.now at ≡ plain_at s.now result }
 {
-    match leb::read_u64(s, at) {
-        U64::Got(n, next) => {
-            return PlainAt::Got(
-                Plain {
-                    opcode,
-                    operand: Operand::Int64(n),
-                },
-                next,
-            );
-        }
-        U64::Fault(e) => {
-            return PlainAt::Fault(e);
-        }
-    }
+    let (n, next) = leb::read_u64(s, at)?;
+    Ok((
+        Plain {
+            opcode,
+            operand: Operand::Int64(n),
+        },
+        next,
+    ))
 }
 
 // A float constant: four or eight raw bytes.
-fn raw_plain(s: &[u8], at: usize, opcode: u8, len: u32) -> PlainAt
+#[tactic(auto, using(syntax::proofs::Ways::reads), unfolding(crate::specs::Readers::raw_of))]
+fn raw_plain(s: &[u8], at: usize, opcode: u8, len: u32) -> Read<Plain>
     ensures { raw_of opcode len s.now at ≡ plain_at s.now result }
 {
-    match token::read_raw(s, at, len) {
-        PartAt::Got(p, next) => {
-            return PlainAt::Got(
-                Plain {
-                    opcode,
-                    operand: Operand::Raw(p),
-                },
-                next,
-            );
-        }
-        PartAt::Fault(e) => {
-            return PlainAt::Fault(e);
-        }
-    }
+    let (p, next) = token::read_raw(s, at, len)?;
+    Ok((
+        Plain {
+            opcode,
+            operand: Operand::Raw(p),
+        },
+        next,
+    ))
 }
 
-fn heap_plain(s: &[u8], at: usize, opcode: u8) -> PlainAt
+#[tactic(auto, using(syntax::proofs::Ways::reads), unfolding(definition::specs::Instructions::plain_of))]
+fn heap_plain(s: &[u8], at: usize, opcode: u8) -> Read<Plain>
     ensures { Instructions.plain_of opcode Instructions.heaptype s.now at ≡ plain_at s.now result }
 {
-    match coretypes::ref_type(s, at) {
-        ByteAt::Got(t, next) => {
-            return PlainAt::Got(
-                Plain {
-                    opcode,
-                    operand: Operand::Heap(t),
-                },
-                next,
-            );
-        }
-        ByteAt::Fault(e) => {
-            return PlainAt::Fault(e);
-        }
-    }
+    let (t, next) = coretypes::ref_type(s, at)?;
+    Ok((
+        Plain {
+            opcode,
+            operand: Operand::Heap(t),
+        },
+        next,
+    ))
 }
 
-pub fn read_plain(s: &[u8], at: usize, opcode: u8, what: Operands) -> PlainAt
+#[tactic(auto, unfolding(definition::specs::Instructions::plain_of, crate::specs::Readers::indexed, crate::specs::Readers::raw_of))]
+pub fn read_plain(s: &[u8], at: usize, opcode: u8, what: Operands) -> Read<Plain>
     ensures { Instructions.plain_of opcode (operands_is what) s.now at ≡ plain_at s.now result }
 {
     match what {
-        Operands::Bare => PlainAt::Got(
+        Operands::Bare => Ok((
             Plain {
                 opcode,
                 operand: Operand::Nothing,
             },
             at,
-        ),
+        )),
         Operands::LabelIdx => index_plain(s, at, opcode, Refers::Label),
         Operands::LabelIdxs => labels_plain(s, at, opcode),
         Operands::LocalIdx => index_plain(s, at, opcode, Refers::Local),
@@ -282,36 +218,31 @@ pub fn read_plain(s: &[u8], at: usize, opcode: u8, what: Operands) -> PlainAt
 }
 
 // A constant is one instruction, chosen by its first byte.
-pub fn read_const(s: &[u8], at: usize) -> PlainAt
+#[tactic(auto, using(syntax::proofs::Ways::reads, laws::proofs::Ways::ways), unfolding(definition::specs::Instructions::constant, definition::specs::Instructions::plain_of, crate::specs::Readers::indexed, crate::specs::Readers::raw_of))]
+pub fn read_const(s: &[u8], at: usize) -> Read<Plain>
     ensures { Instructions.constant s.now at ≡ plain_at s.now result }
 {
-    match token::read_byte(s, at) {
-        ByteAt::Got(b, next) => {
-            if b == 0 {
-                return i32_plain(s, next, 0x41);
-            }
-            if b == 1 {
-                return i64_plain(s, next, 0x42);
-            }
-            if b == 2 {
-                return raw_plain(s, next, 0x43, 4);
-            }
-            if b == 3 {
-                return raw_plain(s, next, 0x44, 8);
-            }
-            if b == 4 {
-                return index_plain(s, next, 0x23, Refers::Global);
-            }
-            if b == 5 {
-                return heap_plain(s, next, 0xD0);
-            }
-            if b == 6 {
-                return index_plain(s, next, 0xD2, Refers::Func);
-            }
-            return PlainAt::Fault(4);
-        }
-        ByteAt::Fault(e) => {
-            return PlainAt::Fault(e);
-        }
+    let (b, next) = token::read_byte(s, at)?;
+    if b == 0 {
+        return i32_plain(s, next, 0x41);
     }
+    if b == 1 {
+        return i64_plain(s, next, 0x42);
+    }
+    if b == 2 {
+        return raw_plain(s, next, 0x43, 4);
+    }
+    if b == 3 {
+        return raw_plain(s, next, 0x44, 8);
+    }
+    if b == 4 {
+        return index_plain(s, next, 0x23, Refers::Global);
+    }
+    if b == 5 {
+        return heap_plain(s, next, 0xD0);
+    }
+    if b == 6 {
+        return index_plain(s, next, 0xD2, Refers::Func);
+    }
+    Err(Fault::UnknownByte)
 }

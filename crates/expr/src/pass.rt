@@ -6,71 +6,48 @@ ghost use Rattle.laws.specs.Steps.{stops};
 ghost use Rattle.syntax.specs.Tokens.{skip};
 ghost use Rattle.syntax.specs.Plain.{operands_is};
 
-use syntax::{ByteAt, Elem, ListAt, Operands, Skip, U64};
+use syntax::{Elem, Operands, Pass};
 
-fn pass_labels(s: &[u8], at: usize) -> Skip
+#[tactic(auto, using(token::proofs::Skips::passed_over), unfolding(definition::specs::Instructions::plain_of))]
+fn pass_labels(s: &[u8], at: usize) -> Pass
     ensures { stops (Instructions.plain_of 0 Instructions.labelidxs s.now at) ≡ skip result }
 {
-    match typeuse::read_list(s, at, 1024, Elem::Index) {
-        ListAt::Got(_, next) => {
-            return token::pass_present(s, next);
-        }
-        ListAt::Fault(e) => {
-            return Skip::Fault(e);
-        }
-    }
+    let (_, next) = typeuse::read_list(s, at, 1024, Elem::Index)?;
+    token::pass_present(s, next)
 }
 
 // The offset stands before the memory.
-fn pass_access(s: &[u8], at: usize) -> Skip
+#[tactic(auto, using(crate::proofs::Skips::accesses))]
+fn pass_access(s: &[u8], at: usize) -> Pass
     ensures { stops (Instructions.plain_of 0 Instructions.memarg s.now at) ≡ skip result }
 {
-    match crate::alignment(s, at) {
-        ByteAt::Got(_, a) => match token::pass_u32(s, a) {
-            Skip::Past(c) => {
-                return token::pass_optional(s, c);
-            }
-            Skip::Fault(e) => {
-                return Skip::Fault(e);
-            }
-        },
-        ByteAt::Fault(e) => {
-            return Skip::Fault(e);
-        }
-    }
+    let (_, a) = crate::alignment(s, at)?;
+    let c = token::pass_u32(s, a)?;
+    token::pass_optional(s, c)
 }
 
-fn pass_u64(s: &[u8], at: usize) -> Skip
+#[tactic(auto, using(token::proofs::Skips::passed_over))]
+fn pass_u64(s: &[u8], at: usize) -> Pass
     ensures { stops (Token.u64 s.now at) ≡ skip result }
 {
-    match leb::read_u64(s, at) {
-        U64::Got(_, next) => {
-            return Skip::Past(next);
-        }
-        U64::Fault(e) => {
-            return Skip::Fault(e);
-        }
-    }
+    let (_, next) = leb::read_u64(s, at)?;
+    Ok(next)
 }
 
-fn pass_heap(s: &[u8], at: usize) -> Skip
+#[tactic(auto, using(token::proofs::Skips::passed_over))]
+fn pass_heap(s: &[u8], at: usize) -> Pass
     ensures { stops (Token.ref_type s.now at) ≡ skip result }
 {
-    match coretypes::ref_type(s, at) {
-        ByteAt::Got(_, next) => {
-            return Skip::Past(next);
-        }
-        ByteAt::Fault(e) => {
-            return Skip::Fault(e);
-        }
-    }
+    let (_, next) = coretypes::ref_type(s, at)?;
+    Ok(next)
 }
 
-pub fn pass_plain(s: &[u8], at: usize, what: Operands) -> Skip
+#[tactic(auto, using(token::proofs::Skips::passed_over), unfolding(definition::specs::Instructions::plain_of))]
+pub fn pass_plain(s: &[u8], at: usize, what: Operands) -> Pass
     ensures { stops (Instructions.plain_of 0 (operands_is what) s.now at) ≡ skip result }
 {
     match what {
-        Operands::Bare => Skip::Past(at),
+        Operands::Bare => Ok(at),
         Operands::LabelIdx => token::pass_present(s, at),
         Operands::LabelIdxs => pass_labels(s, at),
         Operands::LocalIdx => token::pass_present(s, at),

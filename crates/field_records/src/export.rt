@@ -4,44 +4,26 @@ ghost use Rattle.definition.specs.Records as Records;
 ghost use Rattle.syntax.specs.Items.{room_of};
 ghost use Rattle.syntax.specs.Fields.{field_at};
 
-use syntax::{Field, FieldAt, IndexAt, PartAt, Seen, SpaceAt};
+use syntax::{Fault, Field, Read, Seen};
 
-pub fn read_export(s: &[u8], at: usize) -> FieldAt
+#[tactic(auto, using(laws::proofs::Ways::ways, syntax::proofs::Ways::reads), unfolding(definition::specs::Records::export_rec))]
+pub fn read_export(s: &[u8], at: usize) -> Read<Field>
     ensures { Records.export_rec s.now at ≡ field_at s.now result }
 {
-    match token::read_string(s, at) {
-        PartAt::Got(name, a) => match item_records::read_kind(s, a) {
-            SpaceAt::Got(space, b) => match token::read_present(s, b) {
-                IndexAt::Got(index, c) => {
-                    return FieldAt::Got(Field::Export { name, space, index }, c);
-                }
-                IndexAt::Fault(e) => {
-                    return FieldAt::Fault(e);
-                }
-            },
-            SpaceAt::Fault(e) => {
-                return FieldAt::Fault(e);
-            }
-        },
-        PartAt::Fault(e) => {
-            return FieldAt::Fault(e);
-        }
-    }
+    let (name, a) = token::read_string(s, at)?;
+    let (space, b) = item_records::read_kind(s, a)?;
+    let (index, c) = token::read_present(s, b)?;
+    Ok((Field::Export { name, space, index }, c))
 }
 
 // A second start is refused.
-pub fn read_start(s: &[u8], at: usize, seen: Seen) -> FieldAt
+#[tactic(auto, using(item_records::proofs::Ways::starts, sources::proofs::Ways::stop_both, laws::proofs::Ways::ways, syntax::proofs::Ways::reads), unfolding(definition::specs::Records::start_rec))]
+pub fn read_start(s: &[u8], at: usize, seen: Seen) -> Read<Field>
     ensures { Records.start_rec (room_of seen) s.now at ≡ field_at s.now result }
 {
     if seen.started {
-        return FieldAt::Fault(9);
+        return Err(Fault::SecondStart);
     }
-    match token::read_present(s, at) {
-        IndexAt::Got(x, next) => {
-            return FieldAt::Got(Field::Start(x), next);
-        }
-        IndexAt::Fault(e) => {
-            return FieldAt::Fault(e);
-        }
-    }
+    let (x, next) = token::read_present(s, at)?;
+    Ok((Field::Start(x), next))
 }

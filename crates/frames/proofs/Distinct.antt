@@ -1,4 +1,6 @@
 -- The locals of a function: no identifier comes twice among the parameters and the locals, and nameless places change nothing of that.
+use Rattle.std.specs.Prelude.{Ok, Err}
+use Rattle.syntax.specs.Refusals.{Resolved}
 use Prim.Native.Nat.{ℕ, zero, suc, ◌+◌, ◌≤◌}
 use mathlib.Core.Path.{◌≡◌, refl, ◌∙◌}
 use mathlib.Core.Bool.{Bool, true, false, ◌&&◌, not}
@@ -12,6 +14,7 @@ use Rattle.definition.specs.Token.{param}
 use Rattle.definition.specs.Types.{is_inline}
 use Rattle.definition.specs.Names.{Namespace, carries, find, taken, distinct, param_count, param_names, locals_of, distinct_locals}
 use Rattle.syntax.specs.Refusals.{refusal, refused_by}
+use Rattle.syntax.specs.declared.Fault.TheVariants as F
 use Rattle.syntax.specs.declared.Refusal.{Refusal}
 use Rattle.area.specs.Layout.{BYTES, LOCALS, WORDS}
 use Rattle.syntax.specs.TypeUses.{elements, list_of, use_of}
@@ -24,11 +27,8 @@ use Rattle.type_table.proofs.Bounds.{params-few}
 use Rattle.syntax.specs.Resolved.{type_no_of}
 use Rattle.syntax.specs.declared.TypeNo.{TypeNo}
 use Rattle.scope.specs.Scope.{scope_in, locals_in}
+use Rattle.scope.specs.declared.Locals.{Locals}
 use Rattle.frames.specs.Locals.{ids_at, ids_of, nameless, Mores, Clashes, PutsAll, SetsLocals}
-use Rattle.frames.specs.declared.locals.EntriesAt.{EntriesAt}
-use Rattle.frames.specs.declared.locals.EntriesAt.TheVariants as E
-use Rattle.frames.specs.declared.locals.LocalsAt.{LocalsAt}
-use Rattle.frames.specs.declared.locals.LocalsAt.TheVariants as L
 use Rattle.frames.proofs.Entries.{ids_length}
 
 -- ## Identifiers that come once
@@ -79,24 +79,24 @@ module _ (s w : List ℕ) (rec : ℕ) (all : Namespace Identifier) where
   unfolding distinct_locals scope_in
   are_distinct e = rw e
 
-  are_not : (q : Refusal) → distinct same_bytes [] all ≡ false → q ≡ refusal 13 rec → distinct_locals (scope_in s w) rec all ≡ refused_by q
+  are_not : (q : Refusal) → distinct same_bytes [] all ≡ false → q ≡ refusal F.NameTaken rec → distinct_locals (scope_in s w) rec all ≡ refused_by q
   unfolding distinct_locals scope_in
   are_not q e d = rw (e, d)
 
 -- ## With an inline type
 
-module _ (s w : List ℕ) (here k : ℕ) (rec : ℕ) (r : EntriesAt) (w' : List ℕ) (first : PutsAll s w 0 here k rec r w') (there m : ℕ) where
-  pub inline_stops : (q : Refusal) → r ≡ E.Refused q → SetsLocals s w rec (ids_at s here k ++ ids_at s there m) (L.Refused q) w'
+module _ (s w : List ℕ) (here k : ℕ) (rec : ℕ) (w' : List ℕ) (there m : ℕ) where
+  pub inline_stops : (q : Refusal) → PutsAll s w 0 here k rec (Err q) w' → SetsLocals s w rec (ids_at s here k ++ ids_at s there m) (Err q) w'
   unfolding PutsAll SetsLocals names
-  inline_stops q d =
-      let o : Clashes s w 0 (ids_at s here k) rec q w' = rw d at first in
+  inline_stops q first =
+      let o : Clashes s w 0 (ids_at s here k) rec q w' = first in
       let e : distinct same_bytes [] (ids_at s here k ++ ids_at s there m) ≡ false = distinct_append same_bytes [] (ids_at s here k) (ids_at s there m) ∙ rw o.twice refl in
       record { says = are_not s w rec (ids_at s here k ++ ids_at s there m) q e o.is; long = o.long }
 
-  module _ (c : ℕ) (d : r ≡ E.Now c) where
+  module _ (c : ℕ) (first : PutsAll s w 0 here k rec (Ok c) w') where
     mores : Mores s w 0 (ids_at s here k) c w'
     unfolding PutsAll
-    mores = rw d at first
+    mores = first
 
     stand : names c s w' LOCALS ≡ ids_at s here k
     unfolding names
@@ -108,20 +108,20 @@ module _ (s w : List ℕ) (here k : ℕ) (rec : ℕ) (r : EntriesAt) (w' : List 
     pub inline_room : length (elements param s here k) ≤ 64 → length (elements param s there m) ≤ 64 → c + length (elements param s there m) ≤ 128
     inline_room a b = omega (arith, mores.all, ids_length s here k)
 
-    module _ (x : EntriesAt) (w'' : List ℕ) (second : PutsAll s w' c there m rec x w'') where
-      pub inline_refused : (q : Refusal) → x ≡ E.Refused q → SetsLocals s w rec (ids_at s here k ++ ids_at s there m) (L.Refused q) w''
+    module _ (w'' : List ℕ) where
+      pub inline_refused : (q : Refusal) → PutsAll s w' c there m rec (Err q) w'' → SetsLocals s w rec (ids_at s here k ++ ids_at s there m) (Err q) w''
       unfolding PutsAll SetsLocals names
-      inline_refused q f =
-          let o : Clashes s w' c (ids_at s there m) rec q w'' = rw f at second in
+      inline_refused q second =
+          let o : Clashes s w' c (ids_at s there m) rec q w'' = second in
           let e : distinct same_bytes [] (ids_at s here k ++ ids_at s there m) ≡ false =
           distinct_append same_bytes [] (ids_at s here k) (ids_at s there m) ∙ rw mores.free (rw stand at o.twice) in
           record { says = are_not s w rec (ids_at s here k ++ ids_at s there m) q e o.is; long = o.long ∙ mores.kept.long }
 
-      pub inline_set : (count : ℕ) → length (elements param s here k) ≤ 64 → length (elements param s there m) ≤ 64 → x ≡ E.Now count
-          → SetsLocals s w rec (ids_at s here k ++ ids_at s there m) (L.Set (record { nameless = 0; count = count })) w''
+      pub inline_set : (count : ℕ) → length (elements param s here k) ≤ 64 → length (elements param s there m) ≤ 64 → PutsAll s w' c there m rec (Ok count) w''
+          → SetsLocals s w rec (ids_at s here k ++ ids_at s there m) (Ok (record { nameless = 0; count = count })) w''
       unfolding PutsAll SetsLocals names locals_in
-      inline_set count a b f =
-          let o : Mores s w' c (ids_at s there m) count w'' = rw f at second in
+      inline_set count a b second =
+          let o : Mores s w' c (ids_at s there m) count w'' = second in
           let e : distinct same_bytes [] (ids_at s here k ++ ids_at s there m) ≡ true =
           distinct_append same_bytes [] (ids_at s here k) (ids_at s there m) ∙ rw mores.free (rw stand at o.free) in
           record {
@@ -135,19 +135,19 @@ pub ruleset inlines = (inline_stops, inline_refused, inline_set)
 
 -- ## Without one
 
-module _ (s w : List ℕ) (t : TypeNo) (here k : ℕ) (rec : ℕ) (r : EntriesAt) (w' : List ℕ) (put : PutsAll s w 0 here k rec r w') where
-  pub nameless-stops : (q : Refusal) → r ≡ E.Refused q → SetsLocals s w rec (nameless s w t ++ ids_at s here k) (L.Refused q) w'
+module _ (s w : List ℕ) (t : TypeNo) (here k : ℕ) (rec : ℕ) (w' : List ℕ) where
+  pub nameless-stops : (q : Refusal) → PutsAll s w 0 here k rec (Err q) w' → SetsLocals s w rec (nameless s w t ++ ids_at s here k) (Err q) w'
   unfolding PutsAll SetsLocals names nameless
-  nameless-stops q d =
-      let o : Clashes s w 0 (ids_at s here k) rec q w' = rw d at put in
+  nameless-stops q put =
+      let o : Clashes s w 0 (ids_at s here k) rec q w' = put in
       let e : distinct same_bytes [] (nameless s w t ++ ids_at s here k) ≡ false = distinct-nameless same_bytes (param_count (at (types_in s w) t.0)) (ids_at s here k) ∙ o.twice in
       record { says = are_not s w rec (nameless s w t ++ ids_at s here k) q e o.is; long = o.long }
 
-  pub nameless-set : (p count : ℕ) → p ≡ param_count (at (types_in s w) t.0) → length s ≤ BYTES → length (elements param s here k) ≤ 64 → r ≡ E.Now count
-      → SetsLocals s w rec (nameless s w t ++ ids_at s here k) (L.Set (record { nameless = p; count = count })) w'
+  pub nameless-set : (p count : ℕ) → p ≡ param_count (at (types_in s w) t.0) → length s ≤ BYTES → length (elements param s here k) ≤ 64 → PutsAll s w 0 here k rec (Ok count) w'
+      → SetsLocals s w rec (nameless s w t ++ ids_at s here k) (Ok (record { nameless = p; count = count })) w'
   unfolding PutsAll SetsLocals names nameless locals_in
-  nameless-set p count g l h d =
-      let o : Mores s w 0 (ids_at s here k) count w' = rw d at put in
+  nameless-set p count g l h put =
+      let o : Mores s w 0 (ids_at s here k) count w' = put in
       let e : distinct same_bytes [] (nameless s w t ++ ids_at s here k) ≡ true = distinct-nameless same_bytes (param_count (at (types_in s w) t.0)) (ids_at s here k) ∙ o.free in
       record {
         distinct = are_distinct s w rec (nameless s w t ++ ids_at s here k) e;
@@ -160,7 +160,7 @@ pub ruleset namelesses = (nameless-stops, nameless-set)
 
 -- ## Of a function
 
-module _ (s w : List ℕ) (n : TypeNo) (t : TypeUse) (ls : Code.List) (rec : ℕ) (r : LocalsAt) (w' : List ℕ) (b : Bool) (e : b ≡ is_inline (use_of s t)) where
+module _ (s w : List ℕ) (n : TypeNo) (t : TypeUse) (ls : Code.List) (rec : ℕ) (r : Resolved Locals) (w' : List ℕ) (b : Bool) (e : b ≡ is_inline (use_of s t)) where
   pub locals_inline : b ≡ true → SetsLocals s w rec (ids_of s t.params ++ ids_of s ls) r w' → SetsLocals s w rec (locals_of (types_in s w) (type_no_of n) (use_of s t) (list_of param s ls)) r w'
   unfolding locals_of param_names ids_at
   locals_inline d h = rw (← e, d) h

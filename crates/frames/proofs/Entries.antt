@@ -1,4 +1,6 @@
 -- Entries of locals: one more, and those of a list.
+use Rattle.std.specs.Prelude.{Ok, Err}
+use Rattle.syntax.specs.Reads.{Read}
 use Prim.Native.Nat.{ℕ, zero, suc, ◌+◌, ◌-◌, ◌*◌, ◌≤◌, ◌<◌}
 use mathlib.Core.Path.{◌≡◌, refl, sym, ◌∙◌, ap}
 use mathlib.Core.Bool.{Bool, true, false}
@@ -12,6 +14,8 @@ use Rattle.definition.specs.Reader.{many}
 use Rattle.definition.specs.Token.{param}
 use Rattle.definition.specs.Names.{taken, distinct}
 use Rattle.syntax.specs.Refusals.{refusal}
+use Rattle.syntax.specs.declared.Fault.{Fault}
+use Rattle.syntax.specs.declared.Fault.TheVariants as F
 use Rattle.syntax.specs.declared.Refusal.{Refusal}
 use Rattle.token.specs.Known.{Gets}
 use Rattle.area.specs.Layout.{LOCALS, WORDS}
@@ -19,8 +23,6 @@ use Rattle.syntax.specs.Tokens.{id_of}
 use Rattle.syntax.specs.declared.Part.{Part}
 use Rattle.syntax.specs.TypeUses.{local_at, elements}
 use Rattle.syntax.specs.declared.Local.{Local}
-use Rattle.syntax.specs.declared.LocalAt.{LocalAt}
-use Rattle.syntax.specs.declared.LocalAt.TheVariants as O
 use Rattle.name_table.specs.Area.{entry_words, names}
 use Rattle.area.specs.Kept.{Kept}
 use Rattle.area.proofs.Kept.{kept_same, kept_then}
@@ -28,8 +30,6 @@ use Rattle.name_table.proofs.Walk.{entry-written}
 use Rattle.name_table.proofs.Tables.{words_kept, names-low, names_snoc}
 use Rattle.runs.proofs.Running.{first-readable, rest-readable}
 use Rattle.frames.specs.Locals.{ids_at, Clash, More, PutsOne, PutsAll}
-use Rattle.frames.specs.declared.locals.EntriesAt.{EntriesAt}
-use Rattle.frames.specs.declared.locals.EntriesAt.TheVariants as E
 
 -- ## One entry
 
@@ -42,11 +42,11 @@ module _ (s w : List ℕ) (count n : ℕ) (p : Part) (rec : ℕ) (e : n ≡ coun
   one_entry = omega arith
 
   module _ (t : Bool) (h : t ≡ taken same_bytes (id_of s p) (names n s w LOCALS)) where
-    pub one-taken : (q : Refusal) → t ≡ true → q ≡ refusal 13 rec → PutsOne s w count p rec (E.Refused q) w
+    pub one-taken : (q : Refusal) → t ≡ true → q ≡ refusal F.NameTaken rec → PutsOne s w count p rec (Err q) w
     unfolding PutsOne
     one-taken q y d = record { twice = rw (← e, ← h) y; is = d; long = refl }
 
-    pub one-put : (w' : List ℕ) → t ≡ false → w' ≡ entry_words s w (LOCALS + 3 * n) p → PutsOne s w count p rec (E.Now (count + 1)) w'
+    pub one-put : (w' : List ℕ) → t ≡ false → w' ≡ entry_words s w (LOCALS + 3 * n) p → PutsOne s w count p rec (Ok (count + 1)) w'
     unfolding PutsOne
     one-put w' y z = record {
       free = rw (← e, ← h) y;
@@ -68,13 +68,13 @@ module _ (s : Bytes) (here : ℕ) where
   ids_none zero h = refl
   ids_none (suc n) h = absurd (omega arith)
 
-  module _ (r : LocalAt) (told : param s here ≡ local_at s r) where
-    ids_cons : (n : ℕ) (l : Local) (next : ℕ) → 0 < n → r ≡ O.Got l next → ids_at s here n ≡ id_of s l.id ∷ ids_at s next (n - 1)
+  module _ (r : Read Local) (told : param s here ≡ local_at s r) where
+    ids_cons : (n : ℕ) (l : Local) (next : ℕ) → 0 < n → r ≡ Ok (l, next) → ids_at s here n ≡ id_of s l.id ∷ ids_at s next (n - 1)
     unfolding ids_at elements
     ids_cons zero l next h d = absurd (omega arith)
     ids_cons (suc n) l next h d = let m : suc n - 1 ≡ n = omega arith in rw (told, d, m)
 
-    ids_fault : (n k : ℕ) → r ≡ O.Fault k → ids_at s here n ≡ []
+    ids_fault : (n : ℕ) (k : Fault) → r ≡ Err k → ids_at s here n ≡ []
     unfolding ids_at elements
     ids_fault zero k d = refl
     ids_fault (suc n) k d = rw (told, d)
@@ -110,7 +110,7 @@ module _ {s w₀ : List ℕ} {from place n : ℕ} {w : List ℕ} {here left coun
   putting_readable h = first-readable s here left v.readable h
 
   -- none is left
-  putting_end : (rec : ℕ) → ids_at s here left ≡ [] → PutsAll s w₀ from place n rec (E.Now count) w
+  putting_end : (rec : ℕ) → ids_at s here left ≡ [] → PutsAll s w₀ from place n rec (Ok count) w
   unfolding PutsAll distinct
   putting_end rec e = record {
     free = sym (rw e at v.same);
@@ -119,15 +119,15 @@ module _ {s w₀ : List ℕ} {from place n : ℕ} {w : List ℕ} {here left coun
     kept = v.kept;
   }
 
-  pub putting_done : (rec : ℕ) → left ≤ 0 → PutsAll s w₀ from place n rec (E.Now count) w
+  pub putting_done : (rec : ℕ) → left ≤ 0 → PutsAll s w₀ from place n rec (Ok count) w
   putting_done rec h = putting_end rec (ids_none s here left h)
 
-  module _ (r : LocalAt) (told : param s here ≡ local_at s r) where
+  module _ (r : Read Local) (told : param s here ≡ local_at s r) where
     -- the list ends where one is not read
-    pub putting_fault : (rec k : ℕ) → r ≡ O.Fault k → PutsAll s w₀ from place n rec (E.Now count) w
+    pub putting_fault : (rec : ℕ) (k : Fault) → r ≡ Err k → PutsAll s w₀ from place n rec (Ok count) w
     putting_fault rec k d = putting_end rec (ids_fault s here r told left k d)
 
-    module _ (x : Local) (next : ℕ) (h : 0 < left) (d : r ≡ O.Got x next) where
+    module _ (x : Local) (next : ℕ) (h : 0 < left) (d : r ≡ Ok (x, next)) where
       ids : ids_at s here left ≡ id_of s x.id ∷ ids_at s next (left - 1)
       ids = ids_cons s here r told left x next h d
 
@@ -135,11 +135,11 @@ module _ {s w₀ : List ℕ} {from place n : ℕ} {w : List ℕ} {here left coun
       pub putting_room : count < 128
       putting_room = (let e = ap length ids in let a = v.sum in let b = v.low in omega arith)
 
-      module _ (rec : ℕ) (q : EntriesAt) (w' : List ℕ) (put : PutsOne s w count x.id rec q w') where
-        pub putting_again : (m : ℕ) → q ≡ E.Now m → Putting s w₀ from place n w' next (left - 1) m
+      module _ (rec : ℕ) (w' : List ℕ) where
+        pub putting_again : (m : ℕ) → PutsOne s w count x.id rec (Ok m) w' → Putting s w₀ from place n w' next (left - 1) m
         unfolding PutsOne distinct
-        putting_again m g =
-            let o : More s w count (id_of s x.id) m w' = rw g at put in
+        putting_again m put =
+            let o : More s w count (id_of s x.id) m w' = put in
             record {
               same = rw o.entries (sym (rw (ids, o.free) refl) ∙ v.same);
               all = rw o.entries (append_assoc (names count s w LOCALS) (id_of s x.id ∷ []) (ids_at s next (left - 1)) ∙ sym (rw ids refl) ∙ v.all);
@@ -149,10 +149,10 @@ module _ {s w₀ : List ℕ} {from place n : ℕ} {w : List ℕ} {here left coun
               readable = rest-readable s here left v.readable r told x next h d;
             }
 
-        pub putting_stops : (j : Refusal) → q ≡ E.Refused j → PutsAll s w₀ from place n rec (E.Refused j) w'
+        pub putting_stops : (j : Refusal) → PutsOne s w count x.id rec (Err j) w' → PutsAll s w₀ from place n rec (Err j) w'
         unfolding PutsOne PutsAll distinct
-        putting_stops j g =
-            let o : Clash (taken same_bytes (id_of s x.id) (names count s w LOCALS)) rec j w w' = rw g at put in
+        putting_stops j put =
+            let o : Clash (taken same_bytes (id_of s x.id) (names count s w LOCALS)) rec j w w' = put in
             record { twice = sym v.same ∙ rw (ids, o.twice) refl; is = o.is; long = o.long ∙ v.kept.long }
 
 pub ruleset puttings = (putting_done, putting_fault, putting_again, putting_stops)

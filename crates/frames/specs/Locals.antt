@@ -1,4 +1,6 @@
 -- The locals of a function in the work area: what was written, or that an identifier comes twice.
+use Rattle.std.specs.Prelude.{Ok, Err}
+use Rattle.syntax.specs.Refusals.{Resolved}
 use Rattle.std.specs.Prelude.{ℕ, ◌+◌, ◌≤◌, ◌≡◌, Bool, true, false, List, [], ◌∷◌, ◌++◌, map, length, replicate}
 use Rattle.std.proofs.Math.Option.{Option, none}
 use Rattle.definition.specs.Basic.{ok, same_bytes, at}
@@ -6,6 +8,7 @@ use Rattle.definition.specs.Syntax.{Bytes, Identifier}
 use Rattle.definition.specs.Token.{param}
 use Rattle.definition.specs.Names.{Namespace, taken, distinct, param_count, distinct_locals}
 use Rattle.syntax.specs.Refusals.{refusal, refused_by}
+use Rattle.syntax.specs.declared.Fault.TheVariants as F
 use Rattle.syntax.specs.declared.Refusal.{Refusal}
 use Rattle.area.specs.Layout.{LOCALS}
 use Rattle.syntax.specs.Tokens.{id_of}
@@ -20,10 +23,6 @@ use Rattle.type_table.specs.Table.{types_in}
 use Rattle.syntax.specs.declared.TypeNo.{TypeNo}
 use Rattle.scope.specs.Scope.{scope_in, locals_in, FewLocals}
 use Rattle.scope.specs.declared.Locals.{Locals}
-use Rattle.frames.specs.declared.locals.EntriesAt.{EntriesAt}
-use Rattle.frames.specs.declared.locals.EntriesAt.TheVariants as E
-use Rattle.frames.specs.declared.locals.LocalsAt.{LocalsAt}
-use Rattle.frames.specs.declared.locals.LocalsAt.TheVariants as L
 
 -- a function's head: at most 64 parameters and 64 locals, and all of them can be read
 pub record Head (s : Bytes) (t : TypeUse) (ls : Code.List) : Type 0 where
@@ -50,7 +49,7 @@ nameless s w n = replicate (param_count (at (types_in s w) n.0)) none
 -- an identifier comes twice: refused by 13 at the function's record, which is also where it was first used
 pub record Clash (t : Bool) (rec : ℕ) (q : Refusal) (w w' : List ℕ) : Type 0 where
   pub twice : t ≡ true
-  pub is : q ≡ refusal 13 rec
+  pub is : q ≡ refusal F.NameTaken rec
   pub long : length w' ≡ length w
 
 -- one entry more
@@ -60,9 +59,9 @@ pub record More (s w : List ℕ) (count : ℕ) (id : Option Identifier) (m : ℕ
   pub one : m ≡ count + 1
   pub kept : Kept LOCALS w w'
 
-unfoldable pub PutsOne : Bytes → List ℕ → ℕ → Part → ℕ → EntriesAt → List ℕ → Type 0
-PutsOne s w count p rec (E.Now m) w' = More s w count (id_of s p) m w'
-PutsOne s w count p rec (E.Refused q) w' = Clash (taken same_bytes (id_of s p) (names count s w LOCALS)) rec q w w'
+unfoldable pub PutsOne : Bytes → List ℕ → ℕ → Part → ℕ → Resolved ℕ → List ℕ → Type 0
+PutsOne s w count p rec (Ok m) w' = More s w count (id_of s p) m w'
+PutsOne s w count p rec (Err q) w' = Clash (taken same_bytes (id_of s p) (names count s w LOCALS)) rec q w w'
 
 -- the entries of a list more
 pub record Mores (s w : List ℕ) (from : ℕ) (ids : Namespace Identifier) (m : ℕ) (w' : List ℕ) : Type 0 where
@@ -74,13 +73,13 @@ pub record Mores (s w : List ℕ) (from : ℕ) (ids : Namespace Identifier) (m :
 -- an identifier of a list is there already, or comes twice in it
 pub record Clashes (s w : List ℕ) (from : ℕ) (ids : Namespace Identifier) (rec : ℕ) (q : Refusal) (w' : List ℕ) : Type 0 where
   pub twice : distinct same_bytes (names from s w LOCALS) ids ≡ false
-  pub is : q ≡ refusal 13 rec
+  pub is : q ≡ refusal F.NameTaken rec
   pub long : length w' ≡ length w
 
 -- of so many locals from a place on
-unfoldable pub PutsAll : Bytes → List ℕ → ℕ → ℕ → ℕ → ℕ → EntriesAt → List ℕ → Type 0
-PutsAll s w from here n rec (E.Now m) w' = Mores s w from (ids_at s here n) m w'
-PutsAll s w from here n rec (E.Refused q) w' = Clashes s w from (ids_at s here n) rec q w'
+unfoldable pub PutsAll : Bytes → List ℕ → ℕ → ℕ → ℕ → ℕ → Resolved ℕ → List ℕ → Type 0
+PutsAll s w from here n rec (Ok m) w' = Mores s w from (ids_at s here n) m w'
+PutsAll s w from here n rec (Err q) w' = Clashes s w from (ids_at s here n) rec q w'
 
 -- ## Locals
 
@@ -96,6 +95,6 @@ pub record Unset (s w : List ℕ) (rec : ℕ) (all : Namespace Identifier) (q : 
   pub says : distinct_locals (scope_in s w) rec all ≡ refused_by q
   pub long : length w' ≡ length w
 
-unfoldable pub SetsLocals : Bytes → List ℕ → ℕ → Namespace Identifier → LocalsAt → List ℕ → Type 0
-SetsLocals s w rec all (L.Set l) w' = Sets s w rec all l w'
-SetsLocals s w rec all (L.Refused q) w' = Unset s w rec all q w'
+unfoldable pub SetsLocals : Bytes → List ℕ → ℕ → Namespace Identifier → Resolved Locals → List ℕ → Type 0
+SetsLocals s w rec all (Ok l) w' = Sets s w rec all l w'
+SetsLocals s w rec all (Err q) w' = Unset s w rec all q w'

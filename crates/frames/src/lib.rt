@@ -5,4 +5,4 @@ pub mod labels;
 pub mod locals;
 
 pub use labels::open_block;
-pub use locals::{LocalsAt, set_locals};
+pub use locals::set_locals;

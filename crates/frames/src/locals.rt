@@ -11,30 +11,23 @@ ghost use Rattle.syntax.specs.Resolved.{type_no_of};
 ghost use Rattle.frames.specs.Locals.{Head, ids_of, nameless, PutsOne, PutsAll, SetsLocals};
 
 use scope::Locals;
-use syntax::{List, LocalAt, Part, Refusal, TypeNo, TypeUse};
-
-// How many entries there are now, or a refusal's number and record.
-#[derive(Clone, Copy)]
-pub enum EntriesAt {
-    Now(u32),
-    Refused(Refusal),
-}
+use syntax::{Fault, List, Part, Resolved, TypeNo, TypeUse};
 
 // One entry more, unless its identifier is there already.
-fn put_local(s: &[u8], work: &mut [u32], count: u32, id: Part, rec: u32) -> EntriesAt
+fn put_local(s: &[u8], work: &mut [u32], count: u32, id: Part, rec: u32) -> Resolved<u32>
     requires { Lent s.now work.old × (count < 128) }
     ensures { PutsOne s.now work.old count id rec result work.new }
 {
     let n = count as usize;
     if name_table::is_taken(s, work, area::LOCALS, n, id) {
-        return EntriesAt::Refused(syntax::refusal_at(13, rec));
+        return Err(syntax::refusal_at(Fault::NameTaken, rec));
     }
     name_table::put_name(s, work, area::LOCALS + 3 * n, id);
-    EntriesAt::Now(count + 1)
+    Ok(count + 1)
 }
 
 // An entry for each of a list, after so many.
-fn put_locals(s: &[u8], work: &mut [u32], from: u32, l: List, rec: u32) -> EntriesAt
+fn put_locals(s: &[u8], work: &mut [u32], from: u32, l: List, rec: u32) -> Resolved<u32>
     requires { Lent s.now work.old × (from + length (list_of Token.param s.now l) ≤ 128) × Readable s.now l }
     ensures { PutsAll s.now work.old from l.at l.count rec result work.new }
 {
@@ -43,58 +36,49 @@ fn put_locals(s: &[u8], work: &mut [u32], from: u32, l: List, rec: u32) -> Entri
     let mut count = from;
     while 0 < left {
         match typeuse::known_local(s, at) {
-            LocalAt::Got(x, next) => match put_local(s, work, count, x.id, rec) {
-                EntriesAt::Now(more) => {
-                    at = next;
-                    count = more;
-                    left -= 1;
-                }
-                EntriesAt::Refused(q) => {
-                    return EntriesAt::Refused(q);
-                }
-            },
-            LocalAt::Fault(_) => {
-                return EntriesAt::Now(count);
+            Ok((x, next)) => {
+                let more = put_local(s, work, count, x.id, rec)?;
+                at = next;
+                count = more;
+                left -= 1;
+            }
+            Err(_) => {
+                return Ok(count);
             }
         }
     }
-    EntriesAt::Now(count)
-}
-
-#[derive(Clone, Copy)]
-pub enum LocalsAt {
-    Set(Locals),
-    Refused(Refusal),
+    Ok(count)
 }
 
 // The parameters of an inline type bring their identifiers.
-fn set_inline(s: &[u8], work: &mut [u32], params: List, ls: List, rec: u32) -> LocalsAt
+fn set_inline(s: &[u8], work: &mut [u32], params: List, ls: List, rec: u32) -> Resolved<Locals>
     requires { Lent s.now work.old × (length (list_of Token.param s.now params) ≤ 64) × (length (list_of Token.param s.now ls) ≤ 64) × Readable s.now params × Readable s.now ls }
     ensures { SetsLocals s.now work.old rec (ids_of s.now params ++ ids_of s.now ls) result work.new }
 {
-    match put_locals(s, work, 0, params, rec) {
-        EntriesAt::Now(n) => match put_locals(s, work, n, ls, rec) {
-            EntriesAt::Now(count) => LocalsAt::Set(Locals { nameless: 0, count }),
-            EntriesAt::Refused(q) => LocalsAt::Refused(q),
-        },
-        EntriesAt::Refused(q) => LocalsAt::Refused(q),
-    }
+    let n = put_locals(s, work, 0, params, rec)?;
+    let count = put_locals(s, work, n, ls, rec)?;
+    Ok(Locals { nameless: 0, count })
 }
 
 // Without one the parameters of the named type are nameless places.
-fn set_nameless(s: &[u8], work: &mut [u32], n: TypeNo, ls: List, rec: u32) -> LocalsAt
+fn set_nameless(s: &[u8], work: &mut [u32], n: TypeNo, ls: List, rec: u32) -> Resolved<Locals>
     requires { Lent s.now work.old × (length (list_of Token.param s.now ls) ≤ 64) × Readable s.now ls }
     ensures { SetsLocals s.now work.old rec (nameless s.now work.old n ++ ids_of s.now ls) result work.new }
 {
     let nameless = type_table::param_count(s, work, n.0);
-    match put_locals(s, work, 0, ls, rec) {
-        EntriesAt::Now(count) => LocalsAt::Set(Locals { nameless, count }),
-        EntriesAt::Refused(q) => LocalsAt::Refused(q),
-    }
+    let count = put_locals(s, work, 0, ls, rec)?;
+    Ok(Locals { nameless, count })
 }
 
 // The locals of a function of this type.
-pub fn set_locals(s: &[u8], work: &mut [u32], n: TypeNo, t: TypeUse, ls: List, rec: u32) -> LocalsAt
+pub fn set_locals(
+    s: &[u8],
+    work: &mut [u32],
+    n: TypeNo,
+    t: TypeUse,
+    ls: List,
+    rec: u32,
+) -> Resolved<Locals>
     requires { Lent s.now work.old × Head s.now t ls }
     ensures { SetsLocals s.now work.old rec (Names.locals_of (types_in s.now work.old) (type_no_of n) (use_of s.now t) (list_of Token.param s.now ls)) result work.new }
 {

@@ -16,12 +16,11 @@ ghost use Rattle.instr.specs.Bodies.{body_from};
 ghost use Rattle.code.specs.Body.{Resolvable};
 ghost use Rattle.function.specs.Function.{body_answer, code_bytes, sized_bytes, EmitsCode, MeasuresCode, MeasuresSized, EmitsAgain, EmitsTyped, EmitsFunc};
 
-use binary::Emitted;
-use frames::LocalsAt;
-use scope::{Locals, TypeAt};
-use syntax::{List, TypeNo, TypeUse};
+use scope::Locals;
+use syntax::{List, Resolved, TypeNo, TypeUse};
 
 // The locals and the body.
+#[tactic(auto, using(crate::proofs::Laws::code_to, crate::proofs::Laws::code_not))]
 fn emit_code(
     s: &[u8],
     work: &mut [u32],
@@ -31,19 +30,25 @@ fn emit_code(
     rec: u32,
     ls: List,
     l: Locals,
-) -> Emitted
+) -> Resolved<usize>
     requires { Lent s.now work.old × FewLocals l × (rec < 4096) × Resolvable s.now work.old (body_from 0 (rec + 1) s.now here) × Readable s.now ls }
     ensures { EmitsCode (code_bytes s.now ls) (body_answer s.now work.old rec here l) work.old out.old at result work.new out.new }
 {
     let a = runs::put_runs(s, out, at, ls);
-    match code::emit_body(s, work, out, a, here, rec + 1, l) {
-        Emitted::To(b) => Emitted::To(emit::put(out, b, 0x0B)),
-        Emitted::Refused(q) => Emitted::Refused(q),
-    }
+    let b = code::emit_body(s, work, out, a, here, rec + 1, l)?;
+    Ok(emit::put(out, b, 0x0B))
 }
 
 // How long they are.
-fn measure_code(s: &[u8], work: &mut [u32], here: usize, rec: u32, ls: List, l: Locals) -> Emitted
+#[tactic(auto, using(crate::proofs::Laws::code_measured))]
+fn measure_code(
+    s: &[u8],
+    work: &mut [u32],
+    here: usize,
+    rec: u32,
+    ls: List,
+    l: Locals,
+) -> Resolved<usize>
     requires { Lent s.now work.old × FewLocals l × (rec < 4096) × Resolvable s.now work.old (body_from 0 (rec + 1) s.now here) × Readable s.now ls }
     ensures { MeasuresCode (code_bytes s.now ls) (body_answer s.now work.old rec here l) work.old result work.new }
 {
@@ -52,6 +57,7 @@ fn measure_code(s: &[u8], work: &mut [u32], here: usize, rec: u32, ls: List, l: 
 }
 
 // Both, after their length, at a place where nothing can be stored.
+#[tactic(auto, using(crate::proofs::Laws::measured_to, crate::proofs::Laws::measured_not))]
 fn measure_sized(
     s: &[u8],
     work: &mut [u32],
@@ -60,17 +66,13 @@ fn measure_sized(
     rec: u32,
     ls: List,
     l: Locals,
-) -> Emitted
+) -> Resolved<usize>
     requires { Lent s.now work.old × FewLocals l × (rec < 4096) × Resolvable s.now work.old (body_from 0 (rec + 1) s.now here) × Readable s.now ls }
     ensures { MeasuresSized (code_bytes s.now ls) (body_answer s.now work.old rec here l) work.old at result work.new }
 {
-    match measure_code(s, work, here, rec, ls, l) {
-        Emitted::To(n) => {
-            let a = emit::tally(at, leb::group_count(n as u64));
-            Emitted::To(emit::tally(a, n))
-        }
-        Emitted::Refused(q) => Emitted::Refused(q),
-    }
+    let n = measure_code(s, work, here, rec, ls, l)?;
+    let a = emit::tally(at, leb::group_count(n as u64));
+    Ok(emit::tally(a, n))
 }
 
 // Where `n` bytes that end at `b`, after a place for one group, end after all the groups of their length.
@@ -91,6 +93,7 @@ fn put_length(out: &mut [u8], at: usize, n: usize) -> usize
 }
 
 // The length, and after it the code once more: of what was written, not all has room after the whole length.
+#[tactic(auto, using(crate::proofs::Laws::again_to))]
 fn emit_again(
     s: &[u8],
     work: &mut [u32],
@@ -101,7 +104,7 @@ fn emit_again(
     n: usize,
     ls: List,
     l: Locals,
-) -> Emitted
+) -> Resolved<usize>
     requires { Lent s.now work.old × FewLocals l × (rec < 4096) × Resolvable s.now work.old (body_from 0 (rec + 1) s.now here) × Readable s.now ls }
     ensures { EmitsAgain (code_bytes s.now ls) (body_answer s.now work.old rec here l) work.old out.old at n result work.new out.new }
 {
@@ -120,7 +123,7 @@ fn emit_sized(
     rec: u32,
     ls: List,
     l: Locals,
-) -> Emitted
+) -> Resolved<usize>
     requires { Lent s.now work.old × FewLocals l × (rec < 4096) × Resolvable s.now work.old (body_from 0 (rec + 1) s.now here) × Readable s.now ls }
     ensures { EmitsCode (sized_bytes s.now ls) (body_answer s.now work.old rec here l) work.old out.old at result work.new out.new }
 {
@@ -128,20 +131,16 @@ fn emit_sized(
         return measure_sized(s, work, at, here, rec, ls, l);
     }
     let a = at + 1;
-    match emit_code(s, work, out, a, here, rec, ls, l) {
-        Emitted::To(b) => {
-            let n = b - a;
-            if n < 128 {
-                emit::put(out, at, n as u8);
-                return Emitted::To(b);
-            }
-            if sized_end(b, n) <= out.len() {
-                return Emitted::To(put_length(out, at, n));
-            }
-            emit_again(s, work, out, at, here, rec, n, ls, l)
-        }
-        Emitted::Refused(q) => Emitted::Refused(q),
+    let b = emit_code(s, work, out, a, here, rec, ls, l)?;
+    let n = b - a;
+    if n < 128 {
+        emit::put(out, at, n as u8);
+        return Ok(b);
     }
+    if sized_end(b, n) <= out.len() {
+        return Ok(put_length(out, at, n));
+    }
+    emit_again(s, work, out, at, here, rec, n, ls, l)
 }
 
 // The entry of a function whose type's number is known: its locals, and then its code.
@@ -155,17 +154,16 @@ pub fn emit_typed(
     ls: List,
     here: usize,
     rec: u32,
-) -> Emitted
+) -> Resolved<usize>
     requires { At s.now work.old rec × Resolvable s.now work.old (body_from 0 (rec + 1) s.now here) × Head s.now t ls }
     ensures { EmitsTyped s.now work.old rec (type_no_of n) t ls here out.old at result work.new out.new }
 {
-    match frames::set_locals(s, work, n, t, ls, rec) {
-        LocalsAt::Set(l) => emit_sized(s, work, out, at, here, rec, ls, l),
-        LocalsAt::Refused(q) => Emitted::Refused(q),
-    }
+    let l = frames::set_locals(s, work, n, t, ls, rec)?;
+    emit_sized(s, work, out, at, here, rec, ls, l)
 }
 
 // The entry of a function: its type, its locals, its body.
+#[tactic(auto, using(crate::proofs::Laws::func_to, crate::proofs::Laws::func_not))]
 pub fn emit_func(
     s: &[u8],
     work: &mut [u32],
@@ -175,12 +173,10 @@ pub fn emit_func(
     ls: List,
     here: usize,
     rec: u32,
-) -> Emitted
+) -> Resolved<usize>
     requires { At s.now work.old rec × Recalled work.old (types_in s.now work.old) (Types.used_at rec (Types.use_of (use_of s.now t))) × Resolvable s.now work.old (body_from 0 (rec + 1) s.now here) × Head s.now t ls }
     ensures { EmitsFunc s.now work.old rec t ls here out.old at result work.new out.new }
 {
-    match scope::type_no(s, work, t, rec) {
-        TypeAt::To(n) => emit_typed(s, work, out, at, n, t, ls, here, rec),
-        TypeAt::Refused(q) => Emitted::Refused(q),
-    }
+    let n = scope::type_no(s, work, t, rec)?;
+    emit_typed(s, work, out, at, n, t, ls, here, rec)
 }

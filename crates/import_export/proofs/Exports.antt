@@ -1,4 +1,7 @@
 -- Laws of exports, of the start and of globals.
+use Rattle.std.specs.Prelude.{Ok, Err}
+use Rattle.syntax.specs.Reads.{Read}
+use Rattle.syntax.specs.Refusals.{Resolved}
 use Prim.Native.Nat.{ℕ, ◌+◌, ◌-◌, ◌*◌, ◌^◌, ◌≤◌, ◌<◌}
 use mathlib.Core.Path.{◌≡◌, refl, sym, ◌∙◌, ap}
 use mathlib.Core.List.{List, [], ◌∷◌, ◌++◌, append_assoc, append-nil}
@@ -11,20 +14,16 @@ use Rattle.definition.specs.Syntax.{Bytes, Identifier, Space, code, funcs}
 use Rattle.definition.specs.Token.{string}
 use Rattle.definition.specs.Names.{Scope, item_no, const_op, own_item, resolve}
 use Rattle.definition.specs.Binary.{u, sized, global_type, entries, joined}
+use Rattle.syntax.specs.Refusals.{number}
+use Rattle.syntax.specs.declared.Fault.{Fault}
 use Rattle.syntax.specs.declared.Refusal.{Refusal}
 use Rattle.emit.specs.Put.{Put}
 use Rattle.emit.proofs.Laws.{put-none, put_then, put_is}
 use Rattle.syntax.specs.Tokens.{part_of, part_at}
 use Rattle.syntax.specs.declared.Part.{Part}
-use Rattle.syntax.specs.declared.PartAt.{PartAt}
-use Rattle.syntax.specs.declared.PartAt.TheVariants as P
 use Rattle.syntax.specs.TypeUses.{elements}
 use Rattle.name_table.specs.Area.{resolved}
-use Rattle.name_table.specs.declared.table.Resolved.{Resolved}
-use Rattle.name_table.specs.declared.table.Resolved.TheVariants as R
 use Rattle.binary.specs.Emits.{Emits}
-use Rattle.binary.specs.declared.Emitted.{Emitted}
-use Rattle.binary.specs.declared.Emitted.TheVariants as E
 use Rattle.binary.proofs.Emitting.{wrote, halts, emits-map, put-emits}
 use Rattle.import_export.specs.Entry.{entry_of, export_entries, Lists}
 use Rattle.operands.specs.Operands.{const_bytes}
@@ -32,28 +31,28 @@ use Rattle.operands.proofs.Elements.{elements-none, elements-more, elements-faul
 
 -- ## `emit_export`
 
-module _ (Γ : Scope Identifier) (rec : ℕ) (n : Bytes) (k : Space) (x : Syntax.Index Identifier) (y : Resolved) (told : item_no Γ k rec x ≡ resolved y) (old : List ℕ) (at : ℕ) (new : List ℕ) where
-  abbrev Export : Emitted → Type 0
+module _ (Γ : Scope Identifier) (rec : ℕ) (n : Bytes) (k : Space) (x : Syntax.Index Identifier) (y : Resolved ℕ) (told : item_no Γ k rec x ≡ resolved y) (old : List ℕ) (at : ℕ) (new : List ℕ) where
+  abbrev Export : Resolved ℕ → Type 0
   Export r = Emits entry_of (resolve Γ rec (Syntax.export_f n k x)) old at r new
 
-  pub export_to : (m r : ℕ) → y ≡ R.To m → Put old at (sized n ++ (code k ∷ u m)) r new → Export (E.To r)
+  pub export_to : (m r : ℕ) → y ≡ Ok m → Put old at (sized n ++ (code k ∷ u m)) r new → Export (Ok r)
   unfolding resolve entry_of entries ◌>>=◌
   export_to m r d p = wrote entry_of (resolve Γ rec (Syntax.export_f n k x)) old at new (Syntax.export_i n k m) r p (rw (told, d))
 
-  pub export_not : (r : Refusal) → y ≡ R.Refused r → Export (E.Refused r)
+  pub export_not : (r : Refusal) → y ≡ Err r → Export (Err r)
   unfolding resolve ◌>>=◌
   export_not r d = halts entry_of (resolve Γ rec (Syntax.export_f n k x)) old at new r (rw (told, d))
 
 -- ## `emit_start`
 
-pub start_is : (Γ : Scope Identifier) (rec : ℕ) (x : Syntax.Index Identifier) (old : List ℕ) (at : ℕ) (q : Emitted) (new : List ℕ) → Emits u (item_no Γ funcs rec x) old at q new
+pub start_is : (Γ : Scope Identifier) (rec : ℕ) (x : Syntax.Index Identifier) (old : List ℕ) (at : ℕ) (q : Resolved ℕ) (new : List ℕ) → Emits u (item_no Γ funcs rec x) old at q new
     → Emits entry_of (resolve Γ rec (Syntax.start_f x)) old at q new
 unfolding resolve entry_of entries
 start_is Γ rec x old at q new w = emits-map u entry_of (λ m. Syntax.start_i m) (item_no Γ funcs rec x) old at q new (λ m. refl) w
 
 -- ## `emit_global`
 
-pub global-is : (Γ : Scope Identifier) (rec : ℕ) (t : Syntax.GlobalType) (c : Syntax.Plain Identifier) (old : List ℕ) (at o : ℕ) (mid : List ℕ) (q : Emitted) (new : List ℕ) → Put old at (global_type t) o mid
+pub global-is : (Γ : Scope Identifier) (rec : ℕ) (t : Syntax.GlobalType) (c : Syntax.Plain Identifier) (old : List ℕ) (at o : ℕ) (mid : List ℕ) (q : Resolved ℕ) (new : List ℕ) → Put old at (global_type t) o mid
     → Emits const_bytes (const_op Γ rec c) mid o q new → Emits entry_of (resolve Γ rec (Syntax.own_f none (Syntax.own_global t c) [])) old at q new
 unfolding resolve own_item entry_of entries const_bytes
 global-is Γ rec t c old at o mid q new p w = put-emits const_bytes entry_of (λ o. Syntax.global_i t o) (const_op Γ rec c) old at (global_type t) o mid q new (λ o. refl) p w
@@ -89,11 +88,11 @@ module _ {s : Bytes} {at count : ℕ} {k : Space} {n : ℕ} {old : List ℕ} {pl
   pub export_long : length out ≡ length old
   export_long = v.so_far.long
 
-  module _ (q : PartAt) (told : string s here ≡ part_at s q) where
-    pub export_fault : (m : ℕ) → q ≡ P.Fault m → Ended
-    export_fault m d = none_left (elements-fault string s here left m (told ∙ ap (part_at s) d))
+  module _ (q : Read Part) (told : string s here ≡ part_at s q) where
+    pub export_fault : (m : Fault) → q ≡ Err m → Ended
+    export_fault m d = none_left (elements-fault string s here left (number m) (told ∙ ap (part_at s) d))
 
-    pub export_again : (e : Part) (next r : ℕ) (new : List ℕ) → 0 < left → q ≡ P.Got e next → Put out o (sized (part_of s e) ++ (code k ∷ u n)) r new → Exporting s at count k n old place r (c + 1) next (left - 1) new
+    pub export_again : (e : Part) (next r : ℕ) (new : List ℕ) → 0 < left → q ≡ Ok (e, next) → Put out o (sized (part_of s e) ++ (code k ∷ u n)) r new → Exporting s at count k n old place r (c + 1) next (left - 1) new
     unfolding joined export_entries
     export_again e next r new h d p = record {
       done = v.done ++ ((sized (part_of s e) ++ (code k ∷ u n)) ∷ []);

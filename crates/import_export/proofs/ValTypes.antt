@@ -1,49 +1,32 @@
 -- Laws of lists of value types.
+use Rattle.std.specs.Prelude.{Ok, Err}
+use Rattle.syntax.specs.Reads.{Read}
 use Prim.Native.Nat.{ℕ, ◌-◌, ◌≤◌, ◌<◌}
 use mathlib.Core.Path.{◌≡◌, refl, sym, ◌∙◌, ap}
-use mathlib.Core.Bool.{Bool, true, false}
+use mathlib.Core.Bool.{Bool, false}
 use mathlib.Core.List.{List, [], ◌∷◌}
 use lib.ListN.{length}
 use Rattle.definition.specs.Basic.{concat_map}
 use Rattle.definition.specs.Syntax.{Bytes}
-use Rattle.definition.specs.Token.{param, val_type}
 use Rattle.definition.specs.Binary.{u, byte, vec, func_type}
 use Rattle.emit.specs.Put.{Put}
 use Rattle.emit.proofs.Laws.{put_then, put_cons, put_is}
 use Rattle.syntax.specs.Tokens.{byte_at}
-use Rattle.syntax.specs.declared.ByteAt.{ByteAt}
-use Rattle.syntax.specs.declared.ByteAt.TheVariants as B
-use Rattle.syntax.specs.TypeUses.{local_at, elements}
+use Rattle.syntax.specs.Refusals.{number}
+use Rattle.syntax.specs.TypeUses.{elements}
 use Rattle.syntax.specs.declared.List as Code
-use Rattle.syntax.specs.declared.Local.{Local}
-use Rattle.syntax.specs.declared.LocalAt.{LocalAt}
-use Rattle.syntax.specs.declared.LocalAt.TheVariants as L
+use Rattle.syntax.specs.declared.Fault.{Fault}
 use Rattle.type_table.specs.Table.{typed, types_of, signature_of}
 use Rattle.type_table.specs.declared.entry.Signature.{Signature}
 use Rattle.type_table.proofs.Lists.{types_are}
 use Rattle.binary.proofs.Putting.{Putting, putting_more, putting_done}
 use Rattle.operands.proofs.Elements.{elements-none, elements-more, elements-fault}
 
--- ## One value type
-
-module _ (s : Bytes) (at : ℕ) (named : Bool) where
-  module _ (q : LocalAt) (h : named ≡ true) (told : param s at ≡ local_at s q) where
-    pub after-id : (l : Local) (next : ℕ) → q ≡ L.Got l next → typed named s at ≡ byte_at (B.Got l.value next)
-    after-id l next d = rw (h, told, d)
-
-    pub no_id : (n : ℕ) → q ≡ L.Fault n → typed named s at ≡ byte_at (B.Fault n)
-    no_id n d = rw (h, told, d)
-
-  pub without_id : (q : ByteAt) → named ≡ false → val_type s at ≡ byte_at q → typed named s at ≡ byte_at q
-  without_id q h told = rw (h, told)
-
-pub ruleset type_Reads = (after-id, no_id, without_id)
-
 -- ## `put_each_type`
 
 -- some are put, and so many are left
 module _ (s : Bytes) (named : Bool) (here left : ℕ) {old : List ℕ} {place : ℕ} {all : List ℕ} {o : ℕ} {out : List ℕ} (v : Putting old place all (elements (typed named) s here left) o out) where
-  pub types_again : (q : ByteAt) → typed named s here ≡ byte_at q → (t next r : ℕ) (new : List ℕ) → 0 < left → q ≡ B.Got t next → Put out o (t ∷ []) r new → Putting old place all (elements (typed named) s next (left - 1)) r new
+  pub types_again : (q : Read ℕ) → typed named s here ≡ byte_at q → (t next r : ℕ) (new : List ℕ) → 0 < left → q ≡ Ok (t, next) → Put out o (t ∷ []) r new → Putting old place all (elements (typed named) s next (left - 1)) r new
   types_again q told t next r new h d p = putting_more v (t ∷ []) (elements (typed named) s next (left - 1)) r new (elements-more (typed named) s here left t next h (told ∙ ap byte_at d)) p
 
 module _ (s : Bytes) (named : Bool) (l : Code.List) (here left : ℕ) {old : List ℕ} {place o : ℕ} {out : List ℕ} (v : Putting old place (elements (typed named) s l.at l.count) (elements (typed named) s here left) o out) where
@@ -53,8 +36,8 @@ module _ (s : Bytes) (named : Bool) (l : Code.List) (here left : ℕ) {old : Lis
   pub types-done : left ≤ 0 → Put old place (types_of named s l) o out
   types-done h = none_left (elements-none (typed named) s here left h)
 
-  pub types-fault : (q : ByteAt) (n : ℕ) → typed named s here ≡ byte_at q → q ≡ B.Fault n → Put old place (types_of named s l) o out
-  types-fault q n told d = none_left (elements-fault (typed named) s here left n (told ∙ ap byte_at d))
+  pub types-fault : (q : Read ℕ) (n : Fault) → typed named s here ≡ byte_at q → q ≡ Err n → Put old place (types_of named s l) o out
+  types-fault q n told d = none_left (elements-fault (typed named) s here left (number n) (told ∙ ap byte_at d))
 
 -- ## After their count
 

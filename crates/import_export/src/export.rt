@@ -10,9 +10,7 @@ ghost use Rattle.scope.specs.Scope.{scope_in};
 ghost use Rattle.binary.specs.Emits.{Emits};
 ghost use Rattle.import_export.specs.Entry.{entry_of, export_entries, Lists};
 
-use binary::Emitted;
-use name_table::Resolved;
-use syntax::{Index, List, Part, PartAt, Space};
+use syntax::{Index, List, Part, Resolved, Space};
 
 // The place after some entries, and how many there are.
 #[derive(Clone, Copy)]
@@ -30,14 +28,12 @@ pub fn emit_export(
     k: Space,
     x: Index,
     rec: u32,
-) -> Emitted
+) -> Resolved<usize>
     requires { WORDS ≤ length work.now }
     ensures { Emits entry_of (Names.resolve (scope_in s.now work.now) rec (export_f (part_of s.now name) (space_of k) (index_of s.now x))) out.old at result out.new }
 {
-    match scope::item_no(s, work, k, x, rec) {
-        Resolved::To(n) => Emitted::To(binary::put_export(s, out, at, name, k, n)),
-        Resolved::Refused(r) => Emitted::Refused(r),
-    }
+    let n = scope::item_no(s, work, k, x, rec)?;
+    Ok(binary::put_export(s, out, at, name, k, n))
 }
 
 // The exports that stand inline, each of the item numbered n.
@@ -50,13 +46,13 @@ pub fn put_exports(s: &[u8], out: &mut [u8], at: usize, exports: List, k: Space,
     let mut left = exports.count;
     while 0 < left {
         match token::read_string(s, here) {
-            PartAt::Got(name, next) => {
+            Ok((name, next)) => {
                 to = binary::put_export(s, out, to, name, k, n);
                 count += 1;
                 here = next;
                 left -= 1;
             }
-            PartAt::Fault(_) => {
+            Err(_) => {
                 return Ends { to, count };
             }
         }
@@ -64,7 +60,14 @@ pub fn put_exports(s: &[u8], out: &mut [u8], at: usize, exports: List, k: Space,
     Ends { to, count }
 }
 
-pub fn emit_start(s: &[u8], work: &[u32], out: &mut [u8], at: usize, x: Index, rec: u32) -> Emitted
+pub fn emit_start(
+    s: &[u8],
+    work: &[u32],
+    out: &mut [u8],
+    at: usize,
+    x: Index,
+    rec: u32,
+) -> Resolved<usize>
     requires { WORDS ≤ length work.now }
     ensures { Emits entry_of (Names.resolve (scope_in s.now work.now) rec (start_f (index_of s.now x))) out.old at result out.new }
 {

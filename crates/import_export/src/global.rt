@@ -10,8 +10,7 @@ ghost use Rattle.scope.specs.Scope.{scope_in};
 ghost use Rattle.binary.specs.Emits.{Emits};
 ghost use Rattle.import_export.specs.Entry.{entry_of};
 
-use binary::Emitted;
-use syntax::GlobalType;
+use syntax::{GlobalType, Resolved};
 
 pub fn emit_global(
     s: &[u8],
@@ -21,7 +20,7 @@ pub fn emit_global(
     t: GlobalType,
     c: usize,
     rec: u32,
-) -> Emitted
+) -> Resolved<usize>
     requires { WORDS ≤ length work.now }
     ensures { Emits entry_of (Names.resolve (scope_in s.now work.now) rec (own_f none (own_global (global_type_is t) (constant_at s.now c)) [])) out.old at result out.new }
 {

@@ -16,9 +16,7 @@ ghost use Rattle.syntax.specs.Resolved.{type_no_of};
 ghost use Rattle.binary.specs.Emits.{Emits};
 ghost use Rattle.import_export.specs.Entry.{entry_of};
 
-use binary::Emitted;
-use scope::TypeAt;
-use syntax::{Extern, GlobalType, ImportName, Limits, TableType, TypeNo, TypeUse};
+use syntax::{Extern, GlobalType, ImportName, Limits, Resolved, TableType, TypeNo, TypeUse};
 
 fn put_func(out: &mut [u8], at: usize, n: TypeNo) -> usize
     ensures { Put out.old at (0x00 ∷ Binary.u (type_no_of n).type_no) result out.new }
@@ -55,26 +53,31 @@ fn emit_func_type(
     at: usize,
     t: TypeUse,
     rec: u32,
-) -> Emitted
+) -> Resolved<usize>
     requires { (WORDS ≤ length work.now) × Recalled work.now (types_in s.now work.now) (Types.used_at rec (Types.use_of (use_of s.now t))) }
     ensures { Emits Binary.extern_type (Names.extern_no (scope_in s.now work.now) rec (func (use_of s.now t))) out.old at result out.new }
 {
-    match scope::type_no(s, work, t, rec) {
-        TypeAt::To(n) => Emitted::To(put_func(out, at, n)),
-        TypeAt::Refused(r) => Emitted::Refused(r),
-    }
+    let n = scope::type_no(s, work, t, rec)?;
+    Ok(put_func(out, at, n))
 }
 
 // What is imported.
-fn emit_extern(s: &[u8], work: &[u32], out: &mut [u8], at: usize, what: Extern, rec: u32) -> Emitted
+fn emit_extern(
+    s: &[u8],
+    work: &[u32],
+    out: &mut [u8],
+    at: usize,
+    what: Extern,
+    rec: u32,
+) -> Resolved<usize>
     requires { (WORDS ≤ length work.now) × Recalled work.now (types_in s.now work.now) (Types.used_at rec (Types.extern_uses (extern_is s.now what))) }
     ensures { Emits Binary.extern_type (Names.extern_no (scope_in s.now work.now) rec (extern_is s.now what)) out.old at result out.new }
 {
     match what {
         Extern::Func(t) => emit_func_type(s, work, out, at, t, rec),
-        Extern::Table(t) => Emitted::To(put_table(out, at, t)),
-        Extern::Mem(l) => Emitted::To(put_mem(out, at, l)),
-        Extern::Global(t) => Emitted::To(put_global(out, at, t)),
+        Extern::Table(t) => Ok(put_table(out, at, t)),
+        Extern::Mem(l) => Ok(put_mem(out, at, l)),
+        Extern::Global(t) => Ok(put_global(out, at, t)),
     }
 }
 
@@ -86,7 +89,7 @@ pub fn emit_import(
     name: ImportName,
     what: Extern,
     rec: u32,
-) -> Emitted
+) -> Resolved<usize>
     requires { (WORDS ≤ length work.now) × Recalled work.now (types_in s.now work.now) (Types.used_at rec (Types.extern_uses (extern_is s.now what))) }
     ensures { Emits entry_of (Names.resolve (scope_in s.now work.now) rec (import_f (name_of s.now name) none (extern_is s.now what))) out.old at result out.new }
 {

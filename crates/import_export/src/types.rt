@@ -5,18 +5,16 @@ ghost use Rattle.emit.specs.Put.{Put};
 ghost use Rattle.syntax.specs.Tokens.{byte_at};
 ghost use Rattle.type_table.specs.Table.{typed, types_of, signature_of};
 
-use syntax::{ByteAt, List, LocalAt};
+use syntax::{List, Read};
 use type_table::Signature;
 
 // A value type, after an identifier or not.
-fn read_type(s: &[u8], at: usize, named: bool) -> ByteAt
+fn read_type(s: &[u8], at: usize, named: bool) -> Read<u8>
     ensures { typed named s.now at ≡ byte_at result }
 {
     if named {
-        return match typeuse::read_local(s, at) {
-            LocalAt::Got(l, next) => ByteAt::Got(l.value, next),
-            LocalAt::Fault(e) => ByteAt::Fault(e),
-        };
+        let (l, next) = typeuse::read_local(s, at)?;
+        return Ok((l.value, next));
     }
     coretypes::val_type(s, at)
 }
@@ -30,12 +28,12 @@ fn put_each_type(s: &[u8], out: &mut [u8], at: usize, named: bool, l: List) -> u
     let mut left = l.count;
     while 0 < left {
         match read_type(s, here, named) {
-            ByteAt::Got(value, next) => {
+            Ok((value, next)) => {
                 o = emit::put(out, o, value);
                 here = next;
                 left -= 1;
             }
-            ByteAt::Fault(_) => {
+            Err(_) => {
                 return o;
             }
         }

@@ -5,7 +5,7 @@
 ghost use Rattle.std.specs.Prelude.{◌≡◌};
 ghost use Rattle.import_order.specs.Order.{source_standing, standing, is_late, late_after};
 
-use syntax::{Field, Source};
+use syntax::{Field, Own, Source};
 
 // What a field is to the order of imports.
 #[derive(Clone, Copy)]
@@ -30,37 +30,13 @@ pub fn field_standing(f: Field) -> Standing
     ensures { result ≡ standing f }
 {
     match f {
-        Field::Type {
-            id: _,
-            params: _,
-            results: _,
-        } => Standing::Neither,
-        Field::Import {
-            name: _,
-            id: _,
-            what: _,
-        } => Standing::Import,
-        Field::Item {
-            id: _,
-            exports: _,
-            source,
-        } => source_standing(source),
-        Field::Export {
-            name: _,
-            space: _,
-            index: _,
-        } => Standing::Neither,
+        Field::Type { .. } => Standing::Neither,
+        Field::Import { .. } => Standing::Import,
+        Field::Item { source, .. } => source_standing(source),
+        Field::Export { .. } => Standing::Neither,
         Field::Start(_) => Standing::Neither,
-        Field::Elem {
-            id: _,
-            mode: _,
-            funcs: _,
-        } => Standing::Neither,
-        Field::Data {
-            id: _,
-            mode: _,
-            bytes: _,
-        } => Standing::Neither,
+        Field::Elem { .. } => Standing::Neither,
+        Field::Data { .. } => Standing::Neither,
     }
 }
 

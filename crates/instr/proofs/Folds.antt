@@ -1,32 +1,21 @@
 -- Folded records that are passed over, along what the calls of the code answered.
-use mathlib.Core.Path.{◌≡◌, refl, sym, ◌∙◌, ap}
+use Rattle.std.specs.Prelude.{Some, None}
+use mathlib.Core.Path.{◌≡◌, refl, sym, ◌∙◌}
 use Prim.Native.Nat.{ℕ}
-use mathlib.Core.List.{List, [], ◌∷◌}
+use mathlib.Core.Option.{Option}
 use native.Mathlib.Omega.{arith}
-use Rattle.definition.specs.Syntax.{Bytes, Identifier, Instr, folded}
+use Rattle.definition.specs.Syntax.{Bytes, Identifier, TypeUse, Instr, folded}
 use Rattle.definition.specs.Reader.{Step, got, fault, onward, byte}
 use Rattle.definition.specs.Token.{up_to, optional, type_use}
-use Rattle.definition.specs.Instructions.{calling, form_of, plain_of, instruction, may_fold, operator_of, operator, fold}
+use Rattle.definition.specs.Instructions.{Form, calling, form_of, plain_of, instruction, may_fold, operator_of, operator, fold}
 use Rattle.laws.specs.Steps.{stops}
-use Rattle.syntax.specs.Numbers.{u32_at}
-use Rattle.syntax.specs.declared.U32.{U32}
-use Rattle.syntax.specs.declared.U32.TheVariants as U32
-use Rattle.syntax.specs.Tokens.{byte_at, skip}
-use Rattle.syntax.specs.declared.ByteAt.{ByteAt}
-use Rattle.syntax.specs.declared.ByteAt.TheVariants as B
-use Rattle.syntax.specs.declared.Skip.{Skip}
-use Rattle.syntax.specs.declared.Skip.TheVariants as S
-use Rattle.syntax.specs.TypeUses.{use_at}
-use Rattle.syntax.specs.declared.TypeUse.{TypeUse}
-use Rattle.syntax.specs.declared.UseAt.{UseAt}
-use Rattle.syntax.specs.declared.UseAt.TheVariants as UA
+use Rattle.syntax.proofs.Ways.{fault_handed, skip_handed}
 use Rattle.syntax.specs.Plain.{operands_is}
 use Rattle.syntax.specs.declared.Operands.{Operands}
 use Rattle.syntax.specs.Instructions.{form_is}
 use Rattle.syntax.specs.declared.Form as Code
 use Rattle.syntax.specs.declared.Form.TheVariants as F
-use Rattle.syntax.specs.declared.Folding.TheVariants as FO
-use Rattle.token.proofs.Skips.{Gave, stops-made, stops_then, gave, gave_not}
+use Rattle.token.proofs.Skips.{Gave, gave_at, stopped_at, stops-made, stops_then}
 use Rattle.token.specs.Known.{Gets}
 use Rattle.token.proofs.Gets.{gets_first, gets_rest}
 use Rattle.expr.proofs.Skips.{any-opcode}
@@ -35,49 +24,49 @@ use Rattle.instr.specs.Readers.{count_of, Parted}
 
 -- ## The operator
 
-module _ (s : Bytes) (at : ℕ) (x : Step (Unit {0})) (q : ByteAt) (told : byte s at ≡ byte_at q) where
-  pub operator-none : (n : ℕ) → q ≡ B.Fault n → fault n ≡ x → stops (operator s at) ≡ x
+module _ (s : Bytes) (at : ℕ) where
+  pub operator_none : (n : ℕ) → byte s at ≡ fault n → stops (operator s at) ≡ fault n
   unfolding operator
-  operator-none n d p = rw (told, d) p
+  operator_none n told = rw told
 
-  module _ (b a : ℕ) (d : q ≡ B.Got b a) (f : Code.Form) (says : form_of b ≡ form_is f) where
+  module _ (b a : ℕ) (told : byte s at ≡ got b a) where
     -- no opcode, and those that are barred
-    pub no_opcode : f ≡ F.NoOpcode → fault 4 ≡ x → stops (operator s at) ≡ x
+    pub no_opcode : form_of b ≡ form_is F.NoOpcode → stops (operator s at) ≡ fault 4
     unfolding operator
-    no_opcode e p = rw (told, d, says, e) p
+    no_opcode says = rw (told, says)
 
-    pub barred_opening : f ≡ F.Opening → fault 4 ≡ x → stops (operator s at) ≡ x
+    pub barred_opening : form_of b ≡ form_is F.Opening → stops (operator s at) ≡ fault 4
     unfolding operator may_fold
-    barred_opening e p = rw (told, d, says, e) p
+    barred_opening says = rw (told, says)
 
-    pub barred_elsing : f ≡ F.Elsing → fault 4 ≡ x → stops (operator s at) ≡ x
+    pub barred_elsing : form_of b ≡ form_is F.Elsing → stops (operator s at) ≡ fault 4
     unfolding operator may_fold
-    barred_elsing e p = rw (told, d, says, e) p
+    barred_elsing says = rw (told, says)
 
-    pub barred_ending : f ≡ F.Ending → fault 4 ≡ x → stops (operator s at) ≡ x
+    pub barred_ending : form_of b ≡ form_is F.Ending → stops (operator s at) ≡ fault 4
     unfolding operator may_fold
-    barred_ending e p = rw (told, d, says, e) p
+    barred_ending says = rw (told, says)
 
-    pub operator-plain : (w : Operands) → f ≡ F.Operands w → stops (plain_of 0 (operands_is w) s a) ≡ x → stops (operator s at) ≡ x
+    pub operator_plain : (w : Operands) → form_of b ≡ form_is (F.Operands w) → stops (operator s at) ≡ stops (plain_of 0 (operands_is w) s a)
     unfolding operator may_fold instruction
-    operator-plain w e p = rw (told, d, says, e) (stops-made _ (plain_of b (operands_is w) s a) ∙ any-opcode b (operands_is w) s a ∙ p)
+    operator_plain w says = rw (told, says) (stops-made _ (plain_of b (operands_is w) s a) ∙ any-opcode b (operands_is w) s a)
 
     -- a call_indirect: its table, and its type
-    module _ (e : f ≡ F.Calling) (u : Skip) (table : stops (optional s a) ≡ skip u) where
-      pub table_not : (n : ℕ) → u ≡ S.Fault n → fault n ≡ x → stops (operator s at) ≡ x
+    module _ (says : form_of b ≡ form_is F.Calling) where
+      pub table_not : (n : ℕ) → stops (optional s a) ≡ fault n → stops (operator s at) ≡ fault n
       unfolding operator may_fold instruction
-      table_not n c p = rw (told, d, says, e, gave_not (optional s a) u n table c) p
+      table_not n e = rw (told, says, stopped_at (optional s a) n e)
 
-      module _ (c : ℕ) (g : u ≡ S.Past c) (r : UseAt) (type : type_use s c ≡ use_at s r) where
-        pub type-past : (t : TypeUse) (n : ℕ) → r ≡ UA.Got t n → got tt n ≡ x → stops (operator s at) ≡ x
+      module _ (c : ℕ) (table : stops (optional s a) ≡ got tt c) where
+        pub type_past : (t : TypeUse Identifier) (n : ℕ) → type_use s c ≡ got t n → stops (operator s at) ≡ got tt n
         unfolding operator may_fold instruction
-        type-past t n h p = rw (told, d, says, e) (stops_then _ x (optional s a) u c table g (λ y. rw (type, h) p))
+        type_past t n e = rw (told, says) (stops_then _ _ (optional s a) c table (λ y. rw e))
 
-        pub type_not : (n : ℕ) → r ≡ UA.Fault n → fault n ≡ x → stops (operator s at) ≡ x
+        pub type_not : (n : ℕ) → type_use s c ≡ fault n → stops (operator s at) ≡ fault n
         unfolding operator may_fold instruction
-        type_not n h p = rw (told, d, says, e) (stops_then _ x (optional s a) u c table g (λ y. rw (type, h) p))
+        type_not n e = rw (told, says) (stops_then _ _ (optional s a) c table (λ y. rw e))
 
-pub ruleset operators = (operator-none, no_opcode, barred_opening, barred_elsing, barred_ending, operator-plain, table_not, type-past, type_not, refl)
+pub ruleset operators = (operator_none, no_opcode, barred_opening, barred_elsing, barred_ending, operator_plain, table_not, type_past, type_not, skip_handed)
 
 -- ## Its count
 
@@ -85,14 +74,16 @@ count-made : (m : Step ℕ) (x : Instr Identifier) → count_of (onward (λ n ne
 count-made (got n next) x = refl
 count-made (fault n) x = refl
 
-module _ (s : Bytes) (at : ℕ) (u : Skip) (told : stops (operator s at) ≡ skip u) where
-  pub fold-counts : (a : ℕ) (y : Step ℕ) → u ≡ S.Past a → up_to 7 16 s a ≡ y → count_of (fold s at) ≡ y
+module _ (s : Bytes) (at : ℕ) where
+  pub fold_counts : (a : ℕ) → stops (operator s at) ≡ got tt a → count_of (fold s at) ≡ up_to 7 16 s a
   unfolding fold
-  fold-counts a y d e = let g = gave (operator s at) u a told d in rw g.is (count-made (up_to 7 16 s a) g.value ∙ e)
+  fold_counts a told = let g = gave_at (operator s at) a told in rw g.is (count-made (up_to 7 16 s a) g.value)
 
-  pub fold_not : (n : ℕ) (y : Step ℕ) → u ≡ S.Fault n → fault n ≡ y → count_of (fold s at) ≡ y
+  pub fold_not : (n : ℕ) → stops (operator s at) ≡ fault n → count_of (fold s at) ≡ fault n
   unfolding fold
-  fold_not n y d p = rw (gave_not (operator s at) u n told d) p
+  fold_not n told = rw (stopped_at (operator s at) n told)
+
+pub ruleset counts = (fold_counts, fold_not, fault_handed)
 
 -- ## One that was read before
 
@@ -100,29 +91,26 @@ gets_not : {A : Type 0} {m : Step A} → Gets m → (n : ℕ) → m ≡ fault n 
 gets_not g n e = let z : got g.value g.next ≡ fault n = sym g.is ∙ e in let o : ◌≡◌ {A = ℕ} 0 1 = cc in absurd (omega arith)
 
 -- what stands after the opcode of its operator, by the form
-module _ (s : Bytes) (op at : ℕ) (f : Code.Form) (says : form_of op ≡ form_is f) (x : Step (Unit {0})) where
-  pub form_plain : (w : Operands) → f ≡ F.Operands w → stops (plain_of 0 (operands_is w) s at) ≡ x → stops (operator_of op (form_of op) s at) ≡ x
+module _ (s : Bytes) (op at : ℕ) (o : Option Form) where
+  pub form_plain : (w : Operands) → o ≡ form_is (F.Operands w) → stops (operator_of op o s at) ≡ stops (plain_of 0 (operands_is w) s at)
   unfolding may_fold instruction
-  form_plain w e p = rw (says, e) (stops-made _ (plain_of op (operands_is w) s at) ∙ any-opcode op (operands_is w) s at ∙ p)
+  form_plain w e = rw e (stops-made _ (plain_of op (operands_is w) s at) ∙ any-opcode op (operands_is w) s at)
 
-  pub form_calls : f ≡ F.Calling → stops (instruction op calling s at) ≡ x → stops (operator_of op (form_of op) s at) ≡ x
+  pub form_calls : o ≡ form_is F.Calling → stops (operator_of op o s at) ≡ stops (instruction op calling s at)
   unfolding may_fold
-  form_calls e p = rw (says, e) p
+  form_calls e = rw e
 
   -- none other can be folded
-  pub form_barred : ((w : Operands) → f ≡ F.Operands w → ⊥) → (f ≡ F.Calling → ⊥) → fault 4 ≡ x → stops (operator_of op (form_of op) s at) ≡ x
+  pub form_barred : (f : Code.Form) → o ≡ form_is f → ((w : Operands) → f ≡ F.Operands w → ⊥) → (f ≡ F.Calling → ⊥) → stops (operator_of op o s at) ≡ fault 4
   unfolding may_fold
-  form_barred h k p = go f refl
-    where
-      go : (g : Code.Form) → f ≡ g → stops (operator_of op (form_of op) s at) ≡ x
-      go F.NoOpcode e = rw (says, e) p
-      go F.Opening e = rw (says, e) p
-      go F.Elsing e = rw (says, e) p
-      go F.Ending e = rw (says, e) p
-      go F.Calling e = absurd (k e)
-      go (F.Operands w) e = absurd (h w e)
+  form_barred F.NoOpcode e h k = rw e
+  form_barred F.Opening e h k = rw e
+  form_barred F.Elsing e h k = rw e
+  form_barred F.Ending e h k = rw e
+  form_barred F.Calling e h k = absurd (k refl)
+  form_barred (F.Operands w) e h k = absurd (h w refl)
 
-pub ruleset skipped = (form_plain, form_calls, form_barred, refl)
+pub ruleset skipped = (form_plain, form_calls)
 
 -- all of it, where each part is there
 fold-made : (s : Bytes) (here b a op c at : ℕ) (x : Instr Identifier) (y : Step ℕ) → byte s here ≡ got b a → byte s a ≡ got op c → operator_of op (form_of op) s c ≡ got x at → up_to 7 16 s at ≡ y
@@ -130,53 +118,52 @@ fold-made : (s : Bytes) (here b a op c at : ℕ) (x : Instr Identifier) (y : Ste
 unfolding fold_here fold operator
 fold-made s here b a op c at x y first opcode reads count = rw (first, opcode, reads, count) refl
 
-module _ (s : Bytes) (here : ℕ) (g : Gets (fold_here s here)) (q : ByteAt) (told : byte s here ≡ byte_at q) where
-  pub no_fold : (n : ℕ) → q ≡ B.Fault n → Parted s here FO.Unread
+module _ (s : Bytes) (here : ℕ) (g : Gets (fold_here s here)) where
+  pub no_fold : (n : ℕ) → byte s here ≡ fault n → Parted s here None
   unfolding Parted fold_here
-  no_fold n d = gets_not (gets_first _ (byte s here) g) n (told ∙ ap byte_at d)
+  no_fold n e = gets_not (gets_first _ (byte s here) g) n e
 
-  module _ (b a : ℕ) (d : q ≡ B.Got b a) (q' : ByteAt) (told' : byte s a ≡ byte_at q') where
-    after-fold : Gets (fold s a)
+  module _ (b a : ℕ) (e : byte s here ≡ got b a) where
+    after_fold : Gets (fold s a)
     unfolding fold_here
-    after-fold = gets_rest _ (byte s here) g b a (told ∙ ap byte_at d)
+    after_fold = gets_rest _ (byte s here) g b a e
 
-    is-operator : Gets (operator s a)
+    is_operator : Gets (operator s a)
     unfolding fold
-    is-operator = gets_first _ (operator s a) after-fold
+    is_operator = gets_first _ (operator s a) after_fold
 
-    pub no_operator : (n : ℕ) → q' ≡ B.Fault n → Parted s here FO.Unread
+    pub no_operator : (n : ℕ) → byte s a ≡ fault n → Parted s here None
     unfolding Parted operator
-    no_operator n e = gets_not (gets_first _ (byte s a) is-operator) n (told' ∙ ap byte_at e)
+    no_operator n d = gets_not (gets_first _ (byte s a) is_operator) n d
 
-    module _ (op c : ℕ) (e : q' ≡ B.Got op c) where
-      pub after-opcode : Gets (operator_of op (form_of op) s c)
+    module _ (op c : ℕ) (d : byte s a ≡ got op c) where
+      pub after_opcode : Gets (operator_of op (form_of op) s c)
       unfolding operator
-      after-opcode = gets_rest _ (byte s a) is-operator op c (told' ∙ ap byte_at e)
+      after_opcode = gets_rest _ (byte s a) is_operator op c d
 
-      module _ (u : Skip) (passed : stops (operator_of op (form_of op) s c) ≡ skip u) where
-        pub no_count : (n : ℕ) → u ≡ S.Fault n → Parted s here FO.Unread
+      pub no_count : (n : ℕ) → stops (operator_of op (form_of op) s c) ≡ fault n → Parted s here None
+      unfolding Parted
+      no_count n h = gets_not after_opcode n (stopped_at (operator_of op (form_of op) s c) n h)
+
+      module _ (at : ℕ) (h : stops (operator_of op (form_of op) s c) ≡ got tt at) where
+        abbrev Here : Gave (operator_of op (form_of op) s c) at
+        Here = gave_at (operator_of op (form_of op) s c) at h
+
+        fold_is : (y : Step ℕ) → up_to 7 16 s at ≡ y → fold_here s here ≡ onward (λ n next. got (folded Here.value n) next) y
+        fold_is y k = fold-made s here b a op c at Here.value y e d Here.is k
+
+        pub count_not : (n : ℕ) → up_to 7 16 s at ≡ fault n → Parted s here None
         unfolding Parted
-        no_count n h = gets_not after-opcode n (gave_not (operator_of op (form_of op) s c) u n passed h)
+        count_not n k = gets_not g n (fold_is (fault n) k)
 
-        module _ (at : ℕ) (h : u ≡ S.Past at) (v : U32) (counted : up_to 7 16 s at ≡ u32_at v) where
-          abbrev Here : Gave (operator_of op (form_of op) s c) at
-          Here = gave (operator_of op (form_of op) s c) u at passed h
+        pub all_parts : (n next : ℕ) (f : Code.Form) → up_to 7 16 s at ≡ got n next → form_of op ≡ form_is f → Parted s here (Some (record { opcode = op; form = f; at = c; count = n; next = next }))
+        unfolding Parted
+        all_parts n next f k says = record {
+          says = says;
+          operator = Here.value;
+          past = at;
+          reads = Here.is;
+          whole = fold_is (got n next) k;
+        }
 
-          fold_is : (y : Step ℕ) → up_to 7 16 s at ≡ y → fold_here s here ≡ onward (λ n next. got (folded Here.value n) next) y
-          fold_is y k = fold-made s here b a op c at Here.value y (told ∙ ap byte_at d) (told' ∙ ap byte_at e) Here.is k
-
-          pub count_not : (n : ℕ) → v ≡ U32.Fault n → Parted s here FO.Unread
-          unfolding Parted
-          count_not n k = gets_not g n (fold_is (fault n) (counted ∙ ap u32_at k))
-
-          pub all-parts : (n next : ℕ) (f : Code.Form) → v ≡ U32.Got n next → form_of op ≡ form_is f → Parted s here (FO.Parts op f c n next)
-          unfolding Parted
-          all-parts n next f k says = record {
-            says = says;
-            operator = Here.value;
-            past = at;
-            reads = Here.is;
-            whole = fold_is (got n next) (counted ∙ ap u32_at k);
-          }
-
-pub ruleset parted = (no_fold, no_operator, no_count, count_not, all-parts)
+pub ruleset parted = (no_fold, no_operator, after_opcode, no_count, count_not, all_parts)

@@ -8,28 +8,11 @@ use borrow.Author.Tests.{lt-ltb}
 use native.Mathlib.Omega.{arith}
 use Rattle.definition.specs.Syntax as Syntax
 use Rattle.definition.specs.Syntax.{Bytes, Identifier}
-use Rattle.definition.specs.Reader.{Step, fault, onward, require, ◌>>◌}
+use Rattle.definition.specs.Reader.{Step, got, fault, require, ◌>>◌}
 use Rattle.definition.specs.Instructions.{Form, opening, elsing, ending, instruction, is_open, admits, formed, operator_of}
 use Rattle.laws.specs.Depths.{deep}
 use Rattle.laws.proofs.Bodies.{deep-length, deep_open, deep_else}
-use Rattle.syntax.specs.Tokens.{byte_at}
-use Rattle.syntax.specs.Instructions.{form_is, instr_is, instr_at}
-use Rattle.syntax.specs.declared.ByteAt.{ByteAt}
-use Rattle.syntax.specs.declared.ByteAt.TheVariants as B
-use Rattle.syntax.specs.declared.Form as Code
-use Rattle.syntax.specs.declared.Instr.{Instr}
-use Rattle.syntax.specs.declared.InstrAt.{InstrAt}
-use Rattle.syntax.specs.declared.InstrAt.TheVariants as IA
 use Rattle.instr.specs.Bodies.{deep_instr, Head, one, unread, on_byte, one_of}
-
-module _ {C : Type 0} (x : Step C) (s : Bytes) where
-  pub instr-got : (k : Syntax.Instr Identifier → ℕ → Step C) (m : Step (Syntax.Instr Identifier)) (r : InstrAt) (a : Instr) (n : ℕ) → m ≡ instr_at s r → r ≡ IA.Got a n → k (instr_is s a) n ≡ x → onward k m ≡ x
-  instr-got k m r a n e d p = rw (e, d) p
-
-  pub instr_not : (k : Syntax.Instr Identifier → ℕ → Step C) (m : Step (Syntax.Instr Identifier)) (r : InstrAt) (n : ℕ) → m ≡ instr_at s r → r ≡ IA.Fault n → fault n ≡ x → onward k m ≡ x
-  instr_not k m r n e d p = rw (e, d) p
-
-pub ruleset instr-answers = (instr-got, instr_not)
 
 -- ## The forms
 
@@ -59,10 +42,9 @@ module _ (k op : ℕ) where
 
 pub ruleset tested = (opening_tests, elsing_tests, ending_tests)
 
--- the form of an opcode was matched
-pub form_is_lem : (o : Option Form) (r v : Code.Form) (k op : ℕ) (s : Bytes) (at : ℕ) (x : Step (Syntax.Instr Identifier))
-    → o ≡ form_is r → r ≡ v → formed (deep k) op (form_is v) s at ≡ x → formed (deep k) op o s at ≡ x
-form_is_lem o r v k op s at x e d p = rw (e, d) p
+-- the form of an opcode is known
+pub form_is_lem : (o f : Option Form) (k op : ℕ) (s : Bytes) (at : ℕ) (x : Step (Syntax.Instr Identifier)) → o ≡ f → formed (deep k) op f s at ≡ x → formed (deep k) op o s at ≡ x
+form_is_lem o f k op s at x e p = rw e p
 
 -- ## The end of a body
 
@@ -75,25 +57,24 @@ deep_not_shut (suc k) n = rw (deep_open (suc k), lt-ltb 0 (suc k) (omega arith))
 
 -- ## What stands in a body
 
-module _ {C : Type 0} (x : C) where
-  pub byte-is : (m : Step ℕ) (q : ByteAt) (b n : ℕ) (f : ℕ → ℕ → C) (z : C) → m ≡ byte_at q → q ≡ B.Got b n → x ≡ f b n → x ≡ on_byte m f z
-  byte-is m q b n f z e d p = rw (e, d) p
+module _ {C : Type 0} (x : C) (m : Step ℕ) where
+  pub byte_is : (b n : ℕ) (f : ℕ → ℕ → C) (z : C) → m ≡ got b n → x ≡ f b n → x ≡ on_byte m f z
+  byte_is b n f z e p = rw e p
 
-  pub byte-none : (m : Step ℕ) (q : ByteAt) (n : ℕ) (f : ℕ → ℕ → C) (z : C) → m ≡ byte_at q → q ≡ B.Fault n → x ≡ z → x ≡ on_byte m f z
-  byte-none m q n f z e d p = rw (e, d) p
+  pub byte_none : (n : ℕ) (f : ℕ → ℕ → C) (z : C) → m ≡ fault n → x ≡ z → x ≡ on_byte m f z
+  byte_none n f z e p = rw e p
 
-module _ (x : Head) (s : Bytes) (m : Step (Syntax.Instr Identifier)) (q : InstrAt) (e : m ≡ instr_at s q) where
-  pub one-is : (i : Instr) (n : ℕ) → q ≡ IA.Got i n → x ≡ one (instr_is s i) n → x ≡ one_of m
-  one-is i n d p = rw (e, d) p
+module _ (x : Head) (m : Step (Syntax.Instr Identifier)) where
+  pub one_is : (i : Syntax.Instr Identifier) (n : ℕ) → m ≡ got i n → x ≡ one i n → x ≡ one_of m
+  one_is i n e p = rw e p
 
-  pub one_none : (n : ℕ) → q ≡ IA.Fault n → x ≡ unread → x ≡ one_of m
-  one_none n d p = rw (e, d) p
+  pub one_none : (n : ℕ) → m ≡ fault n → x ≡ unread → x ≡ one_of m
+  one_none n e p = rw e p
 
-pub ruleset heads = (byte-is, byte-none, one-is, one_none)
+pub ruleset heads = (refl, byte_is, byte_none, one_is, one_none)
 
 -- ## Folded records
 
--- the form of an operator was matched
-pub operator-is : (o : Option Form) (r v : Code.Form) (op : ℕ) (s : Bytes) (at : ℕ) (x : Step (Syntax.Instr Identifier))
-    → o ≡ form_is r → r ≡ v → operator_of op (form_is v) s at ≡ x → operator_of op o s at ≡ x
-operator-is o r v op s at x e d p = rw (e, d) p
+-- the form of an operator is known
+pub operator_is : (o f : Option Form) (op : ℕ) (s : Bytes) (at : ℕ) (x : Step (Syntax.Instr Identifier)) → o ≡ f → operator_of op f s at ≡ x → operator_of op o s at ≡ x
+operator_is o f op s at x e p = rw e p

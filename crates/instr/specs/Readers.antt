@@ -1,16 +1,15 @@
 -- Readers of the definition as the code divides them, and what its answers mean.
-use Rattle.std.specs.Prelude.{ℕ, ◌≡◌, eqb, ltb, if◌then◌else◌}
+use Rattle.std.specs.Prelude.{ℕ, ◌≡◌, Option as Optional, Some, None, eqb, ltb, if◌then◌else◌}
 use Rattle.std.proofs.Math.Option.{Option, none, some}
 use Rattle.definition.specs.Syntax.{Bytes, Identifier, Instr, Rec, field, instr, folded, body_end}
 use Rattle.definition.specs.Reader.{Step, got, fault}
 use Rattle.definition.specs.Instructions as Instructions
 use Rattle.definition.specs.Instructions.{operands}
 use Rattle.syntax.specs.Instructions.{form_is, instr_is}
-use Rattle.syntax.specs.declared.BodyAt.{BodyAt}
-use Rattle.syntax.specs.declared.BodyAt.TheVariants as BA
 use Rattle.syntax.specs.declared.Form.{Form}
 use Rattle.syntax.specs.declared.Folding.{Folding}
-use Rattle.syntax.specs.declared.Folding.TheVariants as FO
+use Rattle.syntax.specs.declared.BodyRec.{BodyRec}
+use Rattle.syntax.specs.declared.BodyRec.TheVariants as B
 use Rattle.instr.specs.Bodies.{Head, one, folding, ended, unread, fold_here}
 
 -- the definition's ranges of opcodes from 45 on, as the code tests them
@@ -24,11 +23,11 @@ high_form b =
     none
 
 -- what stands in a body
-abbrev pub head_is : Bytes → BodyAt → Head
-head_is s (BA.Got i next) = one (instr_is s i) next
-head_is s BA.Folded = folding
-head_is s (BA.End next) = ended next
-head_is s BA.Unread = unread
+abbrev pub head_is : Bytes → Optional BodyRec → Head
+head_is s (Some (B.Instr i next)) = one (instr_is s i) next
+head_is s (Some B.Folded) = folding
+head_is s (Some (B.End next)) = ended next
+head_is s None = unread
 
 -- the count of a folded record's operands
 abbrev pub count_of : Step (Rec Identifier) → Step ℕ
@@ -47,6 +46,6 @@ pub record Parts (s : Bytes) (here op : ℕ) (form : Form) (at count next : ℕ)
   pub whole : fold_here s here ≡ got (folded operator count) next
 
 -- one that was read before has them
-unfoldable pub Parted : Bytes → ℕ → Folding → Type 0
-Parted s here (FO.Parts op form at count next) = Parts s here op form at count next
-Parted s here FO.Unread = ⊥
+unfoldable pub Parted : Bytes → ℕ → Optional Folding → Type 0
+Parted s here (Some f) = Parts s here f.opcode f.form f.at f.count f.next
+Parted s here None = ⊥

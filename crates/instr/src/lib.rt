@@ -14,12 +14,10 @@ ghost use Rattle.instr.specs.Bodies.{deep_instr, head_at, fold_here};
 ghost use Rattle.instr.specs.Known.{IsRead, ReadableAt, ReadableBody, ReadableFold};
 ghost use Rattle.instr.specs.Readers.{high_form, head_is, count_of, Parted};
 
-use syntax::{
-    BodyAt, ByteAt, FoldAt, Folding, Form, IndexAt, Instr, InstrAt, Operands, PartAt, Plain,
-    PlainAt, Skip, U32, UseAt,
-};
+use syntax::{BodyRec, Fault, Folding, Form, Instr, Operands, Pass, Plain, Read};
 
 // Opcodes below 45, one by one: so the back end makes one table of them, and no test has to be foretold.
+#[tactic(auto, using(crate::proofs::Forms::no_early), unfolding(definition::specs::Instructions::form_of, definition::specs::Instructions::form_in, definition::specs::Instructions::opcodes, definition::specs::Basic::between))]
 fn early_form(opcode: u8) -> Form
     requires { opcode < 0x45 }
     ensures { Instructions.form_of opcode ≡ form_is result }
@@ -79,6 +77,7 @@ fn early_form(opcode: u8) -> Form
 }
 
 // From 45 on: numeric instructions, then references, then what has a second byte.
+#[tactic(auto, using(laws::proofs::Exits::exits), unfolding(crate::specs::Readers::high_form))]
 fn high_form(b: u8) -> Form
     ensures { form_is result ≡ high_form b }
 {
@@ -100,6 +99,7 @@ fn high_form(b: u8) -> Form
     Form::NoOpcode
 }
 
+#[tactic(auto, using(crate::proofs::Forms::high_is))]
 pub fn opcode_form(opcode: u8) -> Form
     ensures { Instructions.form_of opcode ≡ form_is result }
 {
@@ -110,374 +110,221 @@ pub fn opcode_form(opcode: u8) -> Form
 }
 
 // Instructions that are known to be readable: of their names only the lengths are looked at.
-fn opens(s: &[u8], at: usize, opcode: u8, k: u32) -> InstrAt
+#[tactic(auto, using(syntax::proofs::Ways::reads, laws::proofs::Ways::ways, crate::proofs::Ways::tested, crate::proofs::Known::opened), unfolding(definition::specs::Instructions::instruction))]
+fn opens(s: &[u8], at: usize, opcode: u8, k: u32) -> Read<Instr>
     requires { Gets (deep_instr k opcode Instructions.opening s.now at) }
     ensures { (deep_instr k opcode Instructions.opening s.now at ≡ instr_at s.now result) × ReadableAt s.now result }
 {
     if 128 <= k {
-        return InstrAt::Fault(7);
+        return Err(Fault::TooMany);
     }
-    match token::known_identifier(s, at) {
-        PartAt::Got(label, a) => match typeuse::known_type_use(s, a) {
-            UseAt::Got(t, b) => {
-                return InstrAt::Got(Instr::Opens(opcode, label, t), b);
-            }
-            UseAt::Fault(e) => {
-                return InstrAt::Fault(e);
-            }
-        },
-        PartAt::Fault(e) => {
-            return InstrAt::Fault(e);
-        }
-    }
+    let (label, a) = token::known_identifier(s, at)?;
+    let (t, b) = typeuse::known_type_use(s, a)?;
+    Ok((Instr::Opens(opcode, label, t), b))
 }
 
-fn elses(s: &[u8], at: usize, opcode: u8, k: u32) -> InstrAt
+#[tactic(auto, using(syntax::proofs::Ways::reads, laws::proofs::Ways::ways, crate::proofs::Ways::tested, crate::proofs::Known::elsed), unfolding(definition::specs::Instructions::instruction))]
+fn elses(s: &[u8], at: usize, opcode: u8, k: u32) -> Read<Instr>
     requires { Gets (deep_instr k opcode Instructions.elsing s.now at) }
     ensures { (deep_instr k opcode Instructions.elsing s.now at ≡ instr_at s.now result) × ReadableAt s.now result }
 {
     if k < 1 {
-        return InstrAt::Fault(8);
+        return Err(Fault::BrokenBlocks);
     }
-    match token::known_identifier(s, at) {
-        PartAt::Got(label, next) => {
-            return InstrAt::Got(Instr::Elses(label), next);
-        }
-        PartAt::Fault(e) => {
-            return InstrAt::Fault(e);
-        }
-    }
+    let (label, next) = token::known_identifier(s, at)?;
+    Ok((Instr::Elses(label), next))
 }
 
-fn ends(s: &[u8], at: usize, opcode: u8, k: u32) -> InstrAt
+#[tactic(auto, using(syntax::proofs::Ways::reads, laws::proofs::Ways::ways, crate::proofs::Ways::tested, crate::proofs::Known::ended), unfolding(definition::specs::Instructions::instruction))]
+fn ends(s: &[u8], at: usize, opcode: u8, k: u32) -> Read<Instr>
     requires { Gets (deep_instr k opcode Instructions.ending s.now at) }
     ensures { (deep_instr k opcode Instructions.ending s.now at ≡ instr_at s.now result) × ReadableAt s.now result }
 {
     if k < 1 {
-        return InstrAt::Fault(8);
+        return Err(Fault::BrokenBlocks);
     }
-    match token::known_identifier(s, at) {
-        PartAt::Got(label, next) => {
-            return InstrAt::Got(Instr::Ends(label), next);
-        }
-        PartAt::Fault(e) => {
-            return InstrAt::Fault(e);
-        }
-    }
+    let (label, next) = token::known_identifier(s, at)?;
+    Ok((Instr::Ends(label), next))
 }
 
-fn indirect(s: &[u8], at: usize, opcode: u8) -> InstrAt
+#[tactic(auto, using(syntax::proofs::Ways::reads, crate::proofs::Known::called), unfolding(definition::specs::Instructions::instruction))]
+fn indirect(s: &[u8], at: usize, opcode: u8) -> Read<Instr>
     requires { Gets (Instructions.instruction opcode Instructions.calling s.now at) }
     ensures { (Instructions.instruction opcode Instructions.calling s.now at ≡ instr_at s.now result) × ReadableAt s.now result }
 {
-    match token::known_optional(s, at) {
-        IndexAt::Got(x, a) => match typeuse::known_type_use(s, a) {
-            UseAt::Got(t, b) => {
-                return InstrAt::Got(Instr::Indirect(x, t), b);
-            }
-            UseAt::Fault(e) => {
-                return InstrAt::Fault(e);
-            }
-        },
-        IndexAt::Fault(e) => {
-            return InstrAt::Fault(e);
-        }
-    }
+    let (x, a) = token::known_optional(s, at)?;
+    let (t, b) = typeuse::known_type_use(s, a)?;
+    Ok((Instr::Indirect(x, t), b))
 }
 
 // An instruction where k blocks are open: what stands after its opcode.
-fn formed(s: &[u8], at: usize, opcode: u8, k: u32) -> InstrAt
+#[tactic(auto, using(syntax::proofs::Ways::reads, crate::proofs::Known::of_form), unfolding(definition::specs::Instructions::instruction, definition::specs::Instructions::admits, crate::specs::Bodies::deep_instr))]
+fn formed(s: &[u8], at: usize, opcode: u8, k: u32) -> Read<Instr>
     requires { Gets (Instructions.formed (deep k) opcode (Instructions.form_of opcode) s.now at) }
     ensures { (Instructions.formed (deep k) opcode (Instructions.form_of opcode) s.now at ≡ instr_at s.now result) × ReadableAt s.now result }
 {
     match opcode_form(opcode) {
-        Form::NoOpcode => {
-            return InstrAt::Fault(4);
+        Form::NoOpcode => Err(Fault::UnknownByte),
+        Form::Opening => opens(s, at, opcode, k),
+        Form::Elsing => elses(s, at, opcode, k),
+        Form::Ending => ends(s, at, opcode, k),
+        Form::Calling => indirect(s, at, opcode),
+        Form::Operands(what) => {
+            let (p, next) = expr::read_plain(s, at, opcode, what)?;
+            Ok((Instr::Plain(p), next))
         }
-        Form::Opening => {
-            return opens(s, at, opcode, k);
-        }
-        Form::Elsing => {
-            return elses(s, at, opcode, k);
-        }
-        Form::Ending => {
-            return ends(s, at, opcode, k);
-        }
-        Form::Calling => {
-            return indirect(s, at, opcode);
-        }
-        Form::Operands(what) => match expr::read_plain(s, at, opcode, what) {
-            PlainAt::Got(p, next) => {
-                return InstrAt::Got(Instr::Plain(p), next);
-            }
-            PlainAt::Fault(e) => {
-                return InstrAt::Fault(e);
-            }
-        },
     }
 }
 
 // A record of a body that was read before, where k blocks are open. Of a folded one only that it is there.
-pub fn known_body(s: &[u8], at: usize, k: u32) -> BodyAt
+#[tactic(auto, using(crate::proofs::Ways::heads, crate::proofs::Known::body_formed, laws::proofs::Exits::exits), unfolding(crate::specs::Bodies::head_at))]
+pub fn known_body(s: &[u8], at: usize, k: u32) -> Option<BodyRec>
     requires { IsRead (head_at k s.now at) }
     ensures { (head_is s.now result ≡ head_at k s.now at) × ReadableBody s.now result }
 {
-    match token::read_byte(s, at) {
-        ByteAt::Got(b, a) => {
-            if b == 0xF0 {
-                return BodyAt::Folded;
-            }
-            if b == 0xFF {
-                if k == 0 {
-                    return BodyAt::End(a);
-                }
-                return BodyAt::Unread;
-            }
-            match formed(s, a, b, k) {
-                InstrAt::Got(i, next) => {
-                    return BodyAt::Got(i, next);
-                }
-                InstrAt::Fault(_) => {
-                    return BodyAt::Unread;
-                }
-            }
-        }
-        ByteAt::Fault(_) => {
-            return BodyAt::Unread;
-        }
+    let (b, a) = token::read_byte(s, at).ok()?;
+    if b == 0xF0 {
+        return Some(BodyRec::Folded);
     }
+    if b == 0xFF {
+        if k == 0 {
+            return Some(BodyRec::End(a));
+        }
+        return None;
+    }
+    let (i, next) = formed(s, a, b, k).ok()?;
+    Some(BodyRec::Instr(i, next))
 }
 
 // An instruction that may be folded.
-fn known_operator(s: &[u8], at: usize) -> InstrAt
+#[tactic(auto, using(syntax::proofs::Ways::reads, crate::proofs::Known::operator_calling, crate::proofs::Ways::operator_is), unfolding(definition::specs::Instructions::operator, definition::specs::Instructions::instruction, definition::specs::Instructions::may_fold))]
+fn known_operator(s: &[u8], at: usize) -> Read<Instr>
     requires { Gets (Instructions.operator s.now at) }
     ensures { (Instructions.operator s.now at ≡ instr_at s.now result) × ReadableAt s.now result }
 {
-    match token::read_byte(s, at) {
-        ByteAt::Got(b, a) => match opcode_form(b) {
-            Form::Calling => {
-                return indirect(s, a, b);
-            }
-            Form::Operands(what) => match expr::read_plain(s, a, b, what) {
-                PlainAt::Got(p, next) => {
-                    return InstrAt::Got(Instr::Plain(p), next);
-                }
-                PlainAt::Fault(e) => {
-                    return InstrAt::Fault(e);
-                }
-            },
-            Form::NoOpcode => {
-                return InstrAt::Fault(4);
-            }
-            Form::Opening => {
-                return InstrAt::Fault(4);
-            }
-            Form::Elsing => {
-                return InstrAt::Fault(4);
-            }
-            Form::Ending => {
-                return InstrAt::Fault(4);
-            }
-        },
-        ByteAt::Fault(e) => {
-            return InstrAt::Fault(e);
+    let (b, a) = token::read_byte(s, at)?;
+    match opcode_form(b) {
+        Form::Calling => indirect(s, a, b),
+        Form::Operands(what) => {
+            let (p, next) = expr::read_plain(s, a, b, what)?;
+            Ok((Instr::Plain(p), next))
         }
+        Form::NoOpcode => Err(Fault::UnknownByte),
+        Form::Opening => Err(Fault::UnknownByte),
+        Form::Elsing => Err(Fault::UnknownByte),
+        Form::Ending => Err(Fault::UnknownByte),
     }
 }
 
 // A folded record that was read before: the byte F0, its operator, and the count of its operands.
-pub fn known_folded(s: &[u8], at: usize) -> FoldAt
+#[tactic(auto, using(syntax::proofs::Ways::reads, crate::proofs::Known::folded_operator), unfolding(crate::specs::Bodies::fold_here, definition::specs::Instructions::fold))]
+pub fn known_folded(s: &[u8], at: usize) -> Read<(Instr, u32)>
     requires { Gets (fold_here s.now at) }
     ensures { (fold_here s.now at ≡ fold_at s.now result) × ReadableFold s.now result }
 {
-    match token::read_byte(s, at) {
-        ByteAt::Got(_, a) => match known_operator(s, a) {
-            InstrAt::Got(i, c) => match token::up_to(s, c, 7, 16) {
-                U32::Got(n, next) => {
-                    return FoldAt::Got(i, n, next);
-                }
-                U32::Fault(e) => {
-                    return FoldAt::Fault(e);
-                }
-            },
-            InstrAt::Fault(e) => {
-                return FoldAt::Fault(e);
-            }
-        },
-        ByteAt::Fault(e) => {
-            return FoldAt::Fault(e);
-        }
-    }
+    let (_, a) = token::read_byte(s, at)?;
+    let (i, c) = known_operator(s, a)?;
+    let (n, next) = token::up_to(s, c, Fault::TooMany, 16)?;
+    Ok(((i, n), next))
 }
 
 // Where operands end: they are read and dropped. `expr::pass_plain` is kept for records that are not folded, into whose loop it is taken while it has
 // one caller.
-pub fn read_past(s: &[u8], at: usize, what: Operands) -> Skip
+#[tactic(auto, using(token::proofs::Skips::passed_over))]
+pub fn read_past(s: &[u8], at: usize, what: Operands) -> Pass
     ensures { stops (Instructions.plain_of 0 (operands_is what) s.now at) ≡ skip result }
 {
-    match expr::read_plain(s, at, 0, what) {
-        PlainAt::Got(_, next) => {
-            return Skip::Past(next);
-        }
-        PlainAt::Fault(e) => {
-            return Skip::Fault(e);
-        }
-    }
+    let (_, next) = expr::read_plain(s, at, 0, what)?;
+    Ok(next)
 }
 
 // The operator passed over.
-fn pass_operator(s: &[u8], at: usize) -> Skip
+#[tactic(auto, using(crate::proofs::Folds::operators))]
+fn pass_operator(s: &[u8], at: usize) -> Pass
     ensures { stops (Instructions.operator s.now at) ≡ skip result }
 {
-    match token::read_byte(s, at) {
-        ByteAt::Got(b, a) => match opcode_form(b) {
-            Form::Calling => match token::pass_optional(s, a) {
-                Skip::Past(c) => match typeuse::read_type_use(s, c) {
-                    UseAt::Got(_, next) => {
-                        return Skip::Past(next);
-                    }
-                    UseAt::Fault(e) => {
-                        return Skip::Fault(e);
-                    }
-                },
-                Skip::Fault(e) => {
-                    return Skip::Fault(e);
-                }
-            },
-            Form::Operands(what) => {
-                return read_past(s, a, what);
-            }
-            Form::NoOpcode => {
-                return Skip::Fault(4);
-            }
-            Form::Opening => {
-                return Skip::Fault(4);
-            }
-            Form::Elsing => {
-                return Skip::Fault(4);
-            }
-            Form::Ending => {
-                return Skip::Fault(4);
-            }
-        },
-        ByteAt::Fault(e) => {
-            return Skip::Fault(e);
+    let (b, a) = token::read_byte(s, at)?;
+    match opcode_form(b) {
+        Form::Calling => {
+            let c = token::pass_optional(s, a)?;
+            let (_, next) = typeuse::read_type_use(s, c)?;
+            Ok(next)
         }
+        Form::Operands(what) => read_past(s, a, what),
+        Form::NoOpcode => Err(Fault::UnknownByte),
+        Form::Opening => Err(Fault::UnknownByte),
+        Form::Elsing => Err(Fault::UnknownByte),
+        Form::Ending => Err(Fault::UnknownByte),
     }
 }
 
 // What stands after F0, passed over: the count of operands, and where they begin.
-pub fn pass_fold(s: &[u8], at: usize) -> U32
+#[tactic(auto, using(crate::proofs::Folds::counts))]
+pub fn pass_fold(s: &[u8], at: usize) -> Read<u32>
     ensures { count_of (Instructions.fold s.now at) ≡ u32_at result }
 {
-    match pass_operator(s, at) {
-        Skip::Past(a) => {
-            return token::up_to(s, a, 7, 16);
-        }
-        Skip::Fault(e) => {
-            return U32::Fault(e);
-        }
-    }
+    let a = pass_operator(s, at)?;
+    token::up_to(s, a, Fault::TooMany, 16)
 }
 
 // Operands that were read before: most of those that can be long are one index or one number.
-fn skip_plain(s: &[u8], at: usize, what: Operands) -> Skip
+#[tactic(auto, using(token::proofs::Skips::passed_over, crate::proofs::Known::indices), unfolding(definition::specs::Instructions::plain_of))]
+fn skip_plain(s: &[u8], at: usize, what: Operands) -> Pass
     requires { Gets (Instructions.plain_of 0 (operands_is what) s.now at) }
     ensures { stops (Instructions.plain_of 0 (operands_is what) s.now at) ≡ skip result }
 {
     match what {
-        Operands::Bare => {
-            return Skip::Past(at);
-        }
-        Operands::LabelIdx => {
-            return token::skip_present(s, at);
-        }
-        Operands::LocalIdx => {
-            return token::skip_present(s, at);
-        }
-        Operands::FuncIdx => {
-            return token::skip_present(s, at);
-        }
-        Operands::GlobalIdx => {
-            return token::skip_present(s, at);
-        }
-        Operands::I32 => {
-            return token::pass_u32(s, at);
-        }
-        _ => {
-            return read_past(s, at, what);
-        }
+        Operands::Bare => Ok(at),
+        Operands::LabelIdx => token::skip_present(s, at),
+        Operands::LocalIdx => token::skip_present(s, at),
+        Operands::FuncIdx => token::skip_present(s, at),
+        Operands::GlobalIdx => token::skip_present(s, at),
+        Operands::I32 => token::pass_u32(s, at),
+        _ => read_past(s, at, what),
     }
 }
 
 // The table and the type of a call_indirect that was read before.
-fn skip_indirect(s: &[u8], at: usize, opcode: u8) -> Skip
+#[tactic(auto, using(token::proofs::Skips::passed_over, crate::proofs::Known::called), unfolding(definition::specs::Instructions::instruction))]
+fn skip_indirect(s: &[u8], at: usize, opcode: u8) -> Pass
     requires { Gets (Instructions.instruction opcode Instructions.calling s.now at) }
     ensures { stops (Instructions.instruction opcode Instructions.calling s.now at) ≡ skip result }
 {
-    match token::known_optional(s, at) {
-        IndexAt::Got(_, a) => match typeuse::known_type_use(s, a) {
-            UseAt::Got(_, next) => {
-                return Skip::Past(next);
-            }
-            UseAt::Fault(e) => {
-                return Skip::Fault(e);
-            }
-        },
-        IndexAt::Fault(e) => {
-            return Skip::Fault(e);
-        }
-    }
+    let (_, a) = token::known_optional(s, at)?;
+    let (_, next) = typeuse::known_type_use(s, a)?;
+    Ok(next)
 }
 
 // What stands after the opcode of an operator that was read before.
-fn skip_form(s: &[u8], at: usize, opcode: u8, form: Form) -> Skip
+#[tactic(auto, using(crate::proofs::Folds::skipped, crate::proofs::Known::of_operator))]
+fn skip_form(s: &[u8], at: usize, opcode: u8, form: Form) -> Pass
     requires { (Instructions.form_of opcode ≡ form_is form) × Gets (Instructions.operator_of opcode (Instructions.form_of opcode) s.now at) }
     ensures { stops (Instructions.operator_of opcode (Instructions.form_of opcode) s.now at) ≡ skip result }
 {
     match form {
-        Form::Operands(what) => {
-            return skip_plain(s, at, what);
-        }
-        Form::Calling => {
-            return skip_indirect(s, at, opcode);
-        }
-        _ => {
-            return Skip::Fault(4);
-        }
+        Form::Operands(what) => skip_plain(s, at, what),
+        Form::Calling => skip_indirect(s, at, opcode),
+        _ => Err(Fault::UnknownByte),
     }
 }
 
 // A folded record that was read before, passed over: its operator stands after the byte F0, and its operands after their count. The
 // operator's opcode and form are handed on, so that they are not looked up again where it is resolved.
-pub fn skip_folded(s: &[u8], at: usize) -> Folding
+#[tactic(auto, using(crate::proofs::Folds::parted))]
+pub fn skip_folded(s: &[u8], at: usize) -> Option<Folding>
     requires { Gets (fold_here s.now at) }
     ensures { Parted s.now at result }
 {
-    match token::read_byte(s, at) {
-        ByteAt::Got(_, a) => match token::read_byte(s, a) {
-            ByteAt::Got(b, c) => {
-                let form = opcode_form(b);
-                match skip_form(s, c, b, form) {
-                    Skip::Past(d) => match token::up_to(s, d, 7, 16) {
-                        U32::Got(n, next) => {
-                            return Folding::Parts(b, form, c, n, next);
-                        }
-                        U32::Fault(_) => {
-                            return Folding::Unread;
-                        }
-                    },
-                    Skip::Fault(_) => {
-                        return Folding::Unread;
-                    }
-                }
-            }
-            ByteAt::Fault(_) => {
-                return Folding::Unread;
-            }
-        },
-        ByteAt::Fault(_) => {
-            return Folding::Unread;
-        }
-    }
+    let (_, a) = token::read_byte(s, at).ok()?;
+    let (opcode, b) = token::read_byte(s, a).ok()?;
+    let form = opcode_form(opcode);
+    let c = skip_form(s, b, opcode, form).ok()?;
+    let (count, next) = token::up_to(s, c, Fault::TooMany, 16).ok()?;
+    Some(Folding {
+        opcode,
+        form,
+        at: b,
+        count,
+        next,
+    })
 }

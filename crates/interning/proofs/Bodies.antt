@@ -1,5 +1,5 @@
 -- Laws of the walk over a body.
-use Rattle.std.specs.Prelude.{if◌then◌else◌}
+use Rattle.std.specs.Prelude.{if◌then◌else◌, Option, Some, None, Ok, Err}
 use Prim.Native.Nat.{ℕ, zero, suc, ◌+◌, ◌-◌, ◌≤◌, ◌<◌}
 use mathlib.Core.Path.{◌≡◌, refl, sym, ◌∙◌, ap}
 use mathlib.Core.Bool.{Bool, true, false, not}
@@ -17,14 +17,15 @@ use Rattle.definition.specs.Instructions.{form_of, formed, is_open, is_due, unfo
 use Rattle.laws.specs.Depths.{deep, depth_after}
 use Rattle.definition.specs.Types.{Uses, used_at, instr_uses, body_uses}
 use Rattle.laws.proofs.Bodies.{read_fits, open_some, deep-length}
+use Rattle.syntax.specs.Reads.{Read}
+use Rattle.syntax.specs.Refusals.{Resolved}
+use Rattle.syntax.specs.declared.Fault.{Fault}
 use Rattle.syntax.specs.declared.Refusal.{Refusal}
 use Rattle.syntax.specs.Instructions.{instr_is, fold_at}
 use Rattle.syntax.specs.declared.Instr.{Instr}
 use Rattle.syntax.specs.declared.Instr.TheVariants as N
-use Rattle.syntax.specs.declared.BodyAt.{BodyAt}
-use Rattle.syntax.specs.declared.BodyAt.TheVariants as B
-use Rattle.syntax.specs.declared.FoldAt.{FoldAt}
-use Rattle.syntax.specs.declared.FoldAt.TheVariants as F
+use Rattle.syntax.specs.declared.BodyRec.{BodyRec}
+use Rattle.syntax.specs.declared.BodyRec.TheVariants as B
 use Rattle.walk.specs.Walk.{uses_in}
 use Rattle.walk.specs.declared.Stop.{Stop}
 use Rattle.instr.specs.Readers.{head_is}
@@ -34,10 +35,6 @@ use Rattle.instr.proofs.Stretches as Stretches
 use Rattle.instr.proofs.Stretches.{tree_is, tree_reach, tree_later, operands_reach, body-one, body-folded, body_ended, body_cut, body_reach, operands-more, whole-first, whole-rest, whole-head, whole_tree}
 use Rattle.type_table.specs.Table.{Indexed}
 use Rattle.interning.specs.Uses.{nested, Nests, Skips, Handled, Handles, HandledTo, HandlesTo, Stopped}
-use Rattle.interning.specs.declared.body.UsedTo.{UsedTo}
-use Rattle.interning.specs.declared.body.UsedTo.TheVariants as T
-use Rattle.interning.specs.declared.uses.Used.{Used}
-use Rattle.interning.specs.declared.uses.Used.TheVariants as U
 use Rattle.interning.proofs.Handled.{handled-none, handled_then, handled_back, handled_wide, stopped_then, stopped-first, handles_types, handles_stopped, handles_then}
 
 -- ## Open blocks
@@ -97,7 +94,7 @@ module _ (k : ℕ) (s : Bytes) (here : ℕ) (x : Syntax.Instr Identifier) (next 
       by (fault n) e = let z : ◌≡◌ {A = ℕ} 0 1 = cc in absurd (omega arith)
 
 -- what was read nests
-pub read-nests : (s : Bytes) (here k : ℕ) (b : BodyAt) (i : Instr) (next : ℕ) → head_is s b ≡ head_at k s here → b ≡ B.Got i next → Nests i k
+pub read-nests : (s : Bytes) (here k : ℕ) (b : Option BodyRec) (i : Instr) (next : ℕ) → head_is s b ≡ head_at k s here → b ≡ Some (B.Instr i next) → Nests i k
 read-nests s here k b i next e d = go i (one-read k s here (instr_is s i) next (sym e ∙ ap (head_is s) d))
   where
     go : (i : Instr) → body_rec (deep k) s here ≡ got (instr (instr_is s i)) next → Nests i k
@@ -120,15 +117,15 @@ uses_last b r x = uses-joined b ((r, x) ∷ []) ∙ ap (λ (l : Uses). body_uses
 
 -- ## What an answer tells
 
-module _ (low : ℕ) (s : Bytes) (t : Stretch) (w : List ℕ) (k : ℕ) (q : UsedTo) (w' : List ℕ) (told : HandlesTo low s t w k q w') where
-  to_types : (m : ℕ) (stop : Stop) → q ≡ T.Types m stop → HandledTo low s t w k w' m stop
+module _ (low : ℕ) (s : Bytes) (t : Stretch) (w : List ℕ) (k : ℕ) (q : Resolved (ℕ × Stop)) (w' : List ℕ) (told : HandlesTo low s t w k q w') where
+  to_types : (m : ℕ) (stop : Stop) → q ≡ Ok (m, stop) → HandledTo low s t w k w' m stop
   unfolding HandlesTo
   to_types m stop d = rw d at told
 
-  pub to_indexed : (m : ℕ) (stop : Stop) → q ≡ T.Types m stop → Indexed s w' m
+  pub to_indexed : (m : ℕ) (stop : Stop) → q ≡ Ok (m, stop) → Indexed s w' m
   to_indexed m stop d = (to_types m stop d).handled.indexed
 
-  to_stopped : (r : Refusal) → q ≡ T.Refused r → Stopped s (body_uses t.body) w k r w'
+  to_stopped : (r : Refusal) → q ≡ Err r → Stopped s (body_uses t.body) w k r w'
   unfolding HandlesTo
   to_stopped r d = rw d at told
 
@@ -141,25 +138,25 @@ no_room (suc left) s r here h = rw (le-leb _ _ h)
 
 module _ (left : ℕ) (s : Bytes) (w : List ℕ) (k at rec : ℕ) where
   -- nothing is read
-  unread_tree : (r : ℕ) → tree_at left s rec at ≡ stopped r at → Indexed s w k → HandlesTo rec s (tree_at left s rec at) w k (T.Types k (record { at = at; rec = r })) w
+  unread_tree : (r : ℕ) → tree_at left s rec at ≡ stopped r at → Indexed s w k → HandlesTo rec s (tree_at left s rec at) w k (Ok (k, (record { at = at; rec = r }))) w
   unfolding HandlesTo body_uses
   unread_tree r e h = rw e (record { handled = handled-none rec r s w k h; at = refl; rec = refl })
 
-  pub tree_too_deep : left < 1 → Indexed s w k → HandlesTo rec s (tree_at left s rec at) w k (T.Types k (record { at = at; rec = rec })) w
+  pub tree_too_deep : left < 1 → Indexed s w k → HandlesTo rec s (tree_at left s rec at) w k (Ok (k, (record { at = at; rec = rec }))) w
   unfolding tree_at
   tree_too_deep l h = let z : left ≡ 0 = omega arith in unread_tree rec (rw z) h
 
-  pub tree_full : 4096 ≤ rec → Indexed s w k → HandlesTo rec s (tree_at left s rec at) w k (T.Types k (record { at = at; rec = rec })) w
+  pub tree_full : 4096 ≤ rec → Indexed s w k → HandlesTo rec s (tree_at left s rec at) w k (Ok (k, (record { at = at; rec = rec }))) w
   tree_full l h = unread_tree rec (no_room left s rec at l) h
 
-  module _ (l : 1 ≤ left) (g : rec < 4096) (x : FoldAt) (told : fold_here s at ≡ fold_at s x) where
+  module _ (l : 1 ≤ left) (g : rec < 4096) (x : Read (Instr × ℕ)) (told : fold_here s at ≡ fold_at s x) where
     one_less : left ≡ suc (left - 1)
     one_less = omega arith
 
-    pub tree_unread : (n : ℕ) → x ≡ F.Fault n → Indexed s w k → HandlesTo rec s (tree_at left s rec at) w k (T.Types k (record { at = at; rec = rec + 1 })) w
+    pub tree_unread : (n : Fault) → x ≡ Err n → Indexed s w k → HandlesTo rec s (tree_at left s rec at) w k (Ok (k, (record { at = at; rec = rec + 1 }))) w
     tree_unread n d h = unread_tree (rec + 1) (ap (λ m. tree_at m s rec at) one_less ∙ tree_is (left - 1) s rec at g ∙ rw (told, d)) h
 
-    module _ (i : Instr) (n next : ℕ) (d : x ≡ F.Got i n next) where
+    module _ (i : Instr) (n next : ℕ) (d : x ≡ Ok ((i, n), next)) where
       abbrev operands : Stretch
       operands = operands_by (tree_at (left - 1) s) n (rec + 1) next
 
@@ -176,15 +173,15 @@ module _ (left : ℕ) (s : Bytes) (w : List ℕ) (k at rec : ℕ) where
       all-uses : body_uses (tree_at left s rec at).body ≡ body_uses operands.body ++ here-uses
       all-uses = ap (λ (t : Stretch). body_uses t.body) made ∙ uses_last operands.body rec (instr_is s i)
 
-      module _ (u : UsedTo) (w₁ : List ℕ) (before : HandlesTo (rec + 1) s operands w k u w₁) where
-        pub tree_operand_refused : (q : Refusal) → u ≡ T.Refused q → HandlesTo rec s (tree_at left s rec at) w k (T.Refused q) w₁
+      module _ (u : Resolved (ℕ × Stop)) (w₁ : List ℕ) (before : HandlesTo (rec + 1) s operands w k u w₁) where
+        pub tree_operand_refused : (q : Refusal) → u ≡ Err q → HandlesTo rec s (tree_at left s rec at) w k (Err q) w₁
         unfolding HandlesTo
         tree_operand_refused q e =
             let a = all-uses in
             rw a (stopped-first s (body_uses operands.body) here-uses w k q w₁ (to_stopped (rec + 1) s operands w k u w₁ before q e))
 
-        module _ (k₁ : ℕ) (stop : Stop) (e : u ≡ T.Types k₁ stop) (v : Used) (w₂ : List ℕ) (used : Handles rec (rec + 1) s here-uses w₁ k₁ v w₂) where
-          pub tree_refused : (q : Refusal) → v ≡ U.Refused q → HandlesTo rec s (tree_at left s rec at) w k (T.Refused q) w₂
+        module _ (k₁ : ℕ) (stop : Stop) (e : u ≡ Ok (k₁, stop)) (v : Resolved ℕ) (w₂ : List ℕ) (used : Handles rec (rec + 1) s here-uses w₁ k₁ v w₂) where
+          pub tree_refused : (q : Refusal) → v ≡ Err q → HandlesTo rec s (tree_at left s rec at) w k (Err q) w₂
           unfolding HandlesTo
           tree_refused q f =
               let a = all-uses in
@@ -192,7 +189,7 @@ module _ (left : ℕ) (s : Bytes) (w : List ℕ) (k at rec : ℕ) where
               rw a (stopped_then (rec + 1) 0 operands.rec 0 s (body_uses operands.body) here-uses w k w₁ k₁ o.handled w₂ q
               (handles_stopped rec (rec + 1) s here-uses w₁ k₁ v w₂ used q f))
 
-          pub tree_done : (m : ℕ) → v ≡ U.Types m → HandlesTo rec s (tree_at left s rec at) w k (T.Types m stop) w₂
+          pub tree_done : (m : ℕ) → v ≡ Ok m → HandlesTo rec s (tree_at left s rec at) w k (Ok (m, stop)) w₂
           unfolding HandlesTo
           tree_done m f =
               let a = all-uses in
@@ -229,14 +226,14 @@ operands_begin left s w k n at rec l h g =
     record { done = []; so_far = handled-none rec rec s w k h; same = refl; stops_at = refl; stops-rec = refl; whole = g; low = omega arith; most = l; indexed = h; long = refl }
 
 module _ (left : ℕ) (s : Bytes) (w₀ : List ℕ) (k₀ n at rec : ℕ) (w : List ℕ) (k due here r : ℕ) (v : Operating left s w₀ k₀ n at rec w k due here r) where
-  pub operands-done : due ≤ 0 → HandlesTo rec s (operands_by (tree_at left s) n rec at) w₀ k₀ (T.Types k (record { at = here; rec = r })) w
+  pub operands-done : due ≤ 0 → HandlesTo rec s (operands_by (tree_at left s) n rec at) w₀ k₀ (Ok (k, (record { at = here; rec = r }))) w
   operands-done h =
       let z : due ≡ 0 = omega arith in
       over (rw z at v.same) (rw z at v.stops_at) (rw z at v.stops-rec)
     where
       over : v.done ++ body_uses (operands_by (tree_at left s) 0 r here).body ≡ body_uses (operands_by (tree_at left s) n rec at).body
           → (operands_by (tree_at left s) 0 r here).at ≡ (operands_by (tree_at left s) n rec at).at → (operands_by (tree_at left s) 0 r here).rec ≡ (operands_by (tree_at left s) n rec at).rec
-          → HandlesTo rec s (operands_by (tree_at left s) n rec at) w₀ k₀ (T.Types k (record { at = here; rec = r })) w
+          → HandlesTo rec s (operands_by (tree_at left s) n rec at) w₀ k₀ (Ok (k, (record { at = here; rec = r }))) w
       over a b c = unfold HandlesTo operands_by body_uses in record { handled = rw (← c, ← a, append-nil v.done) v.so_far; at = b; rec = c }
 
   -- all of the next one can be read
@@ -245,7 +242,7 @@ module _ (left : ℕ) (s : Bytes) (w₀ : List ℕ) (k₀ n at rec : ℕ) (w : L
       whole-first (tree_at left s r here) (operands_by (tree_at left s) (due - 1) (tree_at left s r here).rec (tree_at left s r here).at)
       (ap (λ (t : Stretch). t.whole) (sym (operands-more (tree_at left s) due r here h)) ∙ v.whole)
 
-  module _ (h : 0 < due) (u : UsedTo) (w' : List ℕ) (used : HandlesTo r s (tree_at left s r here) w k u w') where
+  module _ (h : 0 < due) (u : Resolved (ℕ × Stop)) (w' : List ℕ) (used : HandlesTo r s (tree_at left s r here) w k u w') where
     abbrev one_tree : Stretch
     one_tree = tree_at left s r here
 
@@ -260,14 +257,14 @@ module _ (left : ℕ) (s : Bytes) (w₀ : List ℕ) (k₀ n at rec : ℕ) (w : L
         append_assoc v.done (body_uses one_tree.body) (body_uses others.body)
         ∙ ap (λ (l : Uses). v.done ++ l) (sym (ap (λ (t : Stretch). body_uses t.body) split ∙ uses-joined one_tree.body others.body)) ∙ v.same
 
-    pub operands-refused : (q : Refusal) → u ≡ T.Refused q → HandlesTo rec s (operands_by (tree_at left s) n rec at) w₀ k₀ (T.Refused q) w'
+    pub operands-refused : (q : Refusal) → u ≡ Err q → HandlesTo rec s (operands_by (tree_at left s) n rec at) w₀ k₀ (Err q) w'
     unfolding HandlesTo
     operands-refused q e =
         let a = every in
         rw (← a) (stopped-first s (v.done ++ body_uses one_tree.body) (body_uses others.body) w₀ k₀ q w'
         (stopped_then rec 0 r 0 s v.done (body_uses one_tree.body) w₀ k₀ w k v.so_far w' q (to_stopped r s one_tree w k u w' used q e)))
 
-    pub operands_again : (m : ℕ) (stop : Stop) → u ≡ T.Types m stop → Operating left s w₀ k₀ n at rec w' m (due - 1) stop.at stop.rec
+    pub operands_again : (m : ℕ) (stop : Stop) → u ≡ Ok (m, stop) → Operating left s w₀ k₀ n at rec w' m (due - 1) stop.at stop.rec
     operands_again m stop e =
         let o = to_types r s one_tree w k u w' used m stop e in
         let reach = tree_reach left s r here in
@@ -304,33 +301,33 @@ body-begin s w k at rec h g = record { done = []; so_far = handled-none rec rec 
 
 module _ (s : Bytes) (w₀ : List ℕ) (k₀ at rec : ℕ) (w : List ℕ) (k here r depth : ℕ) (v : Going s w₀ k₀ at rec w k here r depth) where
   -- nothing is ahead
-  over : (body_from depth r s here).body ≡ [] → Handles rec (body_from 0 rec s at).rec s (body_uses (body_from 0 rec s at).body) w₀ k₀ (U.Types k) w
+  over : (body_from depth r s here).body ≡ [] → Handles rec (body_from 0 rec s at).rec s (body_uses (body_from 0 rec s at).body) w₀ k₀ (Ok k) w
   unfolding Handles body_uses
   over e =
       let all : v.done ≡ body_uses (body_from 0 rec s at).body = sym (append-nil v.done) ∙ ap (λ (l : Body Identifier). v.done ++ body_uses l) (sym e) ∙ v.same in
       let end = v.ends in
       rw (← all) (handled_wide rec _ r 0 s v.done [] w₀ k₀ w k v.so_far (rw end at (body_reach s depth r here).least))
 
-  pub body_full : 4096 ≤ r → Handles rec (body_from 0 rec s at).rec s (body_uses (body_from 0 rec s at).body) w₀ k₀ (U.Types k) w
+  pub body_full : 4096 ≤ r → Handles rec (body_from 0 rec s at).rec s (body_uses (body_from 0 rec s at).body) w₀ k₀ (Ok k) w
   body_full h = over (ap (λ (t : Stretch). t.body) (Stretches.body_full s depth r here h))
 
   -- what stands there can be read
   pub body-read : r < 4096 → IsRead (head_at depth s here)
   body-read h = whole-head s depth r here h v.whole
 
-  module _ (b : BodyAt) (h : r < 4096) (told : head_is s b ≡ head_at depth s here) where
+  module _ (b : Option BodyRec) (h : r < 4096) (told : head_is s b ≡ head_at depth s here) where
     -- and all of a folded record
-    pub body_tree : b ≡ B.Folded → (tree_at 32 s r here).whole ≡ true
+    pub body_tree : b ≡ Some B.Folded → (tree_at 32 s r here).whole ≡ true
     body_tree d = whole_tree s depth r here h v.whole (sym told ∙ ap (head_is s) d)
 
-    pub body-ends : (next : ℕ) → b ≡ B.End next → Handles rec (body_from 0 rec s at).rec s (body_uses (body_from 0 rec s at).body) w₀ k₀ (U.Types k) w
+    pub body-ends : (next : ℕ) → b ≡ Some (B.End next) → Handles rec (body_from 0 rec s at).rec s (body_uses (body_from 0 rec s at).body) w₀ k₀ (Ok k) w
     body-ends next d = over (ap (λ (t : Stretch). t.body) (body_ended s depth r here h next (sym told ∙ ap (head_is s) d)))
 
-    pub body-unread : b ≡ B.Unread → Handles rec (body_from 0 rec s at).rec s (body_uses (body_from 0 rec s at).body) w₀ k₀ (U.Types k) w
+    pub body-unread : b ≡ None → Handles rec (body_from 0 rec s at).rec s (body_uses (body_from 0 rec s at).body) w₀ k₀ (Ok k) w
     body-unread d = over (ap (λ (t : Stretch). t.body) (body_cut s depth r here h (sym told ∙ ap (head_is s) d)))
 
     -- an instruction, and the others
-    module _ (i : Instr) (next : ℕ) (d : b ≡ B.Got i next) (q : Used) (w' : List ℕ) (used : Handles r (r + 1) s (used_at r (instr_uses (instr_is s i))) w k q w') where
+    module _ (i : Instr) (next : ℕ) (d : b ≡ Some (B.Instr i next)) (q : Resolved ℕ) (w' : List ℕ) (used : Handles r (r + 1) s (used_at r (instr_uses (instr_is s i))) w k q w') where
       abbrev one_use : Uses
       one_use = used_at r (instr_uses (instr_is s i))
 
@@ -344,14 +341,14 @@ module _ (s : Bytes) (w₀ : List ℕ) (k₀ at rec : ℕ) (w : List ℕ) (k her
       unfolding body_uses
       every_use = append_assoc v.done one_use (body_uses after.body) ∙ ap (λ (l : Uses). v.done ++ l) (sym (ap (λ (t : Stretch). body_uses t.body) split_one)) ∙ v.same
 
-      pub body_refused : (p : Refusal) → q ≡ U.Refused p → Handles rec (body_from 0 rec s at).rec s (body_uses (body_from 0 rec s at).body) w₀ k₀ (U.Refused p) w'
+      pub body_refused : (p : Refusal) → q ≡ Err p → Handles rec (body_from 0 rec s at).rec s (body_uses (body_from 0 rec s at).body) w₀ k₀ (Err p) w'
       unfolding Handles
       body_refused p e =
           let a = every_use in
           rw (← a) (stopped-first s (v.done ++ one_use) (body_uses after.body) w₀ k₀ p w'
           (stopped_then rec (r + 1) r r s v.done one_use w₀ k₀ w k v.so_far w' p (handles_stopped r (r + 1) s one_use w k q w' used p e)))
 
-      pub body_again : (m depth' : ℕ) → q ≡ U.Types m → depth' ≡ nested i depth → Going s w₀ k₀ at rec w' m next (r + 1) depth'
+      pub body_again : (m depth' : ℕ) → q ≡ Ok m → depth' ≡ nested i depth → Going s w₀ k₀ at rec w' m next (r + 1) depth'
       body_again m depth' e f =
           let u = handles_types r (r + 1) s one_use w k q w' used m e in
           let o : depth_after (instr_is s i) depth ≡ depth' = nested-opens s i depth ∙ sym f in
@@ -367,7 +364,7 @@ module _ (s : Bytes) (w₀ : List ℕ) (k₀ at rec : ℕ) (w : List ℕ) (k her
           }
 
     -- a folded record, and the others
-    module _ (d : b ≡ B.Folded) (q : UsedTo) (w' : List ℕ) (used : HandlesTo r s (tree_at 32 s r here) w k q w') where
+    module _ (d : b ≡ Some B.Folded) (q : Resolved (ℕ × Stop)) (w' : List ℕ) (used : HandlesTo r s (tree_at 32 s r here) w k q w') where
       abbrev tree : Stretch
       tree = tree_at 32 s r here
 
@@ -382,7 +379,7 @@ module _ (s : Bytes) (w₀ : List ℕ) (k₀ at rec : ℕ) (w : List ℕ) (k her
           append_assoc v.done (body_uses tree.body) (body_uses onwards.body)
           ∙ ap (λ (l : Uses). v.done ++ l) (sym (ap (λ (t : Stretch). body_uses t.body) split_fold ∙ uses-joined tree.body onwards.body)) ∙ v.same
 
-      pub fold-refused : (p : Refusal) → q ≡ T.Refused p → Handles rec (body_from 0 rec s at).rec s (body_uses (body_from 0 rec s at).body) w₀ k₀ (U.Refused p) w'
+      pub fold-refused : (p : Refusal) → q ≡ Err p → Handles rec (body_from 0 rec s at).rec s (body_uses (body_from 0 rec s at).body) w₀ k₀ (Err p) w'
       unfolding Handles
       fold-refused p e =
           let a = whole_use in
@@ -390,14 +387,14 @@ module _ (s : Bytes) (w₀ : List ℕ) (k₀ at rec : ℕ) (w : List ℕ) (k her
           (stopped_then rec 0 r 0 s v.done (body_uses tree.body) w₀ k₀ w k v.so_far w' p (to_stopped r s tree w k q w' used p e)))
 
       -- the next record is a later one
-      pub fold_less : (m : ℕ) (stop : Stop) → q ≡ T.Types m stop → 4096 - stop.rec < 4096 - r
+      pub fold_less : (m : ℕ) (stop : Stop) → q ≡ Ok (m, stop) → 4096 - stop.rec < 4096 - r
       fold_less m stop e =
           let o = to_types r s tree w k q w' used m stop e in
           let z = o.rec in
           let l = tree_later 31 s r here h in
           omega (arith, l.later, l.most)
 
-      fold_on : (m : ℕ) (stop : Stop) → q ≡ T.Types m stop → Going s w₀ k₀ at rec w' m stop.at stop.rec depth
+      fold_on : (m : ℕ) (stop : Stop) → q ≡ Ok (m, stop) → Going s w₀ k₀ at rec w' m stop.at stop.rec depth
       fold_on m stop e =
           let o = to_types r s tree w k q w' used m stop e in
           let reach = tree_reach 32 s r here in
@@ -415,8 +412,8 @@ module _ (s : Bytes) (w₀ : List ℕ) (k₀ at rec : ℕ) (w : List ℕ) (k her
           })
 
 -- what is shown by the loop's state comes first
-pub fold_again : (s : Bytes) (w₀ : List ℕ) (k₀ at rec : ℕ) (w : List ℕ) (k here r depth : ℕ) (b : BodyAt) (q : UsedTo) (w' : List ℕ) (m : ℕ) (stop : Stop) → q ≡ T.Types m stop
-    → HandlesTo r s (tree_at 32 s r here) w k q w' → Going s w₀ k₀ at rec w k here r depth → b ≡ B.Folded → head_is s b ≡ head_at depth s here → r < 4096
+pub fold_again : (s : Bytes) (w₀ : List ℕ) (k₀ at rec : ℕ) (w : List ℕ) (k here r depth : ℕ) (b : Option BodyRec) (q : Resolved (ℕ × Stop)) (w' : List ℕ) (m : ℕ) (stop : Stop) → q ≡ Ok (m, stop)
+    → HandlesTo r s (tree_at 32 s r here) w k q w' → Going s w₀ k₀ at rec w k here r depth → b ≡ Some B.Folded → head_is s b ≡ head_at depth s here → r < 4096
     → Going s w₀ k₀ at rec w' m stop.at stop.rec depth
 fold_again s w₀ k₀ at rec w k here r depth b q w' m stop e used v d told h = fold_on s w₀ k₀ at rec w k here r depth v b h told d q w' used m stop e
 
@@ -424,8 +421,8 @@ pub ruleset bodies-over = (body_full, body-ends, body-unread, body_refused, fold
 
 -- ## A function
 
-module _ (s : Bytes) (us : Uses) (w : List ℕ) (k at rec : ℕ) (q : Used) (w₁ : List ℕ) (told : Handles rec (rec + 1) s us w k q w₁) where
-  pub func-body : (k₁ : ℕ) (r : Used) (w₂ : List ℕ) → q ≡ U.Types k₁
+module _ (s : Bytes) (us : Uses) (w : List ℕ) (k at rec : ℕ) (q : Resolved ℕ) (w₁ : List ℕ) (told : Handles rec (rec + 1) s us w k q w₁) where
+  pub func-body : (k₁ : ℕ) (r : Resolved ℕ) (w₂ : List ℕ) → q ≡ Ok k₁
       → Handles (rec + 1) (body_from 0 (rec + 1) s at).rec s (body_uses (body_from 0 (rec + 1) s at).body) w₁ k₁ r w₂
       → Handles rec (body_from 0 (rec + 1) s at).rec s (us ++ body_uses (body_from 0 (rec + 1) s at).body) w k r w₂
   func-body k₁ r w₂ d b =
@@ -433,15 +430,15 @@ module _ (s : Bytes) (us : Uses) (w : List ℕ) (k at rec : ℕ) (q : Used) (w�
       (omega arith) (omega arith) (body_reach s 0 (rec + 1) at).least b
 
   -- nothing has to be read
-  pub func_skips : (k₁ own : ℕ) (looks : Bool) → q ≡ U.Types k₁ → looks ≡ uses_in w own → looks ≡ false → Skips w own (body_uses (body_from 0 (rec + 1) s at).body)
-      → Handles rec (body_from 0 (rec + 1) s at).rec s (us ++ body_uses (body_from 0 (rec + 1) s at).body) w k (U.Types k₁) w₁
+  pub func_skips : (k₁ own : ℕ) (looks : Bool) → q ≡ Ok k₁ → looks ≡ uses_in w own → looks ≡ false → Skips w own (body_uses (body_from 0 (rec + 1) s at).body)
+      → Handles rec (body_from 0 (rec + 1) s at).rec s (us ++ body_uses (body_from 0 (rec + 1) s at).body) w k (Ok k₁) w₁
   unfolding Handles
   func_skips k₁ own looks d y e x =
       let b = x.unused (sym y ∙ e) in
       rw (b, append-nil us) (handled_wide rec _ (rec + 1) 0 s us [] w k w₁ k₁ (handles_types rec (rec + 1) s us w k q w₁ told k₁ d)
       (body_reach s 0 (rec + 1) at).least)
 
-  pub func-refused : (p : Refusal) → q ≡ U.Refused p
-      → Handles rec (body_from 0 (rec + 1) s at).rec s (us ++ body_uses (body_from 0 (rec + 1) s at).body) w k (U.Refused p) w₁
+  pub func-refused : (p : Refusal) → q ≡ Err p
+      → Handles rec (body_from 0 (rec + 1) s at).rec s (us ++ body_uses (body_from 0 (rec + 1) s at).body) w k (Err p) w₁
   unfolding Handles
   func-refused p d = stopped-first s us _ w k p w₁ (handles_stopped rec (rec + 1) s us w k q w₁ told p d)

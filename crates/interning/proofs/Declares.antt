@@ -1,4 +1,5 @@
 -- Laws of the walk over declared types.
+use Rattle.std.specs.Prelude.{Some, None}
 use Prim.Native.Nat.{ℕ, ◌+◌, ◌-◌, ◌*◌, ◌≤◌, ◌<◌}
 use mathlib.Core.Path.{◌≡◌, refl, sym, ◌∙◌, ap}
 use mathlib.Core.List.{List, [], ◌∷◌, ◌++◌, map, append-nil, append_assoc}
@@ -33,7 +34,6 @@ use Rattle.type_table.proofs.Types.{table-length}
 use Rattle.walk.specs.Walk.{counting, seen_with, begin, cursor_after, visit_in, visit_of, fields_here, fields_ahead, fields_in, Ahead}
 use Rattle.walk.specs.declared.Cursor.{Cursor}
 use Rattle.walk.specs.declared.Met.{Met}
-use Rattle.walk.specs.declared.What.TheVariants as W
 use Rattle.walk.proofs.Steps.{visit_done, visit_read, visit_next, visit_fields, visit_ahead, ahead-kept}
 use Rattle.laws.proofs.Declared.{declared-append, item-declares}
 use Rattle.interning.specs.Declaring.{listed, declared_in, HasRoom, Declares, DeclaredAll}
@@ -165,11 +165,11 @@ module _ (s : Bytes) (w₀ w : List ℕ) (c : Cursor) (count : ℕ) (v : Declari
       nothing_left (t ∷ ts) h = absurd (omega arith)
 
   module _ (m : Met) (told : visit_in c.left c s ≡ visit_of s m) where
-    pub declaring_done : m.what ≡ W.Done → DeclaredAll s w₀ count w
+    pub declaring_done : m.what ≡ None → DeclaredAll s w₀ count w
     unfolding declared
     declaring_done d = done (ap (λ (l : Numbered Identifier). declared l) (visit_done s c m told d))
 
-    module _ (f : Field) (here : ℕ) (is : m.what ≡ W.Field f here) where
+    module _ (f : Field) (here : ℕ) (is : m.what ≡ Some (f, here)) where
       pub has_room : HasRoom count f
       unfolding room_of
       has_room = go f (visit_read s c m told f here is)

@@ -1,4 +1,6 @@
 -- Laws of the uses of a field.
+use Rattle.std.specs.Prelude.{Ok}
+use Rattle.syntax.specs.Refusals.{Resolved}
 use Prim.Native.Nat.{ℕ, ◌+◌}
 use mathlib.Core.Path.{◌≡◌, refl, subst}
 use mathlib.Core.Bool.{true}
@@ -29,58 +31,56 @@ use Rattle.walk.specs.Walk.{body_in, whole_field}
 use Rattle.instr.specs.Bodies.{body_from}
 use Rattle.type_table.specs.Table.{Indexed}
 use Rattle.interning.specs.Uses.{Skips, uses_own, uses_source, uses_field, end_after, Handles}
-use Rattle.interning.specs.declared.uses.Used.{Used}
-use Rattle.interning.specs.declared.uses.Used.TheVariants as U
 use Rattle.interning.proofs.Handled.{handles_none}
 
 module _ (rec : ℕ) (s : Bytes) (w : List ℕ) (k : ℕ) where
   -- ## What is imported
 
   module _ (x : Extern) where
-    pub extern_func : (t : TypeUse) (r : Used) (w' : List ℕ) → x ≡ E.Func t → Handles rec (rec + 1) s (used_at rec (Types.use_of (use_of s t))) w k r w'
+    pub extern_func : (t : TypeUse) (r : Resolved ℕ) (w' : List ℕ) → x ≡ E.Func t → Handles rec (rec + 1) s (used_at rec (Types.use_of (use_of s t))) w k r w'
         → Handles rec (rec + 1) s (used_at rec (extern_uses (extern_is s x))) w k r w'
     unfolding extern_uses
     extern_func t r w' d h = rw d h
 
     module _ (h : Indexed s w k) where
-      pub extern_table : (t : _) → x ≡ E.Table t → Handles rec (rec + 1) s (used_at rec (extern_uses (extern_is s x))) w k (U.Types k) w
+      pub extern_table : (t : _) → x ≡ E.Table t → Handles rec (rec + 1) s (used_at rec (extern_uses (extern_is s x))) w k (Ok k) w
       unfolding extern_uses
       extern_table t d = rw d (handles_none rec (rec + 1) s w k h)
 
-      pub extern_mem : (l : _) → x ≡ E.Mem l → Handles rec (rec + 1) s (used_at rec (extern_uses (extern_is s x))) w k (U.Types k) w
+      pub extern_mem : (l : _) → x ≡ E.Mem l → Handles rec (rec + 1) s (used_at rec (extern_uses (extern_is s x))) w k (Ok k) w
       unfolding extern_uses
       extern_mem l d = rw d (handles_none rec (rec + 1) s w k h)
 
-      pub extern_global : (g : _) → x ≡ E.Global g → Handles rec (rec + 1) s (used_at rec (extern_uses (extern_is s x))) w k (U.Types k) w
+      pub extern_global : (g : _) → x ≡ E.Global g → Handles rec (rec + 1) s (used_at rec (extern_uses (extern_is s x))) w k (Ok k) w
       unfolding extern_uses
       extern_global g d = rw d (handles_none rec (rec + 1) s w k h)
 
   -- ## The module's own
 
   module _ (at : ℕ) (o : Own) where
-    pub own-func : (t : TypeUse) (ls : _) (r : Used) (w' : List ℕ) → o ≡ O.Func t ls
+    pub own-func : (t : TypeUse) (ls : _) (r : Resolved ℕ) (w' : List ℕ) → o ≡ O.Func t ls
         → Handles rec (body_from 0 (rec + 1) s at).rec s (used_at rec (Types.use_of (use_of s t)) ++ body_uses (body_from 0 (rec + 1) s at).body) w k r w'
         → Handles rec (end_after (own_body (own_of s o)) rec s at) s (uses_own rec (own_of s o) s at) w k r w'
     unfolding uses_own own_body own_uses
     own-func t ls r w' d h = rw d h
 
     module _ (h : Indexed s w k) where
-      pub own-table : (t : _) → o ≡ O.Table t → Handles rec (end_after (own_body (own_of s o)) rec s at) s (uses_own rec (own_of s o) s at) w k (U.Types k) w
+      pub own-table : (t : _) → o ≡ O.Table t → Handles rec (end_after (own_body (own_of s o)) rec s at) s (uses_own rec (own_of s o) s at) w k (Ok k) w
       unfolding uses_own own_body own_uses body_uses
       own-table t d = rw d (handles_none rec (rec + 1) s w k h)
 
-      pub own-mem : (l : _) → o ≡ O.Mem l → Handles rec (end_after (own_body (own_of s o)) rec s at) s (uses_own rec (own_of s o) s at) w k (U.Types k) w
+      pub own-mem : (l : _) → o ≡ O.Mem l → Handles rec (end_after (own_body (own_of s o)) rec s at) s (uses_own rec (own_of s o) s at) w k (Ok k) w
       unfolding uses_own own_body own_uses body_uses
       own-mem l d = rw d (handles_none rec (rec + 1) s w k h)
 
-      pub own-global : (t : _) (c : _) → o ≡ O.Global t c → Handles rec (end_after (own_body (own_of s o)) rec s at) s (uses_own rec (own_of s o) s at) w k (U.Types k) w
+      pub own-global : (t : _) (c : _) → o ≡ O.Global t c → Handles rec (end_after (own_body (own_of s o)) rec s at) s (uses_own rec (own_of s o) s at) w k (Ok k) w
       unfolding uses_own own_body own_uses body_uses
       own-global t c d = rw d (handles_none rec (rec + 1) s w k h)
 
   -- ## An item
 
   module _ (at : ℕ) (x : Source) where
-    module _ (r : Used) (w' : List ℕ) where
+    module _ (r : Resolved ℕ) (w' : List ℕ) where
       pub source-own : (o : Own) → x ≡ S.Own o → Handles rec (end_after (own_body (own_of s o)) rec s at) s (uses_own rec (own_of s o) s at) w k r w'
           → Handles rec (end_after (source_body (source_of s x)) rec s at) s (uses_source rec (source_of s x) s at) w k r w'
       unfolding uses_source source_body
@@ -92,18 +92,18 @@ module _ (rec : ℕ) (s : Bytes) (w : List ℕ) (k : ℕ) where
       source-imported n e d h = rw d h
 
     module _ (h : Indexed s w k) where
-      pub source-table : (b : _) (xs : _) → x ≡ S.TableOf b xs → Handles rec (end_after (source_body (source_of s x)) rec s at) s (uses_source rec (source_of s x) s at) w k (U.Types k) w
+      pub source-table : (b : _) (xs : _) → x ≡ S.TableOf b xs → Handles rec (end_after (source_body (source_of s x)) rec s at) s (uses_source rec (source_of s x) s at) w k (Ok k) w
       unfolding uses_source source_body
       source-table b xs d = rw d (handles_none rec (rec + 1) s w k h)
 
-      pub source-mem : (b : _) (p : _) → x ≡ S.MemOf b p → Handles rec (end_after (source_body (source_of s x)) rec s at) s (uses_source rec (source_of s x) s at) w k (U.Types k) w
+      pub source-mem : (b : _) (p : _) → x ≡ S.MemOf b p → Handles rec (end_after (source_body (source_of s x)) rec s at) s (uses_source rec (source_of s x) s at) w k (Ok k) w
       unfolding uses_source source_body
       source-mem b p d = rw d (handles_none rec (rec + 1) s w k h)
 
   -- ## A field
 
   module _ (at : ℕ) (f : Field) where
-    module _ (r : Used) (w' : List ℕ) where
+    module _ (r : Resolved ℕ) (w' : List ℕ) where
       pub field_import : (n : _) (i : _) (x : Extern) → f ≡ F.Import n i x → Handles rec (rec + 1) s (used_at rec (extern_uses (extern_is s x))) w k r w'
           → Handles rec (end_after (field_body (field_of s f)) rec s at) s (uses_field rec (field_of s f) s at) w k r w'
       unfolding uses_field field_body
@@ -115,23 +115,23 @@ module _ (rec : ℕ) (s : Bytes) (w : List ℕ) (k : ℕ) where
       field-item i es x d h = rw d h
 
     module _ (h : Indexed s w k) where
-      pub field-type : (i : _) (ps rs : _) → f ≡ F.Type i ps rs → Handles rec (end_after (field_body (field_of s f)) rec s at) s (uses_field rec (field_of s f) s at) w k (U.Types k) w
+      pub field-type : (i : _) (ps rs : _) → f ≡ F.Type i ps rs → Handles rec (end_after (field_body (field_of s f)) rec s at) s (uses_field rec (field_of s f) s at) w k (Ok k) w
       unfolding uses_field field_body
       field-type i ps rs d = rw d (handles_none rec (rec + 1) s w k h)
 
-      pub field_export : (n : _) (j : _) (x : _) → f ≡ F.Export n j x → Handles rec (end_after (field_body (field_of s f)) rec s at) s (uses_field rec (field_of s f) s at) w k (U.Types k) w
+      pub field_export : (n : _) (j : _) (x : _) → f ≡ F.Export n j x → Handles rec (end_after (field_body (field_of s f)) rec s at) s (uses_field rec (field_of s f) s at) w k (Ok k) w
       unfolding uses_field field_body
       field_export n j x d = rw d (handles_none rec (rec + 1) s w k h)
 
-      pub field-start : (x : _) → f ≡ F.Start x → Handles rec (end_after (field_body (field_of s f)) rec s at) s (uses_field rec (field_of s f) s at) w k (U.Types k) w
+      pub field-start : (x : _) → f ≡ F.Start x → Handles rec (end_after (field_body (field_of s f)) rec s at) s (uses_field rec (field_of s f) s at) w k (Ok k) w
       unfolding uses_field field_body
       field-start x d = rw d (handles_none rec (rec + 1) s w k h)
 
-      pub field-elem : (i : _) (m : _) (xs : _) → f ≡ F.Elem i m xs → Handles rec (end_after (field_body (field_of s f)) rec s at) s (uses_field rec (field_of s f) s at) w k (U.Types k) w
+      pub field-elem : (i : _) (m : _) (xs : _) → f ≡ F.Elem i m xs → Handles rec (end_after (field_body (field_of s f)) rec s at) s (uses_field rec (field_of s f) s at) w k (Ok k) w
       unfolding uses_field field_body
       field-elem i m xs d = rw d (handles_none rec (rec + 1) s w k h)
 
-      pub field_data : (i : _) (m : _) (p : _) → f ≡ F.Data i m p → Handles rec (end_after (field_body (field_of s f)) rec s at) s (uses_field rec (field_of s f) s at) w k (U.Types k) w
+      pub field_data : (i : _) (m : _) (p : _) → f ≡ F.Data i m p → Handles rec (end_after (field_body (field_of s f)) rec s at) s (uses_field rec (field_of s f) s at) w k (Ok k) w
       unfolding uses_field field_body
       field_data i m p d = rw d (handles_none rec (rec + 1) s w k h)
 

@@ -1,10 +1,13 @@
 -- Laws of handled uses: none, one after the other, and what they tell when the types are all there.
+use Rattle.std.specs.Prelude.{Ok, Err, IsErrAnd}
+use Rattle.std.specs.Result.{IsErr}
 use Prim.Native.Nat.{ℕ, ◌+◌, ◌-◌, ◌≤◌, ◌<◌}
 use mathlib.Core.Path.{◌≡◌, refl, sym, ◌∙◌}
 use mathlib.Core.List.{List, [], ◌∷◌, ◌++◌, append-nil}
 use lib.ListN.{get_or}
 use native.Mathlib.Omega.{arith}
-use Rattle.syntax.specs.Refusals.{refused_by}
+use Rattle.syntax.specs.Refusals.{Resolved, refused_by}
+use Rattle.syntax.proofs.Ways.{handed}
 use Rattle.definition.specs.Basic.{Answer, ok, fails, ◌>>=◌}
 use Rattle.definition.specs.Syntax.{Bytes, FuncType}
 use Rattle.definition.specs.Types.{same_type, type_at, take_or_add, intern, Uses}
@@ -12,10 +15,10 @@ use Rattle.laws.proofs.Interning.{first-kept, Keeps, intern-keeps}
 use Rattle.syntax.specs.declared.Refusal.{Refusal}
 use Rattle.area.specs.Layout.{TYPES, USES}
 use Rattle.area.proofs.Kept.{kept_same, kept_then}
+use Rattle.instr.specs.Bodies.{Stretch}
+use Rattle.walk.specs.declared.Stop.{Stop}
 use Rattle.type_table.specs.Table.{type_table, Indexed}
-use Rattle.interning.specs.Uses.{Known, From, Handled, Stopped, Handles}
-use Rattle.interning.specs.declared.uses.Used.{Used}
-use Rattle.interning.specs.declared.uses.Used.TheVariants as U
+use Rattle.interning.specs.Uses.{Known, From, Handled, Stopped, Handles, HandlesTo}
 
 -- ## Interning in two parts
 
@@ -95,7 +98,7 @@ unfolding intern Known From
 handled-none low high s w k h =
     record { types = refl; indexed = h; known = tt; from = tt; kept = kept_same TYPES w; before = λ i l. refl; beyond = λ i l g. refl; above = λ i l. refl }
 
-pub handles_none : (low high : ℕ) (s w : List ℕ) (k : ℕ) → Indexed s w k → Handles low high s [] w k (U.Types k) w
+pub handles_none : (low high : ℕ) (s w : List ℕ) (k : ℕ) → Indexed s w k → Handles low high s [] w k (Ok k) w
 unfolding Handles
 handles_none low high s w k h = handled-none low high s w k h
 
@@ -150,21 +153,32 @@ stopped-first s us vs w k q w' a = record { says = intern-stops _ us vs q a.says
 
 -- ## What an answer tells
 
-module _ (low high : ℕ) (s : Bytes) (us : Uses) (w : List ℕ) (k : ℕ) (q : Used) (w' : List ℕ) (told : Handles low high s us w k q w') where
-  pub handles_types : (m : ℕ) → q ≡ U.Types m → Handled low high s us w k w' m
+module _ (low high : ℕ) (s : Bytes) (us : Uses) (w : List ℕ) (k : ℕ) (q : Resolved ℕ) (w' : List ℕ) (told : Handles low high s us w k q w') where
+  pub handles_types : (m : ℕ) → q ≡ Ok m → Handled low high s us w k w' m
   unfolding Handles
   handles_types m d = rw d at told
 
-  pub handles_indexed : (m : ℕ) → q ≡ U.Types m → Indexed s w' m
+  pub handles_indexed : (m : ℕ) → q ≡ Ok m → Indexed s w' m
   handles_indexed m d = (handles_types m d).indexed
 
-  pub handles_stopped : (r : Refusal) → q ≡ U.Refused r → Stopped s us w k r w'
+  pub handles_stopped : (r : Refusal) → q ≡ Err r → Stopped s us w k r w'
   unfolding Handles
   handles_stopped r d = rw d at told
 
 -- some were handled, and whatever the answer to the others is, it is the answer to all
-pub handles_then : (low high m m' : ℕ) (s : Bytes) (us vs : Uses) (w : List ℕ) (k : ℕ) (w₁ : List ℕ) (k₁ : ℕ) (w₂ : List ℕ) (r : Used) → Handled low m s us w k w₁ k₁
+pub handles_then : (low high m m' : ℕ) (s : Bytes) (us vs : Uses) (w : List ℕ) (k : ℕ) (w₁ : List ℕ) (k₁ : ℕ) (w₂ : List ℕ) (r : Resolved ℕ) → Handled low m s us w k w₁ k₁
     → m ≤ m' → low ≤ m' → m ≤ high → Handles m' high s vs w₁ k₁ r w₂ → Handles low high s (us ++ vs) w k r w₂
 unfolding Handles
-handles_then low high m m' s us vs w k w₁ k₁ w₂ (U.Types k₂) a l g h b = handled_then low high m m' s us vs w k w₁ k₁ a w₂ k₂ l g h b
-handles_then low high m m' s us vs w k w₁ k₁ w₂ (U.Refused q) a l g h b = stopped_then low high m m' s us vs w k w₁ k₁ a w₂ q b
+handles_then low high m m' s us vs w k w₁ k₁ w₂ (Ok k₂) a l g h b = handled_then low high m m' s us vs w k w₁ k₁ a w₂ k₂ l g h b
+handles_then low high m m' s us vs w k w₁ k₁ w₂ (Err q) a l g h b = stopped_then low high m m' s us vs w k w₁ k₁ a w₂ q b
+
+-- ## What `?` hands on
+
+module _ (s : Bytes) (w : List ℕ) (k : ℕ) (q : Refusal) (w' : List ℕ) where
+  pub hands_on : (low high : ℕ) (us : Uses) (r : Resolved ℕ) → IsErr r → IsErrAnd r (λ e. e ≡ q) → Handles low high s us w k (Err q) w' → Handles low high s us w k r w'
+  hands_on low high us r i p h = rw (handed r q i p) h
+
+  pub hands_on_to : (low : ℕ) (t : Stretch) (r : Resolved (ℕ × Stop)) → IsErr r → IsErrAnd r (λ e. e ≡ q) → HandlesTo low s t w k (Err q) w' → HandlesTo low s t w k r w'
+  hands_on_to low t r i p h = rw (handed r q i p) h
+
+pub ruleset handing = (hands_on, hands_on_to, refl)

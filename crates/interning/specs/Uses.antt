@@ -1,5 +1,5 @@
 -- What the pass makes of type uses, one after the other.
-use Rattle.std.specs.Prelude.{ℕ, ◌+◌, ◌-◌, ◌≤◌, ◌<◌, ◌≡◌, false, List, [], ◌∷◌, ◌++◌, get_or}
+use Rattle.std.specs.Prelude.{ℕ, ◌+◌, ◌-◌, ◌≤◌, ◌<◌, ◌≡◌, false, List, [], ◌∷◌, ◌++◌, get_or, Ok, Err}
 use Rattle.std.proofs.Math.Option.{Option, some}
 use Rattle.definition.specs.Basic.{ok}
 use Rattle.definition.specs.Syntax as Syntax
@@ -7,7 +7,7 @@ use Rattle.definition.specs.Syntax.{Bytes, Identifier, FuncType}
 use Rattle.definition.specs.Instructions.{Inside}
 use Rattle.definition.specs.Read.{own_body}
 use Rattle.definition.specs.Types.{Uses, used_at, body_uses, extern_uses, own_uses, type_at, intern}
-use Rattle.syntax.specs.Refusals.{refused_by}
+use Rattle.syntax.specs.Refusals.{Resolved, refused_by}
 use Rattle.syntax.specs.declared.Refusal.{Refusal}
 use Rattle.area.specs.Layout.{NAMED, TYPES, USES}
 use Rattle.syntax.specs.declared.Instr.{Instr}
@@ -17,10 +17,6 @@ use Rattle.type_table.specs.Table.{type_table, Indexed}
 use Rattle.instr.specs.Bodies.{Stretch}
 use Rattle.walk.specs.Walk.{body_in, after_field, uses_in}
 use Rattle.walk.specs.declared.Stop.{Stop}
-use Rattle.interning.specs.declared.body.UsedTo.{UsedTo}
-use Rattle.interning.specs.declared.body.UsedTo.TheVariants as T
-use Rattle.interning.specs.declared.uses.Used.{Used}
-use Rattle.interning.specs.declared.uses.Used.TheVariants as U
 
 -- ## The uses of a record, read on the fly
 
@@ -97,9 +93,9 @@ pub record Stopped (s : Bytes) (us : Uses) (w : List ℕ) (k : ℕ) (q : Refusal
   pub says : intern (type_table k s w TYPES) us ≡ refused_by q
   pub kept : Kept TYPES w w'
 
-unfoldable pub Handles : ℕ → ℕ → Bytes → Uses → List ℕ → ℕ → Used → List ℕ → Type 0
-Handles low high s us w k (U.Types k') w' = Handled low high s us w k w' k'
-Handles low high s us w k (U.Refused q) w' = Stopped s us w k q w'
+unfoldable pub Handles : ℕ → ℕ → Bytes → Uses → List ℕ → ℕ → Resolved ℕ → List ℕ → Type 0
+Handles low high s us w k (Ok k') w' = Handled low high s us w k w' k'
+Handles low high s us w k (Err q) w' = Stopped s us w k q w'
 
 -- the uses of a stretch of a body, whose first record is `low`, were handled, and it was passed
 pub record HandledTo (low : ℕ) (s : Bytes) (t : Stretch) (w : List ℕ) (k : ℕ) (w' : List ℕ) (k' : ℕ) (stop : Stop) : Type 0 where
@@ -107,6 +103,6 @@ pub record HandledTo (low : ℕ) (s : Bytes) (t : Stretch) (w : List ℕ) (k : �
   pub at : stop.at ≡ t.at
   pub rec : stop.rec ≡ t.rec
 
-unfoldable pub HandlesTo : ℕ → Bytes → Stretch → List ℕ → ℕ → UsedTo → List ℕ → Type 0
-HandlesTo low s t w k (T.Types k' stop) w' = HandledTo low s t w k w' k' stop
-HandlesTo low s t w k (T.Refused q) w' = Stopped s (body_uses t.body) w k q w'
+unfoldable pub HandlesTo : ℕ → Bytes → Stretch → List ℕ → ℕ → Resolved (ℕ × Stop) → List ℕ → Type 0
+HandlesTo low s t w k (Ok (k', stop)) w' = HandledTo low s t w k w' k' stop
+HandlesTo low s t w k (Err q) w' = Stopped s (body_uses t.body) w k q w'

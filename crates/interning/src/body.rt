@@ -8,16 +8,9 @@ ghost use Rattle.instr.specs.Bodies.{operands_by, tree_at, body_from};
 ghost use Rattle.type_table.specs.Table.{Indexed};
 ghost use Rattle.interning.specs.Uses.{Handles, HandlesTo, Nests, nested, Skips};
 
-use crate::uses::{Used, use_instr, use_type};
-use syntax::{BodyAt, FoldAt, Instr, Refusal, TypeUse};
+use crate::uses::{use_instr, use_type};
+use syntax::{BodyRec, Instr, Resolved, TypeUse};
 use walk::Stop;
-
-// How many types there are after a stretch of a body, and where it stops; or a refusal.
-#[derive(Clone, Copy)]
-pub enum UsedTo {
-    Types(u32, Stop),
-    Refused(Refusal),
-}
 
 // How many blocks are open after an instruction.
 fn depth_after(i: Instr, depth: u32) -> u32
@@ -35,25 +28,30 @@ fn depth_after(i: Instr, depth: u32) -> u32
 
 // A folded record in which so many are nested at most, itself included: the uses of its operands, and then that of its operator.
 #[cycle(use_folded_use_operands)]
-fn use_folded(s: &[u8], work: &mut [u32], count: u32, at: usize, rec: u32, left: u32) -> UsedTo
+fn use_folded(
+    s: &[u8],
+    work: &mut [u32],
+    count: u32,
+    at: usize,
+    rec: u32,
+    left: u32,
+) -> Resolved<(u32, Stop)>
     requires { Lent s.now work.old × Indexed s.now work.old count × (rec ≤ 4096) × ((tree_at left s.now rec at).whole ≡ true) }
     ensures { HandlesTo rec s.now (tree_at left s.now rec at) work.old count result work.new }
 {
     if left < 1 {
-        return UsedTo::Types(count, Stop { at, rec });
+        return Ok((count, Stop { at, rec }));
     }
     if 4096 <= rec {
-        return UsedTo::Types(count, Stop { at, rec });
+        return Ok((count, Stop { at, rec }));
     }
     match instr::known_folded(s, at) {
-        FoldAt::Got(i, n, next) => match use_operands(s, work, count, n, next, rec + 1, left - 1) {
-            UsedTo::Types(k, stop) => match use_instr(s, work, k, i, rec) {
-                Used::Types(m) => UsedTo::Types(m, stop),
-                Used::Refused(q) => UsedTo::Refused(q),
-            },
-            UsedTo::Refused(q) => UsedTo::Refused(q),
-        },
-        FoldAt::Fault(_) => UsedTo::Types(count, Stop { at, rec: rec + 1 }),
+        Ok(((i, n), next)) => {
+            let (k, stop) = use_operands(s, work, count, n, next, rec + 1, left - 1)?;
+            let m = use_instr(s, work, k, i, rec)?;
+            Ok((m, stop))
+        }
+        Err(_) => Ok((count, Stop { at, rec: rec + 1 })),
     }
 }
 
@@ -67,7 +65,7 @@ fn use_operands(
     at: usize,
     rec: u32,
     left: u32,
-) -> UsedTo
+) -> Resolved<(u32, Stop)>
     requires { Lent s.now work.old × Indexed s.now work.old count × (rec ≤ 4096) × ((operands_by (tree_at left s.now) n rec at).whole ≡ true) }
     ensures { HandlesTo rec s.now (operands_by (tree_at left s.now) n rec at) work.old count result work.new }
 {
@@ -76,23 +74,17 @@ fn use_operands(
     let mut here = at;
     let mut r = rec;
     while 0 < due {
-        match use_folded(s, work, k, here, r, left) {
-            UsedTo::Types(m, stop) => {
-                k = m;
-                here = stop.at;
-                r = stop.rec;
-            }
-            UsedTo::Refused(q) => {
-                return UsedTo::Refused(q);
-            }
-        }
+        let (m, stop) = use_folded(s, work, k, here, r, left)?;
+        k = m;
+        here = stop.at;
+        r = stop.rec;
         due -= 1;
     }
-    UsedTo::Types(k, Stop { at: here, rec: r })
+    Ok((k, Stop { at: here, rec: r }))
 }
 
 // The uses of a body, whose first instruction has the record `rec`.
-fn use_body(s: &[u8], work: &mut [u32], count: u32, at: usize, rec: u32) -> Used
+fn use_body(s: &[u8], work: &mut [u32], count: u32, at: usize, rec: u32) -> Resolved<u32>
     requires { Lent s.now work.old × Indexed s.now work.old count × (rec ≤ 4096) × ((body_from 0 rec s.now at).whole ≡ true) }
     ensures { Handles rec (body_from 0 rec s.now at).rec s.now (Types.body_uses (body_from 0 rec s.now at).body) work.old count result work.new }
 {
@@ -102,38 +94,28 @@ fn use_body(s: &[u8], work: &mut [u32], count: u32, at: usize, rec: u32) -> Used
     let mut depth: u32 = 0;
     while r < 4096 {
         match instr::known_body(s, here, depth) {
-            BodyAt::Got(i, next) => {
-                match use_instr(s, work, k, i, r) {
-                    Used::Types(m) => {
-                        k = m;
-                    }
-                    Used::Refused(q) => {
-                        return Used::Refused(q);
-                    }
-                }
+            Some(BodyRec::Instr(i, next)) => {
+                let m = use_instr(s, work, k, i, r)?;
+                k = m;
                 depth = depth_after(i, depth);
                 here = next;
                 r += 1;
             }
-            BodyAt::Folded => match use_folded(s, work, k, here, r, 32) {
-                UsedTo::Types(m, stop) => {
-                    k = m;
-                    here = stop.at;
-                    r = stop.rec;
-                }
-                UsedTo::Refused(q) => {
-                    return Used::Refused(q);
-                }
-            },
-            BodyAt::End(_) => {
-                return Used::Types(k);
+            Some(BodyRec::Folded) => {
+                let (m, stop) = use_folded(s, work, k, here, r, 32)?;
+                k = m;
+                here = stop.at;
+                r = stop.rec;
             }
-            BodyAt::Unread => {
-                return Used::Types(k);
+            Some(BodyRec::End(_)) => {
+                return Ok(k);
+            }
+            None => {
+                return Ok(k);
             }
         }
     }
-    Used::Types(k)
+    Ok(k)
 }
 
 // A function's own use before its body, which begins at `at`. The body of the `own`-th function is read only where it may have uses.
@@ -145,18 +127,14 @@ pub fn use_func(
     own: u32,
     at: usize,
     rec: u32,
-) -> Used
+) -> Resolved<u32>
     requires { Lent s.now work.old × Indexed s.now work.old count × (rec < 4096) × Skips work.old own (Types.body_uses (body_from 0 (rec + 1) s.now at).body) × ((body_from 0 (rec + 1) s.now at).whole ≡ true) × Readable s.now t.params }
     ensures { Handles rec (body_from 0 (rec + 1) s.now at).rec s.now (Types.used_at rec (Types.use_of (use_of s.now t)) ++ Types.body_uses (body_from 0 (rec + 1) s.now at).body) work.old count result work.new }
 {
     let looks = walk::body_uses(work, own);
-    match use_type(s, work, count, t, rec) {
-        Used::Types(k) => {
-            if looks {
-                return use_body(s, work, k, at, rec + 1);
-            }
-            Used::Types(k)
-        }
-        Used::Refused(q) => Used::Refused(q),
+    let k = use_type(s, work, count, t, rec)?;
+    if looks {
+        return use_body(s, work, k, at, rec + 1);
     }
+    Ok(k)
 }

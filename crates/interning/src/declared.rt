@@ -9,7 +9,6 @@ ghost use Rattle.interning.specs.Declaring.{HasRoom, Declares, DeclaredAll, list
 
 use syntax::{Field, List};
 use type_table::Signature;
-use walk::What;
 
 // A type stands after the others.
 fn add_declared(s: &[u8], work: &mut [u32], count: u32, params: List, results: List)
@@ -79,11 +78,11 @@ fn declare_fields(s: &[u8], work: &mut [u32]) -> u32
         let m = walk::visit(s, work, c);
         let what = m.what;
         match what {
-            What::Field(f, _) => {
+            Some((f, _)) => {
                 count = declare(s, work, count, f);
                 c = m.next;
             }
-            What::Done => {
+            None => {
                 return count;
             }
         }

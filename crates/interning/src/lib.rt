@@ -8,4 +8,3 @@ pub mod uses;
 
 pub use declared::declare_all;
 pub use field::use_field;
-pub use uses::Used;

@@ -9,135 +9,87 @@ ghost use Rattle.sources.specs.Readers.{extern_of, forms_of};
 ghost use Rattle.syntax.specs.Fields.{field_at};
 ghost use Rattle.item_records.specs.Readers.{item_of};
 
-use syntax::{
-    ByteAt, Elem, ExternAt, Field, FieldAt, ImportName, Kind, List, ListAt, NameAt, Part, PartAt,
-    Seen, SourceAt, Space,
-};
+use syntax::{Elem, Fault, Field, ImportName, Kind, List, Part, Read, Seen, Space};
 
-pub fn read_type(s: &[u8], at: usize, seen: Seen) -> FieldAt
+#[tactic(auto, using(sources::proofs::Ways::rooms, laws::proofs::Ways::ways, syntax::proofs::Ways::reads), unfolding(definition::specs::Records::type_rec))]
+pub fn read_type(s: &[u8], at: usize, seen: Seen) -> Read<Field>
     ensures { Records.type_rec (room_of seen) s.now at ≡ field_at s.now result }
 {
     if !sources::has_room(seen, Space::Types) {
-        return FieldAt::Fault(7);
+        return Err(Fault::TooMany);
     }
-    match token::read_identifier(s, at) {
-        PartAt::Got(id, a) => match typeuse::read_list(s, a, 64, Elem::Type) {
-            ListAt::Got(params, b) => match typeuse::read_list(s, b, 16, Elem::Type) {
-                ListAt::Got(results, c) => {
-                    return FieldAt::Got(
-                        Field::Type {
-                            id,
-                            params,
-                            results,
-                        },
-                        c,
-                    );
-                }
-                ListAt::Fault(e) => {
-                    return FieldAt::Fault(e);
-                }
-            },
-            ListAt::Fault(e) => {
-                return FieldAt::Fault(e);
-            }
+    let (id, a) = token::read_identifier(s, at)?;
+    let (params, b) = typeuse::read_list(s, a, 64, Elem::Type)?;
+    let (results, c) = typeuse::read_list(s, b, 16, Elem::Type)?;
+    Ok((
+        Field::Type {
+            id,
+            params,
+            results,
         },
-        PartAt::Fault(e) => {
-            return FieldAt::Fault(e);
-        }
-    }
+        c,
+    ))
 }
 
 // What follows the kind byte of an import.
-fn import_of(s: &[u8], at: usize, seen: Seen, name: ImportName, kind: Kind) -> FieldAt
+#[tactic(auto, using(sources::proofs::Ways::rooms, laws::proofs::Ways::ways, syntax::proofs::Ways::reads), unfolding(definition::specs::Records::import_of))]
+fn import_of(s: &[u8], at: usize, seen: Seen, name: ImportName, kind: Kind) -> Read<Field>
     ensures { Records.import_of (room_of seen) (name_of s.now name) (kind_of kind) (extern_of kind) s.now at ≡ field_at s.now result }
 {
     if !sources::has_room_for(seen, kind) {
-        return FieldAt::Fault(7);
+        return Err(Fault::TooMany);
     }
-    match token::read_identifier(s, at) {
-        PartAt::Got(id, a) => match sources::read_extern(s, a, kind) {
-            ExternAt::Got(what, b) => {
-                return FieldAt::Got(Field::Import { name, id, what }, b);
-            }
-            ExternAt::Fault(e) => {
-                return FieldAt::Fault(e);
-            }
-        },
-        PartAt::Fault(e) => {
-            return FieldAt::Fault(e);
-        }
-    }
+    let (id, a) = token::read_identifier(s, at)?;
+    let (what, b) = sources::read_extern(s, a, kind)?;
+    Ok((Field::Import { name, id, what }, b))
 }
 
-pub fn read_import(s: &[u8], at: usize, seen: Seen) -> FieldAt
+#[tactic(auto, using(laws::proofs::Ways::ways, syntax::proofs::Ways::reads), unfolding(definition::specs::Records::import_rec))]
+pub fn read_import(s: &[u8], at: usize, seen: Seen) -> Read<Field>
     ensures { Records.import_rec (room_of seen) s.now at ≡ field_at s.now result }
 {
-    match sources::read_import_name(s, at) {
-        NameAt::Got(name, a) => match token::read_byte(s, a) {
-            ByteAt::Got(b, next) => {
-                if b == 0 {
-                    return import_of(s, next, seen, name, Kind::Func);
-                }
-                if b == 1 {
-                    return import_of(s, next, seen, name, Kind::Table);
-                }
-                if b == 2 {
-                    return import_of(s, next, seen, name, Kind::Mem);
-                }
-                if b == 3 {
-                    return import_of(s, next, seen, name, Kind::Global);
-                }
-                return FieldAt::Fault(4);
-            }
-            ByteAt::Fault(e) => {
-                return FieldAt::Fault(e);
-            }
-        },
-        NameAt::Fault(e) => {
-            return FieldAt::Fault(e);
-        }
+    let (name, a) = sources::read_import_name(s, at)?;
+    let (b, next) = token::read_byte(s, a)?;
+    if b == 0 {
+        return import_of(s, next, seen, name, Kind::Func);
     }
+    if b == 1 {
+        return import_of(s, next, seen, name, Kind::Table);
+    }
+    if b == 2 {
+        return import_of(s, next, seen, name, Kind::Mem);
+    }
+    if b == 3 {
+        return import_of(s, next, seen, name, Kind::Global);
+    }
+    Err(Fault::UnknownByte)
 }
 
 // What follows the exports of an item: its form.
-fn item_of(s: &[u8], at: usize, seen: Seen, kind: Kind, id: Part, exports: List) -> FieldAt
+#[tactic(auto, using(crate::proofs::Ways::form_not, crate::proofs::Ways::form_read, syntax::proofs::Ways::reads))]
+fn item_of(s: &[u8], at: usize, seen: Seen, kind: Kind, id: Part, exports: List) -> Read<Field>
     ensures { item_of (forms_of (room_of seen) kind) (id_of s.now id) (list_of Token.string s.now exports) s.now at ≡ field_at s.now result }
 {
-    match sources::read_source(s, at, seen, kind) {
-        SourceAt::Got(source, next) => {
-            return FieldAt::Got(
-                Field::Item {
-                    id,
-                    exports,
-                    source,
-                },
-                next,
-            );
-        }
-        SourceAt::Fault(e) => {
-            return FieldAt::Fault(e);
-        }
-    }
+    let (source, next) = sources::read_source(s, at, seen, kind)?;
+    Ok((
+        Field::Item {
+            id,
+            exports,
+            source,
+        },
+        next,
+    ))
 }
 
 // A function, a table, a memory or a global.
-pub fn read_item(s: &[u8], at: usize, seen: Seen, kind: Kind) -> FieldAt
+#[tactic(auto, using(sources::proofs::Ways::rooms, laws::proofs::Ways::ways, syntax::proofs::Ways::reads), unfolding(definition::specs::Records::item_rec, crate::specs::Readers::item_of))]
+pub fn read_item(s: &[u8], at: usize, seen: Seen, kind: Kind) -> Read<Field>
     ensures { Records.item_rec (room_of seen) (kind_of kind) (forms_of (room_of seen) kind) s.now at ≡ field_at s.now result }
 {
     if !sources::has_room_for(seen, kind) {
-        return FieldAt::Fault(7);
+        return Err(Fault::TooMany);
     }
-    match token::read_identifier(s, at) {
-        PartAt::Got(id, a) => match typeuse::read_list(s, a, 8, Elem::String) {
-            ListAt::Got(exports, b) => {
-                return item_of(s, b, seen, kind, id, exports);
-            }
-            ListAt::Fault(e) => {
-                return FieldAt::Fault(e);
-            }
-        },
-        PartAt::Fault(e) => {
-            return FieldAt::Fault(e);
-        }
-    }
+    let (id, a) = token::read_identifier(s, at)?;
+    let (exports, b) = typeuse::read_list(s, a, 8, Elem::String)?;
+    item_of(s, b, seen, kind, id, exports)
 }

@@ -1,4 +1,6 @@
 -- An entry of any kind is emitted.
+use Rattle.std.specs.Prelude.{Ok, Err}
+use Rattle.syntax.specs.Refusals.{Resolved}
 use Prim.Native.Nat.{ℕ, ◌+◌, ◌-◌, ◌≤◌, ◌<◌}
 use mathlib.Core.Path.{◌≡◌, refl, sym}
 use mathlib.Core.List.{List, [], ◌∷◌, ◌++◌, append-nil}
@@ -19,8 +21,6 @@ use Rattle.area.proofs.Kept.{kept_same}
 use Rattle.type_table.specs.Table.{types_in, Recalled}
 use Rattle.instr.specs.Bodies.{body_from}
 use Rattle.binary.specs.Emits.{Emits}
-use Rattle.binary.specs.declared.Emitted.{Emitted}
-use Rattle.binary.specs.declared.Emitted.TheVariants as T
 use Rattle.scope.specs.Scope.{scope_in}
 use Rattle.scope.proofs.Frames.{recalled-left, recalled_right}
 use Rattle.frames.specs.Locals.{Head}
@@ -28,11 +28,10 @@ use Rattle.code.specs.Body.{Resolvable}
 use Rattle.binary.specs.Code.{code_of}
 use Rattle.function.specs.Function.{EmitsFunc}
 use Rattle.deinline.specs.Entry.{one_of, section_no, answer_of, uses_of}
+use Rattle.import_export.specs.declared.export.Ends.{Ends}
 use Rattle.entries.specs.Listed.{Answers, NotCode, one_end}
 use Rattle.syntax.specs.declared.Entry.{Entry}
 use Rattle.syntax.specs.declared.Entry.TheVariants as E
-use Rattle.entries.specs.declared.EndsAt.{EndsAt}
-use Rattle.entries.specs.declared.EndsAt.TheVariants as A
 use Rattle.kept.specs.Sections.{SECTIONS}
 use Rattle.kept.specs.Parts.{start_of, part_in}
 use Rattle.kept.specs.Tally.{Ready}
@@ -55,23 +54,23 @@ module _ (s w : List ℕ) (r : ℕ) (e : Entry) (h : Ready s w r e) (t : TypeUse
   pub code-head : Head s t ls
   code-head = (let u = h.head in rw code at u)
 
-  pub code-emits : (old : List ℕ) (at : ℕ) (q : Emitted) (z : EndsAt) (w' new : List ℕ) → EmitsFunc s w r t ls here old at q w' new → z ≡ one_end q → EmitsEntry s w r e old at z w' new
+  pub code-emits : (old : List ℕ) (at : ℕ) (q : Resolved ℕ) (z : Resolved Ends) (w' new : List ℕ) → EmitsFunc s w r t ls here old at q w' new → z ≡ one_end q → EmitsEntry s w r e old at z w' new
   unfolding Answers answer_of one_of Emits joined concat_map
-  code-emits old at (T.To o) z w' new y g =
+  code-emits old at (Ok o) z w' new y g =
       let v = y.emits in
       let a = v.is in
       rw g (record { answers = rw code (record { entries = code_of v.value ∷ []; is = rw a refl; put = put_is v.put (sym (append-nil (code_of v.value))); number = refl }); area = y.area })
-  code-emits old at (T.Refused k) z w' new y g = let a = y.emits in rw g (record { answers = rw (code, a) refl; area = y.area })
+  code-emits old at (Err k) z w' new y g = let a = y.emits in rw g (record { answers = rw (code, a) refl; area = y.area })
 
 -- ## Any other entry
 
 module _ (s w : List ℕ) (r : ℕ) (e : Entry) where
-  pub other-emits : (old : List ℕ) (at : ℕ) (z : EndsAt) (new : List ℕ) → Answers (answer_of (scope_in s w) s r e) old at z new → EmitsEntry s w r e old at z w new
+  pub other-emits : (old : List ℕ) (at : ℕ) (z : Resolved Ends) (new : List ℕ) → Answers (answer_of (scope_in s w) s r e) old at z new → EmitsEntry s w r e old at z w new
   other-emits old at z new h = record { answers = h; area = go z }
     where
-      go : (z : EndsAt) → AreaOf z w w
-      go (A.Ends to n) = kept_same LOCALS w
-      go (A.Refused q) = refl
+      go : (z : Resolved Ends) → AreaOf z w w
+      go (Ok x) = kept_same LOCALS w
+      go (Err q) = refl
 
 pub ready-uses : (s w : List ℕ) (r : ℕ) (e : Entry) → Ready s w r e → Recalled w (types_in s w) (uses_of s r e)
 ready-uses s w r e h = h.recalled
@@ -129,7 +128,7 @@ module _ (e : Entry) (k a b : ℕ) (old : List ℕ) (d : k ≡ section_no e) (fr
   part-ends = rw to (start-within (length old) (k + 1))
 
   -- it was emitted into the part that was lent
-  pub part-emits : (s w : List ℕ) (r at : ℕ) (q : EndsAt) (w' new : List ℕ) → EmitsEntry s w r e (take (b - a) (drop a old)) at q w' new → length new ≡ length (take (b - a) (drop a old))
+  pub part-emits : (s w : List ℕ) (r at : ℕ) (q : Resolved Ends) (w' new : List ℕ) → EmitsEntry s w r e (take (b - a) (drop a old)) at q w' new → length new ≡ length (take (b - a) (drop a old))
       → EmitsKept s w r e old at q w' (put_mid a (b - a) old new)
   unfolding part_in
   part-emits s w r at q w' new x l =

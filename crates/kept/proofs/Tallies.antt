@@ -14,7 +14,7 @@ use Rattle.definition.specs.Binary.{in_section, joined}
 use Rattle.emit.specs.Put.{past}
 use Rattle.deinline.specs.Entry.{Entries}
 use Rattle.kept.specs.Sections.{SECTIONS}
-use Rattle.kept.specs.Tally.{added, reached, tallies, tally_of, Slots}
+use Rattle.kept.specs.Tally.{added, reached, tallies, Slots}
 use Rattle.kept.specs.declared.tally.Tally.{Tally}
 
 -- ## Places that saturate
@@ -53,11 +53,6 @@ tallies-append t ((k, b) ∷ xs) ys = tallies-append (added t k (length b) 1) xs
 added_slots : (t : Tally) (k m n : ℕ) → Slots t → Slots (added t k m n)
 unfolding added
 added_slots t k m n h = record { sizes = length-set t.sizes k _ ∙ h.sizes; counts = length-set t.counts k _ ∙ h.counts }
-
-pub tallies_slots : (t : Tally) (es : Entries) → Slots t → Slots (tallies t es)
-unfolding tallies
-tallies_slots t [] h = h
-tallies_slots t ((k, b) ∷ es) h = tallies_slots (added t k (length b) 1) es (added_slots t k (length b) 1 h)
 
 joined_cons : (b : Bytes) (bs : List Bytes) → length (joined (b ∷ bs)) ≡ length b + length (joined bs)
 unfolding joined concat_map
@@ -151,7 +146,3 @@ module _ (k : ℕ) (h : k < SECTIONS) where
 pub reach_is : (t : Tally) (k to b n : ℕ) → b ≡ past (get_or t.counts k 0) n → record { sizes = set t.sizes k to; counts = set t.counts k b } ≡ reached t k to n
 unfolding reached
 reach_is t k to b n e = rw e refl
-
--- the same, in place
-pub reach_in_is : (sizes counts : List ℕ) (k to b n : ℕ) → b ≡ past (get_or counts k 0) n → tally_of (set sizes k to) (set counts k b) ≡ reached (tally_of sizes counts) k to n
-reach_in_is sizes counts k to b n e = reach_is (tally_of sizes counts) k to b n e

@@ -1,9 +1,9 @@
 -- How large each section is: the lengths of its entries, and how many there are.
-use Rattle.std.specs.Prelude.{ℕ, ◌<◌, ◌≡◌, List, [], ◌∷◌, length, get_or, set, replicate}
+use Rattle.std.specs.Prelude.{ℕ, Ok, Err, ◌<◌, ◌≡◌, List, [], ◌∷◌, length, get_or, set, replicate}
+use Rattle.syntax.specs.Refusals.{Resolved, refused_by}
 use Rattle.definition.specs.Basic.{Answer, ok}
 use Rattle.definition.specs.Syntax.{Bytes}
 use Rattle.definition.specs.Binary.{in_section, joined}
-use Rattle.syntax.specs.Refusals.{refused_by}
 use Rattle.syntax.specs.declared.Refusal.{Refusal}
 use Rattle.emit.specs.Put.{past, Put}
 use Rattle.area.specs.Layout.{LOCALS}
@@ -14,9 +14,6 @@ use Rattle.syntax.specs.declared.Entry.{Entry}
 use Rattle.kept.specs.Sections.{SECTIONS}
 use Rattle.kept.specs.Parts.{part_in}
 use Rattle.kept.specs.declared.tally.Tally.{Tally}
-use Rattle.kept.specs.declared.tally.Verdict.{Verdict}
-use Rattle.kept.specs.declared.tally.Verdict.TheVariants as V'
-use Rattle.kept.specs.declared.tally.Checked.{Checked}
 
 -- `size` bytes more in section k, in `n` entries; both saturate, as places do
 unfoldable pub added : Tally → ℕ → ℕ → ℕ → Tally
@@ -34,12 +31,10 @@ tallies t ((k, b) ∷ es) = tallies (added t k (length b) 1) es
 abbrev pub no_tally : Tally
 no_tally = record { sizes = replicate SECTIONS 0; counts = replicate SECTIONS 0 }
 
--- a tally as two slices, and with it what the code answers
-abbrev pub tally_of : List ℕ → List ℕ → Tally
-tally_of sizes counts = record { sizes = sizes; counts = counts }
-
-abbrev pub checked_of : List ℕ → List ℕ → Verdict → Checked
-checked_of sizes counts v = record { tally = tally_of sizes counts; verdict = v }
+-- what is answered, with the tally that is left
+abbrev pub tallied : Resolved (Unit {0}) → Tally → Resolved Tally
+tallied (Ok u) t = Ok t
+tallied (Err q) t = Err q
 
 -- a slot for each section
 pub record Slots (t : Tally) : Type 0 where
@@ -62,12 +57,9 @@ pub record NotTallied (a : Answer Entries) (r : Refusal) (old new : Bytes) : Typ
   pub is : a ≡ refused_by r
   pub long : length new ≡ length old
 
-abbrev pub ChecksBy : Answer Entries → Tally → Bytes → Verdict → Tally → Bytes → Type 0
-ChecksBy a t old V'.Fine t' new = Tallied a t old t' new
-ChecksBy a t old (V'.Refused r) t' new = NotTallied a r old new
-
-unfoldable pub Checks : Answer Entries → Tally → Bytes → Checked → Bytes → Type 0
-Checks a t old r new = ChecksBy a t old r.verdict r.tally new
+unfoldable pub Checks : Answer Entries → Tally → Bytes → Resolved Tally → Bytes → Type 0
+Checks a t old (Ok t') new = Tallied a t old t' new
+Checks a t old (Err r) new = NotTallied a r old new
 
 -- ## What checking needs, and leaves
 
@@ -83,11 +75,11 @@ pub record ReadyThree (s w : List ℕ) (r : ℕ) (x : Three) : Type 0 where
   pub second : Ready s w r x.second
   pub third : Ready s w r x.third
 
-abbrev pub AreaBy : Verdict → List ℕ → List ℕ → Type 0
-AreaBy V'.Fine w w' = Kept LOCALS w w'
-AreaBy (V'.Refused r) w w' = length w' ≡ length w
+abbrev pub AreaBy : Resolved Tally → List ℕ → List ℕ → Type 0
+AreaBy (Ok t) w w' = Kept LOCALS w w'
+AreaBy (Err r) w w' = length w' ≡ length w
 
 -- an answer was checked: its entries tallied and kept, or its refusal told
-pub record ChecksIn (a : Answer Entries) (t : Tally) (w old : List ℕ) (r : Checked) (w' new : List ℕ) : Type 0 where
+pub record ChecksIn (a : Answer Entries) (t : Tally) (w old : List ℕ) (r : Resolved Tally) (w' new : List ℕ) : Type 0 where
   pub says : Checks a t old r new
-  pub area : AreaBy r.verdict w w'
+  pub area : AreaBy r w w'

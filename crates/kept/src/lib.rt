@@ -11,4 +11,4 @@ pub const SECTIONS: usize = 12;
 
 pub use entry::emit_entry;
 pub use parts::{emit_kept, start_of};
-pub use tally::{Checked, Tally, Verdict, reach, reach_in};
+pub use tally::Tally;

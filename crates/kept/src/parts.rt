@@ -6,10 +6,11 @@ ghost use Rattle.kept.specs.Tally.{Ready};
 ghost use Rattle.kept.specs.Emit.{EmitsKept};
 
 use deinline::section;
-use entries::EndsAt;
-use syntax::Entry;
+use import_export::Ends;
+use syntax::{Entry, Resolved};
 
 // How many of the 32 units stand before the part of a section: code and data have most of them.
+#[tactic(auto, using(laws::proofs::Exits::exits), unfolding(crate::specs::Parts::units_of))]
 fn units_of(k: u8) -> usize
     ensures { result ≡ units_of k }
 {
@@ -26,6 +27,7 @@ fn units_of(k: u8) -> usize
 }
 
 // Where the part of a section begins, in so many kept bytes.
+#[tactic(auto, using(crate::proofs::Keeping::start_fits, crate::proofs::Keeping::start_is))]
 pub fn start_of(len: usize, k: u8) -> usize
     ensures { result ≡ start_of len k }
 {
@@ -40,7 +42,7 @@ pub fn emit_kept(
     from: usize,
     e: Entry,
     rec: u32,
-) -> EndsAt
+) -> Resolved<Ends>
     requires { At s.now work.old rec × Ready s.now work.old rec e }
     ensures { EmitsKept s.now work.old rec e kept.old from result work.new kept.new }
 {

@@ -1,6 +1,5 @@
 pub mod Reading
 pub mod Writing
-pub mod Answers
 pub mod Signs
 pub mod WritingSigned
 pub mod Floor

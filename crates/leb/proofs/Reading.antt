@@ -17,10 +17,7 @@ use Rattle.definition.specs.Token.{needed, groups}
 use Rattle.laws.proofs.Readers.{byte_in, byte_out}
 use Rattle.laws.proofs.Groups.{groups-fault, groups_wide, groups_last, groups_end, groups-more, groups_none, groups-within}
 use Rattle.leb.specs.Width.{Width, limit}
-use Rattle.syntax.specs.Numbers.{u64_at, end_at}
-use Rattle.syntax.specs.declared.U64.{U64}
-use Rattle.syntax.specs.declared.U64.TheVariants as U64
-use Rattle.leb.proofs.Answers.{u64-got}
+use Rattle.syntax.specs.Numbers.{end_at}
 
 -- ## `end_of`
 
@@ -48,6 +45,13 @@ pub record Still (s : Bytes) (at most last left scale value here : ℕ) : Type 0
 
 pub begin : (s : Bytes) (at most last : ℕ) → Width most last → Still s at most last most 1 0 at
 begin s at most last w = record { some = w.some; scaled = one-mul (128 ^ (most - 1)); small = omega arith; same = refl }
+
+-- the same by how many groups were read, the next one counted in
+pub begin_at : (s : Bytes) (at most last : ℕ) → Width most last → Still s at most last (most + 1 - 1) 1 0 at
+begin_at s at most last w = let e : most + 1 - 1 ≡ most = omega arith in rw e (begin s at most last w)
+
+pub again_at : {s : Bytes} {at most last scale value here : ℕ} (i : ℕ) → Still s at most last (most + 1 - i - 1) scale value here → Still s at most last (most + 1 - (i + 1)) scale value here
+again_at {most = most} i v = let e : most + 1 - (i + 1) ≡ most + 1 - i - 1 = omega arith in rw e v
 
 -- a group adds at most 127 times the scale
 next_small : (value scale b : ℕ) → value < scale → value + b % 128 * scale < scale * 128
@@ -157,5 +161,5 @@ one_group most bound s at g w h l =
     rw e at (groups_last bound 1 0 s at most g (byte_in s at h) (rw e (omega arith)) l refl)
 
 -- what the loop gives at the narrower width fits it
-pub narrow : (s : Bytes) (at : ℕ) {r : U64} {v next : ℕ} → groups 5 (limit 5 15) 1 0 s at ≡ u64_at r → r ≡ U64.Got v next → Fits w32 v
-narrow s at e d = record { fits = (groups-within 5 (limit 5 15) 1 0 s at (u64-got e d)).small }
+pub narrow : (s : Bytes) (at v next : ℕ) → groups 5 (limit 5 15) 1 0 s at ≡ got v next → Fits w32 v
+narrow s at v next e = record { fits = (groups-within 5 (limit 5 15) 1 0 s at e).small }

@@ -4,34 +4,33 @@ ghost use Rattle.definition.specs.Token as Token;
 ghost use Rattle.syntax.specs.Numbers.{u32_at, u64_at, end_at};
 ghost use Rattle.leb.specs.Width.{Width, limit};
 
-use syntax::{U32, U64};
+use syntax::{Fault, Read};
 
 // The end of a number: its last group is the first, or not 0.
-fn end_of(value: u64, next: usize, scale: u64, b: u8) -> U64
+fn end_of(value: u64, next: usize, scale: u64, b: u8) -> Read<u64>
     ensures { end_at scale b value next ≡ u64_at result }
 {
     if scale == 1 {
-        return U64::Got(value, next);
+        return Ok((value, next));
     }
     if b == 0 {
-        return U64::Fault(19);
+        return Err(Fault::Padded);
     }
-    U64::Got(value, next)
+    Ok((value, next))
 }
 
 // A number of at most `most` groups, the last of which is at most `last`. What the groups before say is below `scale`, so
 // only the last of them can pass the width.
-fn groups_at(s: &[u8], at: usize, most: usize, last: u8) -> U64
+fn groups_at(s: &[u8], at: usize, most: usize, last: u8) -> Read<u64>
     requires { Width most last }
     ensures { Token.groups most (limit most last) 1 0 s.now at ≡ u64_at result }
 {
-    let mut left = most;
     let mut scale: u64 = 1;
     let mut value: u64 = 0;
     let mut here = at;
-    while 1 < left {
+    for _ in 1..most {
         if s.len() <= here {
-            return U64::Fault(2);
+            return Err(Fault::Ended);
         }
         let b = s[here];
         value += (b % 128) as u64 * scale;
@@ -40,42 +39,41 @@ fn groups_at(s: &[u8], at: usize, most: usize, last: u8) -> U64
             return end_of(value, here, scale, b);
         }
         scale *= 128;
-        left -= 1;
     }
     if s.len() <= here {
-        return U64::Fault(2);
+        return Err(Fault::Ended);
     }
     let b = s[here];
     if last < b {
-        return U64::Fault(3);
+        return Err(Fault::TooLarge);
     }
     value += b as u64 * scale;
     end_of(value, here + 1, scale, b)
 }
 
-pub fn read_u32(s: &[u8], at: usize) -> U32
+#[tactic(auto, using(crate::proofs::Reading::one_group, crate::proofs::Reading::narrow, syntax::proofs::Ways::reads), unfolding(definition::specs::Token::u32))]
+pub fn read_u32(s: &[u8], at: usize) -> Read<u32>
     ensures { Token.u32 s.now at ≡ u32_at result }
 {
     // most numbers are one group
     if at < s.len() {
         let b = s[at];
         if b < 128 {
-            return U32::Got(b as u32, at + 1);
+            return Ok((b as u32, at + 1));
         }
     }
-    match groups_at(s, at, 5, 15) {
-        U64::Got(value, next) => U32::Got(value as u32, next),
-        U64::Fault(n) => U32::Fault(n),
-    }
+    let (value, next) = groups_at(s, at, 5, 15)?;
+    Ok((value as u32, next))
 }
 
-pub fn read_u64(s: &[u8], at: usize) -> U64
+#[tactic(auto, using(crate::proofs::Reading::one_group), unfolding(definition::specs::Token::u64))]
+pub fn read_u64(s: &[u8], at: usize) -> Read<u64>
     ensures { Token.u64 s.now at ≡ u64_at result }
 {
     if at < s.len() {
         let b = s[at];
         if b < 128 {
-            return U64::Got(b as u64, at + 1);
+            return Ok((b as u64, at + 1));
         }
     }
     groups_at(s, at, 10, 1)

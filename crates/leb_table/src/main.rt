@@ -2,21 +2,12 @@
 #![tactic(auto)]
 
 use std::io;
-use syntax::{U32, U64};
-
-fn byte(rt: &impl Print, b: u8) -> io::Result<()> {
-    print!(rt; " {b:02X}")
-}
+use syntax::Fault;
 
 // The first n bytes, a space before each.
 fn hex(rt: &impl Print, s: &[u8], n: usize) -> io::Result<()> {
-    let mut i = 0;
-    while i < s.len() {
-        if n <= i {
-            return Ok(());
-        }
-        byte(rt, s[i])?;
-        i += 1;
+    for b in s.iter().take(n) {
+        print!(rt; " {b:02X}")?;
     }
     Ok(())
 }
@@ -65,7 +56,8 @@ fn got(rt: &impl Print, value: u64, next: usize) -> io::Result<()> {
     println!(rt; ": {value} next {next}")
 }
 
-fn refused(rt: &impl Print, n: u8) -> io::Result<()> {
+fn refused(rt: &impl Print, fault: Fault) -> io::Result<()> {
+    let n = u8::from(fault);
     println!(rt; ": refused {n}")
 }
 
@@ -73,8 +65,8 @@ fn read_u32(rt: &impl Print, s: &[u8]) -> io::Result<()> {
     print!(rt; "read u32")?;
     hex(rt, s, s.len())?;
     match leb::read_u32(s, 0) {
-        U32::Got(value, next) => got(rt, value as u64, next),
-        U32::Fault(n) => refused(rt, n),
+        Ok((value, next)) => got(rt, value as u64, next),
+        Err(n) => refused(rt, n),
     }
 }
 
@@ -82,8 +74,8 @@ fn read_u64(rt: &impl Print, s: &[u8]) -> io::Result<()> {
     print!(rt; "read u64")?;
     hex(rt, s, s.len())?;
     match leb::read_u64(s, 0) {
-        U64::Got(value, next) => got(rt, value, next),
-        U64::Fault(n) => refused(rt, n),
+        Ok((value, next)) => got(rt, value, next),
+        Err(n) => refused(rt, n),
     }
 }
 

@@ -47,10 +47,8 @@ fn sections_len(t: Tally, from: u8, to: u8, at: usize) -> usize
     ensures { result ≡ lens_from (to - from) from at t }
 {
     let mut o = at;
-    let mut k = from;
-    while k < to {
+    for k in from..to {
         o = emit::tally(o, section_len(t, k));
-        k += 1;
     }
     o
 }

@@ -133,10 +133,8 @@ fn put_sections(
     ensures { Writes (sections_from (to - from) from (all_entries s.now work.old)) out.old at result out.new work.old work.new }
 {
     let mut o = at;
-    let mut k = from;
-    while k < to {
+    for k in from..to {
         o = put_section(k, t, kept, s, work, out, o);
-        k += 1;
     }
     o
 }

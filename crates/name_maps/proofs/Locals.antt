@@ -1,4 +1,6 @@
 -- The names of one function: its parameters and locals, and its entry.
+use Rattle.std.specs.Prelude.{Ok, Err}
+use Rattle.syntax.specs.Refusals.{Resolved}
 use Prim.Native.Nat.{ℕ, zero, suc, ◌+◌, ◌*◌, ◌^◌, ◌≤◌, ◌<◌}
 use mathlib.Core.Path.{◌≡◌, refl, sym, ◌∙◌, ap, subst}
 use mathlib.Core.Bool.{Bool, true, false}
@@ -26,8 +28,6 @@ use Rattle.syntax.specs.Resolved.{type_no_of}
 use Rattle.syntax.specs.declared.TypeNo.{TypeNo}
 use Rattle.scope.specs.Scope.{scope_in}
 use Rattle.scope.specs.Answers.{type_answer}
-use Rattle.scope.specs.declared.types.TypeAt.{TypeAt}
-use Rattle.scope.specs.declared.types.TypeAt.TheVariants as T
 use Rattle.frames.specs.Locals.{ids_at, ids_of}
 use Rattle.definition.specs.NameSection.{NameMap, named_from, locals_by, unless_empty, local_names_from, name_assoc, indirect_name_assoc}
 use Rattle.name_maps.specs.Maps.{first, Adds, Names, LocalNames, Few, own_locals}
@@ -98,15 +98,15 @@ module _ (s w : List ℕ) (n : TypeNo) (t : TypeUse) (ls : Code.List) (x : Reach
   unfolding locals_of param_names ids_at
   typed-nameless k r new h m v = let d : is_inline (use_of s t) ≡ false = sym told ∙ h in rw (d, ← m) v
 
-module _ (s w : List ℕ) (rec : ℕ) (t : TypeUse) (ls : Code.List) (here : ℕ) (old : Bytes) (q : TypeAt) (told : type_no (scope_in s w) rec (use_of s t) ≡ type_answer q) where
-  pub own-typed : (n : TypeNo) (r : Reached) (new : Bytes) → q ≡ T.To n → Names (locals_of (types_in s w) (type_no_of n) (use_of s t) (list_of Token.param s ls)) (first here 0) old r new
+module _ (s w : List ℕ) (rec : ℕ) (t : TypeUse) (ls : Code.List) (here : ℕ) (old : Bytes) (q : Resolved TypeNo) (told : type_no (scope_in s w) rec (use_of s t) ≡ type_answer q) where
+  pub own-typed : (n : TypeNo) (r : Reached) (new : Bytes) → q ≡ Ok n → Names (locals_of (types_in s w) (type_no_of n) (use_of s t) (list_of Token.param s ls)) (first here 0) old r new
       → Names (own_locals (scope_in s w) s rec t ls) (first here 0) old r new
   unfolding own_locals scope_in
   own-typed n r new e v =
       let d : locals_by (types_in s w) (use_of s t) (list_of Token.param s ls) (ok (type_no_of n)) ≡ own_locals (scope_in s w) s rec t ls = ap (locals_by (types_in s w) (use_of s t) (list_of Token.param s ls)) (sym (told ∙ ap type_answer e)) in
       subst (λ is. Names is (first here 0) old r new) d v
 
-  pub own-refused : (j : Refusal) (r : Reached) → q ≡ T.Refused j → r ≡ first here 0 → length old * 1 < 2 ^ 63 → Names (own_locals (scope_in s w) s rec t ls) (first here 0) old r old
+  pub own-refused : (j : Refusal) (r : Reached) → q ≡ Err j → r ≡ first here 0 → length old * 1 < 2 ^ 63 → Names (own_locals (scope_in s w) s rec t ls) (first here 0) old r old
   unfolding own_locals scope_in named_from
   own-refused j r e d g =
       let c : locals_by (types_in s w) (use_of s t) (list_of Token.param s ls) (refused_by j) ≡ own_locals (scope_in s w) s rec t ls = ap (locals_by (types_in s w) (use_of s t) (list_of Token.param s ls)) (sym (told ∙ ap type_answer e)) in

@@ -1,4 +1,6 @@
 -- Name maps, a place at a time.
+use Rattle.std.specs.Prelude.{Ok, Err}
+use Rattle.syntax.specs.Reads.{Read}
 use Prim.Native.Nat.{ℕ, zero, suc, ◌+◌, ◌-◌, ◌*◌, ◌^◌, ◌≤◌, ◌<◌}
 use mathlib.Core.Path.{◌≡◌, refl, sym, ◌∙◌, ap}
 use mathlib.Core.List.{List, [], ◌∷◌, ◌++◌, append_assoc, append-nil}
@@ -19,9 +21,9 @@ use Rattle.area.specs.Layout.{NAMES, TABLE, WORDS}
 use Rattle.syntax.specs.Tokens.{part_of, id_of}
 use Rattle.syntax.specs.declared.Part.{Part}
 use Rattle.syntax.specs.TypeUses.{local_at}
+use Rattle.syntax.specs.Refusals.{number}
+use Rattle.syntax.specs.declared.Fault.{Fault}
 use Rattle.syntax.specs.declared.Local.{Local}
-use Rattle.syntax.specs.declared.LocalAt.{LocalAt}
-use Rattle.syntax.specs.declared.LocalAt.TheVariants as O
 use Rattle.operands.proofs.Elements.{elements-none, elements-more, elements-fault}
 use Rattle.name_table.specs.Area.{tag_of, entry, names}
 use Rattle.name_table.specs.Tables.{base, name_count, table_of}
@@ -111,9 +113,9 @@ pub record Naming (s w old : List ℕ) (at left place : ℕ) (x : Reached) (out 
   pub so_far : Names done (first at 0) old x out
   pub same : done ++ names left s w place ≡ table_of funcs s w
 
-pub naming_begin : (s w old : List ℕ) (at n b : ℕ) (x : Reached) → n ≡ name_count funcs w → b ≡ base funcs → x ≡ first at 0 → length old * 1 < 2 ^ 63 → Naming s w old at n b x old
+naming_start : (s w old : List ℕ) (at n b : ℕ) (x : Reached) → n ≡ name_count funcs w → b ≡ base funcs → x ≡ first at 0 → length old * 1 < 2 ^ 63 → Naming s w old at n b x old
 unfolding table_of base named_from
-naming_begin s w old at n b x e g d h = rw (g, d) (record {
+naming_start s w old at n b x e g d h = rw (g, d) (record {
   low = omega arith;
   sum = omega arith;
   done = [];
@@ -121,42 +123,46 @@ naming_begin s w old at n b x e g d h = rw (g, d) (record {
   same = rw e refl;
 })
 
+pub naming_begin : (s w old : List ℕ) (at n b : ℕ) (x : Reached) → n ≡ name_count funcs w → b ≡ base funcs → x ≡ first at 0 → length old * 1 < 2 ^ 63 → Naming s w old at (n - 0) b x old
+naming_begin s w old at n b x e g d h = let z : n - 0 ≡ n = omega arith in naming_start s w old at (n - 0) b x (z ∙ e) g d h
+
 module _ (s w old : List ℕ) (at left place : ℕ) (x : Reached) (out : List ℕ) (v : Naming s w old at left place x out) where
   pub naming_few : Few 8589934592 x
   naming_few = record { low = omega (arith, v.sum); fewer = omega (arith, v.so_far.number, v.so_far.count, named-few 0 v.done) }
 
-  pub naming_room : 0 < left → WORDS ≤ length w → place + 2 < length w
-  naming_room h g = omega (arith, v.low)
-
-  pub naming_next : 0 < left → Fits w64 (place + 3)
-  naming_next h = omega (arith, v.low)
-
   pub naming_long : length out ≡ length old
   naming_long = v.so_far.put.long
 
-  pub naming_again : (r : Reached) (new : List ℕ) → 0 < left → Names (entry s w place ∷ []) x out r new → Naming s w old at (left - 1) (place + 3) r new
+module _ (s w old : List ℕ) (at n i place : ℕ) (x : Reached) (out : List ℕ) (v : Naming s w old at (n - i) place x out) where
+  pub naming_room : i < n → WORDS ≤ length w → place + 2 < length w
+  naming_room h g = omega (arith, v.low)
+
+  pub naming_next : i < n → Fits w64 (place + 3)
+  naming_next h = omega (arith, v.low)
+
+  pub naming_again : (r : Reached) (new : List ℕ) → i < n → Names (entry s w place ∷ []) x out r new → Naming s w old at (n - (i + 1)) (place + 3) r new
   unfolding names
-  naming_again r new h q = go left h v.low v.sum v.same
+  naming_again r new h q = go (n - i) (n - (i + 1)) (omega arith) v.low v.sum v.same
     where
-      go : (n : ℕ) → 0 < n → place + 3 * n ≤ NAMES + TABLE → x.number + n ≤ 256 → v.done ++ names n s w place ≡ table_of funcs s w → Naming s w old at (n - 1) (place + 3) r new
-      go zero h a b c = absurd (omega arith)
-      go (suc n) h a b c =
-          let z : suc n - 1 ≡ n = omega arith in
-          rw z (record {
+      go : (m k : ℕ) → m ≡ suc k → place + 3 * m ≤ NAMES + TABLE → x.number + m ≤ 256 → v.done ++ names m s w place ≡ table_of funcs s w → Naming s w old at k (place + 3) r new
+      go zero k e a b c = absurd (omega arith)
+      go (suc m) k e a b c =
+          let z : m ≡ k = omega arith in
+          rw (← z) (record {
             low = omega arith;
             sum = omega (arith, q.number);
             done = v.done ++ (entry s w place ∷ []);
             so_far = names_then v.done (entry s w place ∷ []) v.so_far q;
-            same = append_assoc v.done (entry s w place ∷ []) (names n s w (place + 3)) ∙ c;
+            same = append_assoc v.done (entry s w place ∷ []) (names m s w (place + 3)) ∙ c;
           })
 
-  pub naming_done : left ≤ 0 → Names (table_of funcs s w) (first at 0) old x out
+  pub naming_done : n ≤ i → Names (table_of funcs s w) (first at 0) old x out
   unfolding names
-  naming_done h = go left h v.same
+  naming_done h = go (n - i) (omega arith) v.same
     where
-      go : (n : ℕ) → n ≤ 0 → v.done ++ names n s w place ≡ table_of funcs s w → Names (table_of funcs s w) (first at 0) old x out
+      go : (m : ℕ) → m ≤ 0 → v.done ++ names m s w place ≡ table_of funcs s w → Names (table_of funcs s w) (first at 0) old x out
       go zero h c = rw (← c, append-nil v.done) v.so_far
-      go (suc n) h c = absurd (omega arith)
+      go (suc m) h c = absurd (omega arith)
 
 -- ## A list of parameters or locals
 
@@ -167,15 +173,18 @@ pub record Listing (s old : List ℕ) (from : Reached) (place n here left : ℕ)
   pub so_far : Names done from old x out
   pub same : done ++ ids_at s here left ≡ ids_at s place n
 
-pub listing_begin : (s old : List ℕ) (from : Reached) (place n : ℕ) → Few 4294967296 from → n < 2 ^ 32 → length old * 1 < 2 ^ 63 → Listing s old from place n place n from old
+listing_start : (s old : List ℕ) (from : Reached) (place n m : ℕ) → m ≡ n → Few 4294967296 from → n < 2 ^ 32 → length old * 1 < 2 ^ 63 → Listing s old from place n place m from old
 unfolding named_from
-listing_begin s old from place n f g h = record {
+listing_start s old from place n m e f g h = record {
   sum = omega (arith, f.low);
   fewer = f.fewer;
   done = [];
   so_far = adds_none name_assoc from old h;
-  same = refl;
+  same = rw e refl;
 }
+
+pub listing_begin : (s old : List ℕ) (from : Reached) (place n : ℕ) → Few 4294967296 from → n < 2 ^ 32 → length old * 1 < 2 ^ 63 → Listing s old from place n place (n - 0) from old
+listing_begin s old from place n f g h = listing_start s old from place n (n - 0) (omega arith) f g h
 
 module _ (s old : List ℕ) (from : Reached) (place n here left : ℕ) (x : Reached) (out : List ℕ) (v : Listing s old from place n here left x out) where
   pub listing_few : Few 8589934592 x
@@ -189,25 +198,31 @@ module _ (s old : List ℕ) (from : Reached) (place n here left : ℕ) (x : Reac
       let d : v.done ≡ ids_at s place n = sym (append-nil v.done) ∙ ap (λ z. v.done ++ z) (sym e) ∙ v.same in
       rw (← d) v.so_far
 
-  pub listing_done : left ≤ 0 → Names (ids_at s place n) from old x out
+  listing_none : left ≤ 0 → Names (ids_at s place n) from old x out
   unfolding ids_at
-  listing_done h = listing_end (rw (elements-none param s here left h) refl)
+  listing_none h = listing_end (rw (elements-none param s here left h) refl)
 
-  module _ (r : LocalAt) (told : param s here ≡ local_at s r) where
+  module _ (r : Read Local) (told : param s here ≡ local_at s r) where
     -- the list ends where one is not read
-    pub listing_fault : (k : ℕ) → r ≡ O.Fault k → Names (ids_at s place n) from old x out
+    pub listing_fault : (k : Fault) → r ≡ Err k → Names (ids_at s place n) from old x out
     unfolding ids_at
-    listing_fault k e = listing_end (rw (elements-fault param s here left k (told ∙ ap (local_at s) e)) refl)
+    listing_fault k e = listing_end (rw (elements-fault param s here left (number k) (told ∙ ap (local_at s) e)) refl)
 
-    pub listing_again : (l : Local) (next : ℕ) (y : Reached) (new : List ℕ) → 0 < left → r ≡ O.Got l next → Names (id_of s l.id ∷ []) x out y new
-        → Listing s old from place n next (left - 1) y new
-    unfolding ids_at
-    listing_again l next y new h e q = record {
-      sum = omega (arith, v.sum, q.number);
-      fewer = omega (arith, v.fewer, q.number, q.count, named-few x.number (id_of s l.id ∷ []));
-      done = v.done ++ (id_of s l.id ∷ []);
-      so_far = names_then v.done (id_of s l.id ∷ []) v.so_far q;
-      same = append_assoc v.done (id_of s l.id ∷ []) (ids_at s next (left - 1))
-          ∙ ap (λ z. v.done ++ z) (sym (rw (elements-more param s here left _ next h (told ∙ ap (local_at s) e)) refl))
-          ∙ v.same;
-    }
+module _ (s old : List ℕ) (from : Reached) (place n here i : ℕ) (x : Reached) (out : List ℕ) (v : Listing s old from place n here (n - i) x out) where
+  pub listing_again : (r : Read Local) (told : param s here ≡ local_at s r) (l : Local) (next : ℕ) (y : Reached) (new : List ℕ) → i < n → r ≡ Ok (l, next) → Names (id_of s l.id ∷ []) x out y new
+      → Listing s old from place n next (n - (i + 1)) y new
+  unfolding ids_at
+  listing_again r told l next y new h e q =
+      let z : n - i - 1 ≡ n - (i + 1) = omega arith in
+      rw (← z) (record {
+        sum = omega (arith, v.sum, q.number);
+        fewer = omega (arith, v.fewer, q.number, q.count, named-few x.number (id_of s l.id ∷ []));
+        done = v.done ++ (id_of s l.id ∷ []);
+        so_far = names_then v.done (id_of s l.id ∷ []) v.so_far q;
+        same = append_assoc v.done (id_of s l.id ∷ []) (ids_at s next (n - i - 1))
+            ∙ ap (λ z. v.done ++ z) (sym (rw (elements-more param s here (n - i) _ next (omega arith) (told ∙ ap (local_at s) e)) refl))
+            ∙ v.same;
+      })
+
+  pub listing_done : n ≤ i → Names (ids_at s place n) from old x out
+  listing_done h = listing_none s old from place n here (n - i) x out v (omega arith)

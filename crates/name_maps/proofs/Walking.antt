@@ -1,4 +1,5 @@
 -- The functions that fields bring: of one field, of all.
+use Rattle.std.specs.Prelude.{Some, None}
 use Prim.Native.Nat.{ℕ, suc, ◌+◌, ◌*◌, ◌^◌, ◌≤◌, ◌<◌}
 use mathlib.Core.Path.{◌≡◌, refl, sym, ◌∙◌, ap, subst}
 use mathlib.Core.List.{List, [], ◌∷◌, ◌++◌, map, append_assoc, append-nil}
@@ -29,7 +30,6 @@ use Rattle.type_table.specs.Table.{types_in, Recalled}
 use Rattle.walk.specs.Walk.{Ahead, begin, fields_in, fields_ahead, fields_here, visit_in, visit_of}
 use Rattle.walk.specs.declared.Cursor.{Cursor}
 use Rattle.walk.specs.declared.Met.{Met}
-use Rattle.walk.specs.declared.What.TheVariants as W
 use Rattle.walk.proofs.Steps.{visit_done, visit_less, visit_fields, visit_ahead}
 use Rattle.laws.proofs.Uses.{uses-append}
 use Rattle.scope.specs.Scope.{scope_in}
@@ -196,14 +196,14 @@ module _ (s w old : List ℕ) (here : ℕ) (c : Cursor) (x : Reached) (out : Lis
   walking_long = v.so_far.put.long
 
   module _ (m : Met) (told : visit_in c.left c s ≡ visit_of s m) where
-    pub walking_done : m.what ≡ W.Done → LocalNames (functions (scope_in s w) (fields_in s)) (first here 0) old x out
+    pub walking_done : m.what ≡ None → LocalNames (functions (scope_in s w) (fields_in s)) (first here 0) old x out
     unfolding functions concat_map
     walking_done is =
         let e = visit_done s c m told is in
         let d : v.done ≡ functions (scope_in s w) (fields_in s) = sym (append-nil v.done) ∙ ap (λ fs. v.done ++ functions (scope_in s w) fs) (sym e) ∙ v.same in
         rw (← d) v.so_far
 
-    module _ (f : Field) (end : ℕ) (is : m.what ≡ W.Field f end) where
+    module _ (f : Field) (end : ℕ) (is : m.what ≡ Some (f, end)) where
       abbrev now : Numbered Identifier
       now = fields_here c s (record { field = field_of s f; head_end = end; next = m.next })
 

@@ -16,9 +16,7 @@ ghost use Rattle.definition.specs.NameSection.{named_from, functions};
 ghost use Rattle.name_maps.specs.Maps.{first, Names, LocalNames, Few, function_of_extern, function_of_own, function_of_source, function_of, own_locals, brought_locals, RecalledOf};
 
 use crate::map::{Reached, begin, put_list};
-use scope::TypeAt;
 use syntax::{Extern, Field, List, Own, Source, TypeNo, TypeUse};
-use walk::What;
 
 // The function that a field brings.
 #[derive(Clone, Copy)]
@@ -148,8 +146,8 @@ fn put_own(
     ensures { Names (own_locals (scope_in s.now work.now) s.now rec t ls) (first at 0) out.old result out.new }
 {
     match scope::type_no(s, work, t, rec) {
-        TypeAt::To(n) => put_typed(s, work, out, at, n, t, ls),
-        TypeAt::Refused(_) => begin(at, 0),
+        Ok(n) => put_typed(s, work, out, at, n, t, ls),
+        Err(_) => begin(at, 0),
     }
 }
 
@@ -229,11 +227,11 @@ pub fn put_locals(s: &[u8], work: &[u32], out: &mut [u8], at: usize) -> Reached
         let m = walk::visit(s, work, c);
         let what = m.what;
         match what {
-            What::Field(f, _) => {
+            Some((f, _)) => {
                 x = put_function(s, work, out, x, field_function(f), c.rec);
                 c = m.next;
             }
-            What::Done => {
+            None => {
                 return x;
             }
         }

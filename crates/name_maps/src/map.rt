@@ -8,7 +8,7 @@ ghost use Rattle.name_table.specs.Tables.{table_of};
 ghost use Rattle.frames.specs.Locals.{ids_of};
 ghost use Rattle.name_maps.specs.Maps.{Few, Names, first};
 
-use syntax::{List, LocalAt, Part, Space};
+use syntax::{List, Part, Space};
 
 // Where the next entry of a map goes, the number of the next place, and how many entries came before.
 #[derive(Clone, Copy)]
@@ -83,13 +83,12 @@ pub fn put_functions(s: &[u8], work: &[u32], out: &mut [u8], at: usize) -> Reach
     requires { WORDS ≤ length work.now }
     ensures { Names (table_of funcs s.now work.now) (first at 0) out.old result out.new }
 {
-    let mut left = name_table::name_count(work, Space::Funcs);
+    let n = name_table::name_count(work, Space::Funcs);
     let mut place = name_table::table_base(Space::Funcs);
     let mut x = begin(at, 0);
-    while 0 < left {
+    for _ in 0..n {
         x = put_place(s, work, out, x, place);
         place += 3;
-        left -= 1;
     }
     x
 }
@@ -99,17 +98,16 @@ pub fn put_list(s: &[u8], out: &mut [u8], from: Reached, l: List) -> Reached
     requires { Few 4294967296 from }
     ensures { Names (ids_of s.now l) from out.old result out.new }
 {
+    let n = l.count;
     let mut at = l.at;
-    let mut left = l.count;
     let mut x = from;
-    while 0 < left {
+    for _ in 0..n {
         match typeuse::read_local(s, at) {
-            LocalAt::Got(p, next) => {
+            Ok((p, next)) => {
                 x = put_next(s, out, x, p.id);
                 at = next;
-                left -= 1;
             }
-            LocalAt::Fault(_) => {
+            Err(_) => {
                 return x;
             }
         }

@@ -81,10 +81,10 @@ pub locals-size : (s w old : List ℕ) (r : Reached) (new : List ℕ) → LocalN
 unfolding local_entries
 locals-size s w old r new v = sized_of indirect_name_assoc (local_names_from 0 (functions (scope_in s w) (fields_in s))) _ old r new v
 
-pub both_measured : (s w : List ℕ) (f l : Reached) (t r : Tally) → SizeOf (function_entries s w) f → SizeOf (local_entries s w) l → t ≡ reached no_tally 1 f.at f.count → r ≡ reached t 2 l.at l.count
+pub both_measured : (s w : List ℕ) (f l : Reached) (n t r : Tally) → SizeOf (function_entries s w) f → SizeOf (local_entries s w) l → n ≡ no_tally → t ≡ reached n 1 f.at f.count → r ≡ reached t 2 l.at l.count
     → NameTally s w r
 unfolding reached
-both_measured s w f l t r v x d e = rw (e, d) (record {
+both_measured s w f l n t r v x z d e = rw (e, d, z) (record {
   functions = record { size = v.size; count = ap (past 0) v.count };
   locals = record { size = x.size; count = ap (past 0) x.count };
 })

@@ -37,12 +37,10 @@ pub fn measure(s: &[u8], work: &[u32]) -> Tally
 {
     let f = measure_functions(s, work);
     let l = measure_locals(s, work);
-    let none = Tally {
-        sizes: [0; kept::SECTIONS],
-        counts: [0; kept::SECTIONS],
-    };
-    let t = kept::reach(none, 1, f.at, f.count);
-    kept::reach(t, 2, l.at, l.count)
+    let mut t = Tally::none();
+    t.reach(1, f.at, f.count);
+    t.reach(2, l.at, l.count);
+    t
 }
 
 // How long both subsections are.

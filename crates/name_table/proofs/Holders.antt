@@ -1,4 +1,5 @@
 -- Laws of the records that defined items: where they begin, a record of them, the holder of a name, and an item more.
+use Rattle.std.specs.Prelude.{Option as Optional, Some, None}
 use Prim.Native.Nat.{ℕ, zero, suc, ◌+◌, ◌*◌, ◌≤◌, ◌<◌}
 use mathlib.Core.Path.{◌≡◌, refl, ◌∙◌, ap}
 use mathlib.Core.List.{List, [], ◌∷◌, ◌++◌}
@@ -22,9 +23,6 @@ use Rattle.syntax.specs.declared.Part.{Part}
 use Rattle.name_table.specs.Area.{entry_words, names, found}
 use Rattle.name_table.specs.Tables.{base}
 use Rattle.name_table.specs.Definers.{definers_base, definers_in, holder_in, held_by, item_words}
-use Rattle.name_table.specs.declared.table.Found.{Found}
-use Rattle.name_table.specs.declared.table.Found.TheVariants as F
-use Rattle.name_table.specs.declared.definers.Held.TheVariants as H
 use Rattle.name_table.proofs.Tables.{code_small, base-low, base_high, words_other, words_length, words_kept, names-kept}
 use Rattle.name_table.proofs.Walk.{names-below}
 
@@ -78,17 +76,17 @@ held-table w k n b long few d = omega (arith, base-low k)
 
 module _ (n : ℕ) (k : Space) (s w : List ℕ) (p : Part) where
   -- no identifier has no holder
-  pub held_none : p.len ≡ 0 → holder_in n k s w p ≡ held_by H.Nobody
+  pub held_none : p.len ≡ 0 → holder_in n k s w p ≡ held_by None
   unfolding holder_in Names.holder
   held_none e = rw (eq-eqb _ _ e)
 
-  module _ (b : ℕ) (d : b ≡ base k) (name : List ℕ) (q : Found) (h : p.len ≡ 0 → ⊥) (e : name ≡ part_of s p) (told : find same_bytes name (names n s w b) ≡ found q) where
+  module _ (b : ℕ) (d : b ≡ base k) (name : List ℕ) (q : Optional ℕ) (h : p.len ≡ 0 → ⊥) (e : name ≡ part_of s p) (told : find same_bytes name (names n s w b) ≡ found q) where
     -- a name that is not there has none
-    pub held_not : q ≡ F.Nothing → holder_in n k s w p ≡ held_by H.Nobody
+    pub held_not : q ≡ None → holder_in n k s w p ≡ held_by None
     unfolding holder_in Names.holder
     held_not g = rw (ne_eqb _ _ h, ← e, ← d, told, g)
 
-    module _ (i : ℕ) (g : q ≡ F.At i) where
+    module _ (i : ℕ) (g : q ≡ Some i) where
       low : i < n
       low = names-below name q i g s w b n told
 
@@ -96,7 +94,7 @@ module _ (n : ℕ) (k : Space) (s w : List ℕ) (p : Part) where
       pub held_place : n ≤ 256 → (a : ℕ) → a ≡ definers_base k → Fits w64 (a + i)
       held_place few a f = record { fits = omega (arith, definers-low k, low) }
 
-      pub held_at : (a r : ℕ) → a ≡ definers_base k → r ≡ get_or w (a + i) 0 → holder_in n k s w p ≡ held_by (H.At r)
+      pub held_at : (a r : ℕ) → a ≡ definers_base k → r ≡ get_or w (a + i) 0 → holder_in n k s w p ≡ held_by (Some r)
       unfolding holder_in Names.holder
       held_at a r f l = rw (ne_eqb _ _ h, ← e, ← d, told, g, l, f) (definer_at n w (definers_base k) i low)
 

@@ -1,5 +1,5 @@
 -- Plain mathematics of the loops over the work area.
-use Rattle.std.specs.Prelude.{if◌then◌else◌}
+use Rattle.std.specs.Prelude.{if◌then◌else◌, Option as Optional, Some, None}
 use Prim.Native.Nat.{ℕ, zero, suc, ◌+◌, ◌-◌, ◌*◌, ◌/◌, ◌%◌, ◌≤◌, ◌<◌, min}
 use mathlib.Core.Path.{◌≡◌, refl, sym, ◌∙◌, ap}
 use mathlib.Core.Bool.{Bool, true, false, ◌&&◌, not, false≢true}
@@ -20,13 +20,12 @@ use Rattle.definition.specs.Syntax.{Identifier}
 use Rattle.definition.specs.Names.{carries, find, below, number_in, taken, Namespace}
 use Rattle.syntax.specs.Refusals.{refusal, refused_by}
 use Rattle.syntax.specs.Tokens.{part, part_of, id_of, index_of}
+use Rattle.syntax.specs.declared.Fault.TheVariants as F
 use Rattle.syntax.specs.declared.Part.{Part}
 use Rattle.syntax.specs.declared.Refusal.{Refusal}
 use Rattle.syntax.specs.declared.Index.{Index}
 use Rattle.syntax.specs.declared.Index.TheVariants as X
 use Rattle.name_table.specs.Area.{tag_of, entry_part, entry, entry_words, names, labels, found}
-use Rattle.name_table.specs.declared.table.Found.{Found}
-use Rattle.name_table.specs.declared.table.Found.TheVariants as F
 
 -- ## Equal bytes
 
@@ -235,7 +234,7 @@ module _ {s w : List ℕ} {base count : ℕ} {name : List ℕ} {k at : ℕ} (v :
   next_look h = rw (names_cons (count - k) s w at (omega arith)) at v.look
 
   -- the entry carries the name
-  pub find-found : (r : Bool) → k < count → r ≡ carries same_bytes name (entry s w at) → r ≡ true → find same_bytes name (names count s w base) ≡ found (F.At k)
+  pub find-found : (r : Bool) → k < count → r ≡ carries same_bytes name (entry s w at) → r ≡ true → find same_bytes name (names count s w base) ≡ found (Some k)
   unfolding find
   find-found r h e d = look_found _ _ (next_look h) (sym e ∙ d)
 
@@ -248,7 +247,7 @@ module _ {s w : List ℕ} {base count : ℕ} {name : List ℕ} {k at : ℕ} (v :
   }
 
   -- no entry is left
-  pub find_none : count ≤ k → find same_bytes name (names count s w base) ≡ found F.Nothing
+  pub find_none : count ≤ k → find same_bytes name (names count s w base) ≡ found None
   unfolding find names
   find_none h = look_none (let m : count - k ≡ 0 = omega arith in rw m at v.look)
 
@@ -268,7 +267,7 @@ module _ {s w : List ℕ} {base blocks : ℕ} {name : List ℕ} {left passed : �
 
   -- the block carries the name
   pub out_found : (r : Bool) → (left ≡ 0 → ⊥) → r ≡ carries same_bytes name (entry s w (base + 3 * (left - 1))) → r ≡ true
-      → find same_bytes name (labels blocks s w base) ≡ found (F.At passed)
+      → find same_bytes name (labels blocks s w base) ≡ found (Some passed)
   unfolding find
   out_found r h e d = look_found _ _ (rw (labels_cons left s w base (omega arith)) at v.look) (sym e ∙ d)
 
@@ -281,7 +280,7 @@ module _ {s w : List ℕ} {base blocks : ℕ} {name : List ℕ} {left passed : �
   }
 
   -- no block is left
-  pub out_none : left ≡ 0 → find same_bytes name (labels blocks s w base) ≡ found F.Nothing
+  pub out_none : left ≡ 0 → find same_bytes name (labels blocks s w base) ≡ found None
   unfolding find labels
   out_none h = look_none (rw h at v.look)
 
@@ -301,7 +300,7 @@ module _ (strict : Bool) (limit r n : ℕ) where
   unfolding below
   below_lax b e f = rw (← e, f)
 
-  pub below_not : (b : Bool) (z : Refusal) → limit ≤ n → b ≡ strict → b ≡ true → z ≡ refusal 20 r → below strict limit r n ≡ refused_by z
+  pub below_not : (b : Bool) (z : Refusal) → limit ≤ n → b ≡ strict → b ≡ true → z ≡ refusal F.PointsNowhere r → below strict limit r n ≡ refused_by z
   unfolding below
   below_not b z h e f d = rw (← e, f, le-ltb n limit h, d)
 
@@ -318,14 +317,14 @@ module _ (strict : Bool) (ns : Namespace Identifier) (limit r : ℕ) (s : List �
   unfolding number_in
   number-number n a d h = rw d h
 
-  module _ (p : Part) (d : x ≡ X.Named p) (name : List ℕ) (b : name ≡ part_of s p) (q : Found) (told : find same_bytes name ns ≡ found q) where
+  module _ (p : Part) (d : x ≡ X.Named p) (name : List ℕ) (b : name ≡ part_of s p) (q : Optional ℕ) (told : find same_bytes name ns ≡ found q) where
     -- a name that is there
-    pub number-found : (k : ℕ) → q ≡ F.At k → number_in strict same_bytes ns limit r (index_of s x) ≡ ok k
+    pub number-found : (k : ℕ) → q ≡ Some k → number_in strict same_bytes ns limit r (index_of s x) ≡ ok k
     unfolding number_in
     number-found k e = rw (d, sym b, told, e)
 
     -- a name that is not
-    pub number-none : (z : Refusal) → q ≡ F.Nothing → z ≡ refusal 14 r → number_in strict same_bytes ns limit r (index_of s x) ≡ refused_by z
+    pub number-none : (z : Refusal) → q ≡ None → z ≡ refusal F.NoSuchName r → number_in strict same_bytes ns limit r (index_of s x) ≡ refused_by z
     unfolding number_in
     number-none z e f = rw (d, sym b, told, e, f)
 
@@ -359,7 +358,7 @@ unfolding labels
 labels_length zero s w base = refl
 labels_length (suc n) s w base = ap suc (labels_length n s w base)
 
-module _ (name : List ℕ) (q : Found) (k : ℕ) (d : q ≡ F.At k) where
+module _ (name : List ℕ) (q : Optional ℕ) (k : ℕ) (d : q ≡ Some k) where
   -- the place of a name that was found
   found-low : (ns : Namespace Identifier) → find same_bytes name ns ≡ found q → k < length ns
   unfolding find
@@ -404,12 +403,12 @@ module _ (s : List ℕ) (p : Part) (ns : Namespace Identifier) where
   unfolding taken
   taken_none e = sym (rw (eq-eqb _ _ e))
 
-  module _ (name : List ℕ) (q : Found) (h : p.len ≡ 0 → ⊥) (b : name ≡ part_of s p) (told : find same_bytes name ns ≡ found q) where
-    pub taken-found : (k : ℕ) → q ≡ F.At k → true ≡ taken same_bytes (id_of s p) ns
+  module _ (name : List ℕ) (q : Optional ℕ) (h : p.len ≡ 0 → ⊥) (b : name ≡ part_of s p) (told : find same_bytes name ns ≡ found q) where
+    pub taken-found : (k : ℕ) → q ≡ Some k → true ≡ taken same_bytes (id_of s p) ns
     unfolding taken is_some
     taken-found k e = sym (rw (ne_eqb _ _ h, ← b, told, e))
 
-    pub taken_not : q ≡ F.Nothing → false ≡ taken same_bytes (id_of s p) ns
+    pub taken_not : q ≡ None → false ≡ taken same_bytes (id_of s p) ns
     unfolding taken is_some
     taken_not e = sym (rw (ne_eqb _ _ h, ← b, told, e))
 

@@ -1,16 +1,13 @@
 -- What the work area says: tables of names as the definition's namespaces. Each function is total, so no caller keeps an invariant of the entries.
-use Rattle.std.specs.Prelude.{ℕ, zero, suc, ◌+◌, ◌-◌, ◌*◌, ◌/◌, ◌%◌, min, List, [], ◌∷◌, eqb, length, get_or, set, if◌then◌else◌}
+use Rattle.std.specs.Prelude.{ℕ, zero, suc, ◌+◌, ◌-◌, ◌*◌, ◌/◌, ◌%◌, min, List, [], ◌∷◌, eqb, length, get_or, set, if◌then◌else◌, Option as Optional}
 use Rattle.std.proofs.Math.Option.{Option, none, some}
-use Rattle.definition.specs.Basic.{Answer, ok}
+use Rattle.definition.specs.Basic.{Answer}
 use Rattle.definition.specs.Syntax.{Bytes, Identifier}
 use Rattle.definition.specs.Names.{Namespace}
-use Rattle.syntax.specs.Refusals.{refused_by}
+use Rattle.syntax.specs.Reads.{maybe, same}
+use Rattle.syntax.specs.Refusals.{Resolved, answer}
 use Rattle.syntax.specs.Tokens.{part_of, id_of}
 use Rattle.syntax.specs.declared.Part.{Part}
-use Rattle.name_table.specs.declared.table.Found.{Found}
-use Rattle.name_table.specs.declared.table.Found.TheVariants as F
-use Rattle.name_table.specs.declared.table.Resolved.{Resolved}
-use Rattle.name_table.specs.declared.table.Resolved.TheVariants as R
 
 -- the tag of a name, in one word: its length, its first byte, its last, and the one in the middle. Names of different tags differ
 unfoldable pub tag_of : Bytes → ℕ
@@ -38,10 +35,8 @@ unfoldable pub labels : ℕ → Bytes → List ℕ → ℕ → Namespace Identif
 labels zero s w base = []
 labels (suc n) s w base = entry s w (base + 3 * n) ∷ labels n s w base
 
-abbrev pub found : Found → Option ℕ
-found (F.At k) = some k
-found F.Nothing = none
+abbrev pub found : Optional ℕ → Option ℕ
+found = maybe same
 
-abbrev pub resolved : Resolved → Answer ℕ
-resolved (R.To n) = ok n
-resolved (R.Refused r) = refused_by r
+abbrev pub resolved : Resolved ℕ → Answer ℕ
+resolved = answer same

@@ -1,16 +1,15 @@
 -- The records that defined the items of each index space, beside its table of names.
-use Rattle.std.specs.Prelude.{ℕ, zero, suc, ◌+◌, ◌*◌, List, [], ◌∷◌, get_or, set}
+use Rattle.std.specs.Prelude.{ℕ, zero, suc, ◌+◌, ◌*◌, List, [], ◌∷◌, get_or, set, Option as Optional}
 use Rattle.std.proofs.Math.Option.{Option, none, some}
 use Rattle.definition.specs.Basic.{same_bytes}
 use Rattle.definition.specs.Syntax.{Bytes, Space, code}
 use Rattle.definition.specs.Names as Names
 use Rattle.area.specs.Layout.{DEFINERS}
+use Rattle.syntax.specs.Reads.{maybe, same}
 use Rattle.syntax.specs.Tokens.{id_of}
 use Rattle.syntax.specs.declared.Part.{Part}
 use Rattle.name_table.specs.Area.{entry_words, names}
 use Rattle.name_table.specs.Tables.{base, name_count}
-use Rattle.name_table.specs.declared.definers.Held.{Held}
-use Rattle.name_table.specs.declared.definers.Held.TheVariants as H
 
 -- where those of a space begin
 unfoldable pub definers_base : Space → ℕ
@@ -29,9 +28,8 @@ definers_of k w = definers_in (name_count k w) w (definers_base k)
 unfoldable pub holder_in : ℕ → Space → Bytes → List ℕ → Part → Option ℕ
 holder_in n k s w p = Names.holder same_bytes (id_of s p) (names n s w (base k)) (definers_in n w (definers_base k))
 
-abbrev pub held_by : Held → Option ℕ
-held_by (H.At r) = some r
-held_by H.Nobody = none
+abbrev pub held_by : Optional ℕ → Option ℕ
+held_by = maybe same
 
 -- an item more after so many of its space: its name, and the record that defined it
 unfoldable pub item_words : Bytes → List ℕ → Space → ℕ → Part → ℕ → List ℕ

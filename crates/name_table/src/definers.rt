@@ -5,14 +5,7 @@ ghost use Rattle.area.specs.Lent.{Lent};
 ghost use Rattle.syntax.specs.Tokens.{space_of};
 ghost use Rattle.name_table.specs.Definers.{definers_base, holder_in, held_by, item_words};
 
-use crate::table::Found;
 use syntax::{Part, Space};
-
-#[derive(Clone, Copy)]
-pub enum Held {
-    At(u32),
-    Nobody,
-}
 
 // Where the records of a space begin.
 fn definers_base(k: Space) -> usize
@@ -22,17 +15,17 @@ fn definers_base(k: Space) -> usize
 }
 
 // The record that defined the first of count items of a space that carries an identifier.
-pub fn holder(s: &[u8], work: &[u32], k: Space, count: usize, id: Part) -> Held
+pub fn holder(s: &[u8], work: &[u32], k: Space, count: usize, id: Part) -> Option<u32>
     requires { (WORDS ≤ length work.now) × (count ≤ 256) }
     ensures { holder_in count (space_of k) s.now work.now id ≡ held_by result }
 {
     if id.len == 0 {
-        return Held::Nobody;
+        return None;
     }
     let name = token::bytes_of(s, id);
     match crate::table::find_name(s, work, crate::spaces::table_base(k), count, name) {
-        Found::At(n) => Held::At(area::word(work, definers_base(k) + n)),
-        Found::Nothing => Held::Nobody,
+        Some(n) => Some(area::word(work, definers_base(k) + n)),
+        None => None,
     }
 }
 

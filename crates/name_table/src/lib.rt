@@ -8,9 +8,9 @@ pub mod name;
 pub mod spaces;
 pub mod table;
 
-pub use definers::{Held, holder, put_item};
+pub use definers::{holder, put_item};
 pub use entry::{place_in, put_name};
 pub use label::{depth_of, label_depth};
 pub use name::{carries, same, tag_of};
 pub use spaces::{name_count, table_base};
-pub use table::{Found, Resolved, Table, below, find_name, is_taken, number_in};
+pub use table::{Table, below, find_name, is_taken, number_in};

@@ -6,23 +6,10 @@ ghost use Rattle.definition.specs.Names as Names;
 ghost use Rattle.syntax.specs.Tokens.{id_of, index_of};
 ghost use Rattle.name_table.specs.Area.{names, found, resolved};
 
-use syntax::{Index, Part, Refusal};
-
-#[derive(Clone, Copy)]
-pub enum Found {
-    At(usize),
-    Nothing,
-}
-
-// A number, or a refusal's number and record.
-#[derive(Clone, Copy)]
-pub enum Resolved {
-    To(u32),
-    Refused(Refusal),
-}
+use syntax::{Fault, Index, Part, Resolved};
 
 // The first of count entries from base on that carries the name.
-pub fn find_name(s: &[u8], work: &[u32], base: usize, count: usize, name: &[u8]) -> Found
+pub fn find_name(s: &[u8], work: &[u32], base: usize, count: usize, name: &[u8]) -> Option<usize>
     requires { base + 3 * count ≤ length work.now }
     ensures { Names.find same_bytes name.now (names count s.now work.now base) ≡ found result }
 {
@@ -31,12 +18,12 @@ pub fn find_name(s: &[u8], work: &[u32], base: usize, count: usize, name: &[u8])
     let mut at = base;
     while k < count {
         if crate::name::carries(s, work, at, tag, name) {
-            return Found::At(k);
+            return Some(k);
         }
         k += 1;
         at += 3;
     }
-    Found::Nothing
+    None
 }
 
 // Is an identifier among count names already?
@@ -49,21 +36,21 @@ pub fn is_taken(s: &[u8], work: &[u32], base: usize, count: usize, id: Part) -> 
     }
     let name = token::bytes_of(s, id);
     match find_name(s, work, base, count, name) {
-        Found::At(_) => true,
-        Found::Nothing => false,
+        Some(_) => true,
+        None => false,
     }
 }
 
 // A number as an index says it. In a strict call it must be below the limit.
-pub fn below(work: &[u32], limit: u32, n: u32, rec: u32) -> Resolved
+pub fn below(work: &[u32], limit: u32, n: u32, rec: u32) -> Resolved<u32>
     ensures { Names.below (strict_in work.now) limit rec n ≡ resolved result }
 {
     if limit <= n {
         if area::flag(work, area::STRICT) {
-            return Resolved::Refused(syntax::refusal_at(20, rec));
+            return Err(syntax::refusal_at(Fault::PointsNowhere, rec));
         }
     }
-    Resolved::To(n)
+    Ok(n)
 }
 
 // An index space: where its names begin and how many there are, and how many items it has.
@@ -75,7 +62,7 @@ pub struct Table {
 }
 
 // The number that an index means in a space.
-pub fn number_in(s: &[u8], work: &[u32], t: Table, x: Index, rec: u32) -> Resolved
+pub fn number_in(s: &[u8], work: &[u32], t: Table, x: Index, rec: u32) -> Resolved<u32>
     requires { (t.base + 3 * t.count ≤ length work.now) × (t.count ≤ 256) }
     ensures { Names.number_in (strict_in work.now) same_bytes (names t.count s.now work.now t.base) t.limit rec (index_of s.now x) ≡ resolved result }
 {
@@ -85,8 +72,8 @@ pub fn number_in(s: &[u8], work: &[u32], t: Table, x: Index, rec: u32) -> Resolv
         Index::Named(p) => {
             let name = token::bytes_of(s, p);
             match find_name(s, work, t.base, t.count, name) {
-                Found::At(k) => Resolved::To(k as u32),
-                Found::Nothing => Resolved::Refused(syntax::refusal_at(14, rec)),
+                Some(k) => Ok(k as u32),
+                None => Err(syntax::refusal_at(Fault::NoSuchName, rec)),
             }
         }
     }

@@ -1,4 +1,7 @@
 -- The loop over operands: what is due is kept in the bits of a number.
+use Rattle.std.specs.Prelude.{Option as Optional, Some, None, Result, Ok, Err, IsErrAnd}
+use Rattle.std.specs.Result.{IsErr}
+use Rattle.syntax.specs.Refusals.{number}
 use mathlib.Core.Path.{◌≡◌, refl, sym, ap, ◌∙◌}
 use Prim.Native.Nat.{ℕ, zero, suc, ◌+◌, ◌*◌, ◌-◌, ◌/◌, ◌%◌, ◌^◌, ◌≤◌, ◌<◌}
 use mathlib.Core.Bool.{Bool, true, false}
@@ -10,31 +13,31 @@ use mir.Val.{Fits}
 use native.Mathlib.Nat.{pow-suc, mul_assoc, mul-one, one-mul, div-one, mod-eq_of_lt, le-div_iff_mul-le}
 use native.Mathlib.Omega.{arith}
 use Rattle.definition.specs.Syntax.{Bytes}
-use Rattle.definition.specs.Reader.{byte}
-use Rattle.syntax.specs.Tokens.{byte_at}
-use Rattle.syntax.specs.declared.ByteAt.{ByteAt}
-use Rattle.syntax.specs.declared.ByteAt.TheVariants as B
+use Rattle.definition.specs.Reader.{got, byte}
 use Rattle.syntax.specs.declared.Place.{Place}
 use Rattle.next_record.specs.Places.{record_past}
-use Rattle.next_record.specs.Folds.{head_at, head_with, on_fold, operands_by, folded_at, PastAt, NextAt}
+use Rattle.next_record.specs.Folds.{Head, Fold, fold_of, head_at, head_with, on_fold, operands_by, folded_at, PastAt, NextAt}
 use Rattle.next_record.specs.declared.record.Does.{Does}
-use Rattle.next_record.specs.declared.fold.Fold.{Fold}
-use Rattle.next_record.specs.declared.fold.Fold.TheVariants as L
-use Rattle.next_record.specs.declared.head.HeadAt.{HeadAt}
-use Rattle.next_record.specs.declared.head.HeadAt.TheVariants as H
-use Rattle.next_record.specs.declared.head.Next.{Next}
-use Rattle.next_record.specs.declared.head.Next.TheVariants as N
-use Rattle.next_record.proofs.Folding.{foldings, with_operands, PassedBy, folded_passes}
+use Rattle.next_record.specs.declared.record.FaultAt.{FaultAt}
+use Rattle.next_record.specs.declared.head.Due as Next
+use Rattle.next_record.specs.Answers.{refused_here}
+use Rattle.syntax.specs.declared.Fault.{Fault}
+use Rattle.next_record.specs.Folds as L
+use Rattle.next_record.proofs.Folding.{foldings, fold_handed, with_operands, PassedBy, folded_passes}
 use Rattle.next_record.proofs.Heads.{head_few}
 
 -- ## One record
 
 module _ (left : ℕ) (s : Bytes) (does : Does) (p : Place) (due : ℕ) where
-  pub next-refused : (n : ℕ) (q : Place) → L.Refused n q ≡ folded_at left s does p → NextAt left s does p due (N.Refused n q)
+  pub next-refused : (e : FaultAt) → L.stopped (number e.fault) e.place ≡ folded_at left s does p → NextAt left s does p due (Err e)
   unfolding NextAt
-  next-refused n q e = sym e
+  next-refused e h = sym h
 
-  pub next_full : 1 ≤ left → NextAt left s does p due N.Full
+  pub next-handed : (r : Result (Optional Next.Due) FaultAt) (n : Fault) → r ≡ Err (refused_here p n) → L.stopped (number n) p ≡ folded_at left s does p → NextAt left s does p due r
+  unfolding NextAt
+  next-handed r n e g = rw e (sym g)
+
+  pub next_full : 1 ≤ left → NextAt left s does p due (Ok None)
   unfolding NextAt
   next_full h = h
 
@@ -42,14 +45,14 @@ module _ (left : ℕ) (s : Bytes) (does : Does) (p : Place) (due : ℕ) where
 fits_in : (due n : ℕ) → due ≤ 18446744073709551615 / 2 ^ n → due * 2 ^ n < 2 ^ 64
 fits_in due n h = let a = (le-div_iff_mul-le (pow_pos n)).0 h in omega arith
 
-module _ (left : ℕ) (s : Bytes) (does : Does) (p : Place) (due : ℕ) (q : ByteAt) (told : byte s p.at ≡ byte_at q) (b at : ℕ) (d : q ≡ B.Got b at) (e : b ≡ 0xF0)
-    (l : p.rec < 4096) (h : 1 ≤ left) (r : HeadAt) (head : r ≡ head_with does (head_at s at)) where
-  pub next_here : (m : Does) (n next : ℕ) (o : Place) → r ≡ H.Got m n next → due ≤ 18446744073709551615 / 2 ^ n → o ≡ record_past p next p.depth
-      → NextAt left s does p due (N.Past m n o)
+module _ (left : ℕ) (s : Bytes) (does : Does) (p : Place) (due : ℕ) (b at : ℕ) (told : byte s p.at ≡ got b at) (e : b ≡ 0xF0)
+    (l : p.rec < 4096) (h : 1 ≤ left) (r : Head) (head : r ≡ head_with does (head_at s at)) where
+  pub next_here : (m : Does) (n next : ℕ) (o : Place) → r ≡ L.head m n next → due ≤ 18446744073709551615 / 2 ^ n → o ≡ record_past p next p.depth
+      → NextAt left s does p due (Ok (Some (record { does = m; count = n; place = o })))
   unfolding NextAt record_past
   next_here m n next o g i j =
       record {
-        same = sym (with_operands left s does p (operands_by (folded_at (left - 1) s) n m o) q told b at d e l h r head m n next o g j refl);
+        same = sym (with_operands left s does p (operands_by (folded_at (left - 1) s) n m o) b at told e l h r head m n next o g j refl);
         nests = h;
         few = head_few s at does m n next (sym head ∙ g);
         room = fits_in due n i;
@@ -59,17 +62,17 @@ module _ (left : ℕ) (s : Bytes) (does : Does) (p : Place) (due : ℕ) (q : Byt
       }
 
 -- its count was read
-pub few-count : (s : Bytes) (at : ℕ) (does : Does) (r : HeadAt) → r ≡ head_with does (head_at s at) → (m : Does) (n next : ℕ) → r ≡ H.Got m n next → n ≤ 16
-few-count s at does r head m n next g = head_few s at does m n next (sym head ∙ g)
+pub few-count : (s : Bytes) (at : ℕ) (does m : Does) (n next : ℕ) → L.head m n next ≡ head_with does (head_at s at) → n ≤ 16
+few-count s at does m n next h = head_few s at does m n next (sym h)
 
 pub one_less : (left : ℕ) → left ≤ 32 → left - 1 ≤ 32
 one_less left h = omega arith
 
 -- no shift is too far
-pub few_bits : (s : Bytes) (at : ℕ) (does : Does) (r : HeadAt) → r ≡ head_with does (head_at s at) → (m : Does) (n next : ℕ) → r ≡ H.Got m n next → n < 64
-few_bits s at does r head m n next g = omega (arith, few-count s at does r head m n next g)
+pub few_bits : (s : Bytes) (at : ℕ) (does m : Does) (n next : ℕ) → L.head m n next ≡ head_with does (head_at s at) → n < 64
+few_bits s at does m n next h = omega (arith, few-count s at does m n next h)
 
-pub ruleset nexts = (next-refused, next_full, next_here, foldings)
+pub ruleset nexts = (next-refused, next-handed, next_full, next_here, foldings)
 
 -- ## What is due, in bits
 
@@ -81,12 +84,12 @@ value (false ∷ bs) = 2 * value bs
 
 -- the operands read one after the other; after the last of a record one more may be nested
 abbrev pub along : Bytes → List Bool → ℕ → Does → Place → Fold
-along s [] left d p = L.Past d p
+along s [] left d p = L.passed d p
 along s (true ∷ bs) left d p = on_fold (folded_at left s d p) (λ e q. along s bs left e q)
 along s (false ∷ bs) left d p = along s bs (suc left) d p
 
 -- zero: nothing is due
-none-due : (s : Bytes) (bs : List Bool) (left : ℕ) (d : Does) (p : Place) → value bs ≡ 0 → along s bs left d p ≡ L.Past d p
+none-due : (s : Bytes) (bs : List Bool) (left : ℕ) (d : Does) (p : Place) → value bs ≡ 0 → along s bs left d p ≡ L.passed d p
 none-due s [] left d p h = refl
 none-due s (true ∷ bs) left d p h = absurd (omega arith)
 none-due s (false ∷ bs) left d p h = none-due s bs (suc left) d p (omega arith)
@@ -111,8 +114,8 @@ along_puts s (suc n) bs left d p = go (folded_at left s d p) (λ e q. along_puts
   where
     go : (x : Fold) → ((e : Does) (q : Place) → along s (puts n bs) left e q ≡ on_fold (operands_by (folded_at left s) n e q) (λ o r. along s bs left o r))
         → on_fold x (λ e q. along s (puts n bs) left e q) ≡ on_fold (on_fold x (λ e q. operands_by (folded_at left s) n e q)) (λ e q. along s bs left e q)
-    go (L.Past e q) h = h e q
-    go (L.Refused k q) h = refl
+    go (L.passed e q) h = h e q
+    go (L.stopped k q) h = refl
 
 -- how many records wait for the end of their operands
 abbrev pub levels : List Bool → ℕ
@@ -185,9 +188,9 @@ pub record Due (nesting : ℕ) (s : Bytes) (p : Place) (n : ℕ) (does : Does) (
   pub level : left + levels bits ≡ nesting
   pub shallow : nesting ≤ 32
 
-onward-is : (x : Fold) → on_fold x (λ d q. L.Past d q) ≡ x
-onward-is (L.Past d q) = refl
-onward-is (L.Refused n q) = refl
+onward-is : (x : Fold) → on_fold x (λ d q. L.passed d q) ≡ x
+onward-is (L.passed d q) = refl
+onward-is (L.stopped n q) = refl
 
 -- all of them
 one_shifted : (n : ℕ) → n ≤ 16 → (1 * 2 ^ n) % 2 ^ 64 ≡ value (puts n []) + 1
@@ -220,7 +223,7 @@ module _ {nesting : ℕ} {s : Bytes} {p : Place} {n : ℕ} {does : Does} {at rec
   abbrev zeros : ℕ
   zeros = count_trailing_zeros 64 due
 
-  pub due-none : (o : Place) → due ≤ 0 → o ≡ Here → L.Past d o ≡ operands_by (folded_at nesting s) n does p
+  pub due-none : (o : Place) → due ≤ 0 → o ≡ Here → L.passed d o ≡ operands_by (folded_at nesting s) n does p
   due-none o h i = let z : value v.bits ≡ 0 = omega (arith, v.is) in rw i (sym (none-due s v.bits left d Here z) ∙ v.same)
 
   pub left-fits : Fits w32 (left + zeros)
@@ -265,8 +268,10 @@ module _ {nesting : ℕ} {s : Bytes} {p : Place} {n : ℕ} {does : Does} {at rec
     pub some-due : 1 ≤ due / 2 ^ zeros
     some-due = omega (arith, begun.is)
 
-    stops-there : (k : ℕ) (q : Place) → folded_at (left + zeros) s d Here ≡ L.Refused k q → L.Refused k q ≡ operands_by (folded_at nesting s) n does p
-    stops-there k q g = sym (ap (λ y. on_fold y (λ o r. along s begun.rest (left + zeros) o r)) g) ∙ begun.same
+    -- a fault is handed on
+    stops-there : (r : Result (Does × Place) FaultAt) (e : FaultAt) → folded_at (left + zeros) s d Here ≡ L.stopped (number e.fault) e.place → IsErr r → IsErrAnd r (λ z. z ≡ e)
+        → fold_of r ≡ operands_by (folded_at nesting s) n does p
+    stops-there r e g i h = fold_handed _ r e i h (sym (ap (λ y. on_fold y (λ o q. along s begun.rest (left + zeros) o q)) g) ∙ begun.same)
 
     -- the operands of a record have taken its place
     goes_on : (e : Does) (m : ℕ) (q : Place) (x : ℕ) → folded_at (left + zeros) s d Here ≡ operands_by (folded_at (left + zeros - 1) s) m e q → 1 ≤ left + zeros
@@ -286,57 +291,58 @@ module _ {nesting : ℕ} {s : Bytes} {p : Place} {n : ℕ} {does : Does} {at rec
           shallow = v.shallow;
         }
 
-    module _ (x : Next) (told : NextAt (left + zeros) s d Here (due / 2 ^ zeros) x) where
-      pub due-refused : (k : ℕ) (q : Place) → x ≡ N.Refused k q → L.Refused k q ≡ operands_by (folded_at nesting s) n does p
-      unfolding NextAt
-      due-refused k q e = let g : folded_at (left + zeros) s d Here ≡ L.Refused k q = rw e at told in stops-there k q g
+    pub due-refused : (r : Result (Does × Place) FaultAt) (e : FaultAt) → NextAt (left + zeros) s d Here (due / 2 ^ zeros) (Err e) → IsErr r → IsErrAnd r (λ z. z ≡ e)
+        → fold_of r ≡ operands_by (folded_at nesting s) n does p
+    unfolding NextAt
+    due-refused r e told i h = stops-there r e told i h
 
-      module _ (e : Does) (m : ℕ) (q : Place) (g : x ≡ N.Past e m q) where
-        passed : PastAt (left + zeros) s d Here (due / 2 ^ zeros) e m q
+    pub full_refused : (r : Result (Does × Place) FaultAt) (e : FaultAt) → L.stopped (number e.fault) e.place ≡ folded_at (left + zeros) s d Here → IsErr r → IsErrAnd r (λ z. z ≡ e)
+        → fold_of r ≡ operands_by (folded_at nesting s) n does p
+    full_refused r e is i h = stops-there r e (sym is) i h
+
+    module _ (x : Optional Next.Due) (told : NextAt (left + zeros) s d Here (due / 2 ^ zeros) (Ok x)) where
+      module _ (y : Next.Due) (g : x ≡ Some y) where
+        was_past : PastAt (left + zeros) s d Here (due / 2 ^ zeros) y.does y.count y.place
         unfolding NextAt
-        passed = rw g at told
+        was_past = rw g at told
 
-        pub few-operands : m < 64
-        few-operands = omega (arith, passed.few)
+        pub few-operands : y.count < 64
+        few-operands = omega (arith, was_past.few)
 
         pub left-some : 1 ≤ left + zeros
-        left-some = passed.nests
+        left-some = was_past.nests
 
-        taken : (due / 2 ^ zeros * 2 ^ m) % 2 ^ 64 ≡ value (puts m (false ∷ begun.rest)) + 1
-        taken = mod-eq_of_lt passed.room ∙ ap (λ k. k * 2 ^ m) (begun.is ∙ one_more (value begun.rest)) ∙ sym (puts_value m (false ∷ begun.rest))
+        taken : (due / 2 ^ zeros * 2 ^ y.count) % 2 ^ 64 ≡ value (puts y.count (false ∷ begun.rest)) + 1
+        taken = mod-eq_of_lt was_past.room ∙ ap (λ k. k * 2 ^ y.count) (begun.is ∙ one_more (value begun.rest)) ∙ sym (puts_value y.count (false ∷ begun.rest))
           where
             one_more : (k : ℕ) → 1 + 2 * k ≡ 2 * k + 1
             one_more k = omega arith
 
-        pub one-due : 1 ≤ (due / 2 ^ zeros * 2 ^ m) % 2 ^ 64
+        pub one-due : 1 ≤ (due / 2 ^ zeros * 2 ^ y.count) % 2 ^ 64
         one-due = omega (arith, taken)
 
-        pub due_less : 4096 - q.rec < 4096 - rec
-        due_less = omega (arith, passed.later, passed.most)
+        pub due_less : 4096 - y.place.rec < 4096 - rec
+        due_less = omega (arith, was_past.later, was_past.most)
 
-        pub due_again : Due nesting s p n does q.at q.rec (left + zeros - 1) ((due / 2 ^ zeros * 2 ^ m) % 2 ^ 64 - 1) e
-        due_again = goes_on e m q _ passed.same passed.nests passed.deep (omega arith) (omega (arith, taken))
+        pub due_again : Due nesting s p n does y.place.at y.place.rec (left + zeros - 1) ((due / 2 ^ zeros * 2 ^ y.count) % 2 ^ 64 - 1) y.does
+        due_again = goes_on y.does y.count y.place _ was_past.same was_past.nests was_past.deep (omega arith) (omega (arith, taken))
 
       -- there is no room: it is read with all its operands
-      module _ (g : x ≡ N.Full) where
+      module _ (g : x ≡ None) where
         pub full_nests : 1 ≤ left + zeros
         unfolding NextAt
         full_nests = rw g at told
 
-        module _ (f : Fold) (is : f ≡ folded_at (left + zeros) s d Here) where
-          pub full_refused : (k : ℕ) (q : Place) → f ≡ L.Refused k q → L.Refused k q ≡ operands_by (folded_at nesting s) n does p
-          full_refused k q e = stops-there k q (sym is ∙ e)
+        module _ (e : Does) (q : Place) (is : L.passed e q ≡ folded_at (left + zeros) s d Here) where
+          after_it : PassedBy Here (L.passed e q)
+          after_it = rw (sym is) at (folded_passes (left + zeros) s d Here)
 
-          module _ (e : Does) (q : Place) (i : f ≡ L.Past e q) where
-            after_it : PassedBy Here (L.Past e q)
-            after_it = rw (sym is ∙ i) at (folded_passes (left + zeros) s d Here)
+          pub full_less : 4096 - q.rec < 4096 - rec
+          full_less = omega (arith, after_it.1, after_it.0.most)
 
-            pub full_less : 4096 - q.rec < 4096 - rec
-            full_less = omega (arith, after_it.1, after_it.0.most)
-
-            pub full_again : Due nesting s p n does q.at q.rec (left + zeros - 1) (due / 2 ^ zeros - 1) e
-            unfolding operands_by
-            full_again = goes_on e 0 q _ (sym is ∙ i) full_nests after_it.0.deep (omega (arith, v.room, smaller)) (omega (arith, begun.is))
-              where
-                smaller : due / 2 ^ zeros ≤ due
-                smaller = shr_le due zeros
+          pub full_again : Due nesting s p n does q.at q.rec (left + zeros - 1) (due / 2 ^ zeros - 1) e
+          unfolding operands_by
+          full_again = goes_on e 0 q _ (sym is) full_nests after_it.0.deep (omega (arith, v.room, smaller)) (omega (arith, begun.is))
+            where
+              smaller : due / 2 ^ zeros ≤ due
+              smaller = shr_le due zeros

@@ -1,4 +1,9 @@
 -- Folded records in the reading pass, along what the calls of the code answered.
+use Rattle.std.specs.Prelude.{Result, Ok, Err, IsErrAnd}
+use Rattle.std.specs.Result.{IsErr}
+use Rattle.syntax.specs.Refusals.{number}
+use Rattle.syntax.specs.declared.Fault.{Fault}
+use Rattle.syntax.specs.Reads.{Read}
 use Rattle.std.specs.Prelude.{if◌then◌else◌}
 use mathlib.Core.Path.{◌≡◌, refl, ap, sym, ◌∙◌}
 use Prim.Native.Nat.{ℕ, zero, suc, ◌+◌, ◌-◌, ◌≤◌, ◌<◌}
@@ -15,12 +20,6 @@ use Rattle.definition.specs.Reader.{Step, got, fault, onward, byte}
 use Rattle.definition.specs.Token.{up_to, optional, type_use}
 use Rattle.definition.specs.Instructions as Instructions
 use Rattle.definition.specs.Instructions.{Operands, opening, elsing, ending, calling, operands, form_of, plain_of, instruction, may_fold, operator_of, operator, fold}
-use Rattle.syntax.specs.Numbers.{u32_at}
-use Rattle.syntax.specs.declared.U32.{U32}
-use Rattle.syntax.specs.declared.U32.TheVariants as U32
-use Rattle.syntax.specs.Tokens.{byte_at}
-use Rattle.syntax.specs.declared.ByteAt.{ByteAt}
-use Rattle.syntax.specs.declared.ByteAt.TheVariants as B
 use Rattle.syntax.specs.Plain.{operands_is}
 use Rattle.syntax.specs.declared.Operands as Code
 use Rattle.syntax.specs.Instructions.{form_is}
@@ -30,13 +29,13 @@ use Rattle.instr.specs.Readers.{count_of}
 use Rattle.syntax.specs.declared.Place.{Place}
 use Rattle.next_record.specs.Uses.{may_use, names_data, sort_names}
 use Rattle.next_record.specs.Places.{record_past}
-use Rattle.next_record.specs.Folds.{does_of, none_do, both_do, form_does, byte_does, does_at, head_of, head_at, head_with, on_head, on_fold, on_byte, operands_by, after_f0, folded_at}
+use Rattle.next_record.specs.Folds.{Head, Fold, head_is, fold_of, does_of, none_do, both_do, form_does, byte_does, does_at, head_of, head_at, head_with, on_head, on_fold, on_byte, operands_by, after_f0, folded_at}
 use Rattle.next_record.specs.declared.record.Does.{Does}
-use Rattle.next_record.specs.declared.fold.Fold.{Fold}
-use Rattle.next_record.specs.declared.fold.Fold.TheVariants as L
-use Rattle.next_record.specs.declared.head.HeadAt.{HeadAt}
-use Rattle.next_record.specs.declared.head.HeadAt.TheVariants as H
+use Rattle.next_record.specs.declared.record.FaultAt.{FaultAt}
+use Rattle.next_record.specs.Folds as L
+use Rattle.next_record.specs.Answers.{refused_here}
 use Rattle.next_record.proofs.Naming.{read_names}
+use Rattle.next_record.proofs.Steps.{handed_as}
 
 -- ## What instructions do
 
@@ -55,15 +54,15 @@ none_more d = rw (or_false d.uses, or_false d.names) refl
 -- ## The operator
 
 -- by its opcode and the byte after it
-module _ (s : Bytes) (at : ℕ) (does : Does) (q : ByteAt) (told : byte s at ≡ byte_at q) where
-  pub does_no_byte : (n : ℕ) → q ≡ B.Fault n → does ≡ both_do does (does_at s at)
+module _ (s : Bytes) (at : ℕ) (does : Does) where
+  pub does_no_byte : (n : ℕ) → byte s at ≡ fault n → does ≡ both_do does (does_at s at)
   unfolding does_at
-  does_no_byte n d = sym (rw (told, d) (none_more does))
+  does_no_byte n d = sym (rw d (none_more does))
 
-  module _ (b a : ℕ) (d : q ≡ B.Got b a) (f : Form) (says : form_of b ≡ form_is f) where
+  module _ (b a : ℕ) (d : byte s at ≡ got b a) (f : Form) (says : form_of b ≡ form_is f) where
     by_form : does_at s at ≡ form_does (form_is f) (get_or s a 0)
     unfolding does_at
-    by_form = rw (told, d, says) refl
+    by_form = rw (d, says) refl
 
     pub does_calling : f ≡ FM.Calling → ◌≡◌ {A = Does} (record { uses = true; names = does.names }) (both_do does (does_at s at))
     unfolding both_do
@@ -87,8 +86,6 @@ module _ (s : Bytes) (at : ℕ) (does : Does) (q : ByteAt) (told : byte s at ≡
         go FM.Ending h k = refl
         go FM.Calling h k = absurd (h refl)
         go (FM.Operands w) h k = absurd (k w refl)
-
-pub ruleset operators = (does_no_byte, does_calling, does_name, does_plain, does_barred)
 
 -- one that was read does what its first bytes say
 module _ (s : Bytes) (x : Syntax.Instr Identifier) (next : ℕ) where
@@ -132,41 +129,44 @@ module _ (s : Bytes) (x : Syntax.Instr Identifier) (next : ℕ) where
 -- ## What stands after F0
 
 -- nothing: both say so
-head-fault : (m : Step (Rec Identifier)) (n : ℕ) → count_of m ≡ fault n → H.Fault n ≡ head_of m
+head-fault : (m : Step (Rec Identifier)) (n : ℕ) → count_of m ≡ fault n → L.no_head n ≡ head_of m
 head-fault (got (field f) next) n e = let d : 0 ≡ n = cc in rw (← d) refl
 head-fault (got (Syntax.instr x) next) n e = let d : 0 ≡ n = cc in rw (← d) refl
 head-fault (got (folded x k) next) n e = let z : ◌≡◌ {A = ℕ} 0 1 = cc in absurd (omega arith)
 head-fault (got body_end next) n e = let d : 0 ≡ n = cc in rw (← d) refl
 head-fault (fault k) n e = let d : k ≡ n = cc in rw d refl
 
-module _ (s : Bytes) (at : ℕ) (does : Does) (x : HeadAt) (r : U32) (told : count_of (fold s at) ≡ u32_at r) where
-  pub head_not : (n : ℕ) → r ≡ U32.Fault n → x ≡ H.Fault n → x ≡ head_with does (head_at s at)
+module _ (s : Bytes) (at : ℕ) (does : Does) (x : Head) where
+  pub head_not : (n : ℕ) → count_of (fold s at) ≡ fault n → x ≡ L.no_head n → x ≡ head_with does (head_at s at)
   unfolding head_at
-  head_not n d p = p ∙ ap (head_with does) (head-fault (fold s at) n (told ∙ ap u32_at d))
+  head_not n d p = p ∙ ap (head_with does) (head-fault (fold s at) n d)
 
-  pub head-got : (n next : ℕ) (k : Does) → r ≡ U32.Got n next → k ≡ both_do does (does_at s at) → x ≡ H.Got k n next → x ≡ head_with does (head_at s at)
+  pub head-got : (n next : ℕ) (k : Does) → count_of (fold s at) ≡ got n next → k ≡ both_do does (does_at s at) → x ≡ L.head k n next → x ≡ head_with does (head_at s at)
   unfolding head_at fold
-  head-got n next k d i p = p ∙ ap (λ z. H.Got z n next) i ∙ ap (head_with does) (go (operator s at) refl (told ∙ ap u32_at d))
+  head-got n next k d i p = p ∙ ap (λ z. L.head z n next) i ∙ ap (head_with does) (go (operator s at) refl d)
     where
-      count : (y : Syntax.Instr Identifier) → does_of y ≡ does_at s at → (m : Step ℕ) → count_of (onward (λ k b. got (folded y k) b) m) ≡ got n next → H.Got (does_at s at) n next ≡ head_of (onward (λ k b. got (folded y k) b) m)
+      count : (y : Syntax.Instr Identifier) → does_of y ≡ does_at s at → (m : Step ℕ) → count_of (onward (λ k b. got (folded y k) b) m) ≡ got n next → L.head (does_at s at) n next ≡ head_of (onward (λ k b. got (folded y k) b) m)
       count y o (got k b) e = let f : k ≡ n = cc in let g : b ≡ next = cc in rw (f, g, o) refl
       count y o (fault k) e = let z : ◌≡◌ {A = ℕ} 0 1 = cc in absurd (omega arith)
 
       go : (m : Step (Syntax.Instr Identifier)) → operator s at ≡ m → count_of (onward (λ y a. onward (λ k b. got (folded y k) b) (up_to 7 16 s a)) m) ≡ got n next
-          → H.Got (does_at s at) n next ≡ head_of (onward (λ y a. onward (λ k b. got (folded y k) b) (up_to 7 16 s a)) m)
+          → L.head (does_at s at) n next ≡ head_of (onward (λ y a. onward (λ k b. got (folded y k) b) (up_to 7 16 s a)) m)
       go (got y a) o e = count y (operator_does_lem s y a at o) (up_to 7 16 s a) e
       go (fault k) o e = let z : ◌≡◌ {A = ℕ} 0 1 = cc in absurd (omega arith)
 
-pub ruleset heads = (head-got, head_not, refl)
+-- the fault of a call is handed on
+pub head_handed : (r : Read (Does × ℕ)) (e : Fault) → IsErr r → IsErrAnd r (λ z. z ≡ e) → head_is r ≡ L.no_head (number e)
+head_handed (Ok x) e i h = absurd h
+head_handed (Err z) e i h = rw h
 
 -- what comes before it may be joined first
-head-onward : (does : Does) (h : HeadAt) (f : Does → ℕ → ℕ → Fold) (g : ℕ → Fold) → on_head (head_with does h) f g ≡ on_head h (λ d n next. f (both_do does d) n next) g
-head-onward does (H.Got d n next) f g = refl
-head-onward does (H.Fault n) f g = refl
+head-onward : (does : Does) (h : Head) (f : Does → ℕ → ℕ → Fold) (g : ℕ → Fold) → on_head (head_with does h) f g ≡ on_head h (λ d n next. f (both_do does d) n next) g
+head-onward does (L.head d n next) f g = refl
+head-onward does (L.no_head n) f g = refl
 
 -- ## A folded record
 
-module _ (left : ℕ) (s : Bytes) (does : Does) (p : Place) (x : Fold) (q : ByteAt) (told : byte s p.at ≡ byte_at q) where
+module _ (left : ℕ) (s : Bytes) (does : Does) (p : Place) (x : Fold) where
   -- whatever may be nested
   by_byte : ((f : ℕ → Fold) → x ≡ after_f0 f s p) → x ≡ folded_at left s does p
   unfolding folded_at
@@ -176,44 +176,52 @@ module _ (left : ℕ) (s : Bytes) (does : Does) (p : Place) (x : Fold) (q : Byte
       go zero = h _
       go (suc n) = h _
 
-  pub no_byte : (n : ℕ) → q ≡ B.Fault n → x ≡ L.Refused n p → x ≡ folded_at left s does p
+  pub no_byte : (n : ℕ) → byte s p.at ≡ fault n → x ≡ L.stopped n p → x ≡ folded_at left s does p
   unfolding after_f0
-  no_byte n d a = by_byte (λ f. rw (told, d) a)
+  no_byte n d a = by_byte (λ f. rw d a)
 
-  module _ (b at : ℕ) (d : q ≡ B.Got b at) where
-    pub not_folded : (b ≡ 0xF0 → ⊥) → x ≡ L.Refused 4 p → x ≡ folded_at left s does p
+  module _ (b at : ℕ) (d : byte s p.at ≡ got b at) where
+    pub not_folded : (b ≡ 0xF0 → ⊥) → x ≡ L.stopped 4 p → x ≡ folded_at left s does p
     unfolding after_f0
-    not_folded n a = by_byte (λ f. rw (told, d, ne_eqb b 0xF0 n) a)
+    not_folded n a = by_byte (λ f. rw (d, ne_eqb b 0xF0 n) a)
 
     module _ (e : b ≡ 0xF0) where
-      pub one_too_many : 4096 ≤ p.rec → x ≡ L.Refused 7 p → x ≡ folded_at left s does p
+      pub one_too_many : 4096 ≤ p.rec → x ≡ L.stopped 7 p → x ≡ folded_at left s does p
       unfolding after_f0
-      one_too_many h a = by_byte (λ f. rw (told, d, eq-eqb b 0xF0 e, le-leb _ _ h) a)
+      one_too_many h a = by_byte (λ f. rw (d, eq-eqb b 0xF0 e, le-leb _ _ h) a)
 
       module _ (l : p.rec < 4096) where
-        pub too_deep : left < 1 → x ≡ L.Refused 7 p → x ≡ folded_at left s does p
+        pub too_deep : left < 1 → x ≡ L.stopped 7 p → x ≡ folded_at left s does p
         unfolding folded_at after_f0
-        too_deep h a = let z : left ≡ 0 = omega arith in rw (z, told, d, eq-eqb b 0xF0 e, lt-leb _ _ l) a
+        too_deep h a = let z : left ≡ 0 = omega arith in rw (z, d, eq-eqb b 0xF0 e, lt-leb _ _ l) a
 
-        module _ (h : 1 ≤ left) (r : HeadAt) (head : r ≡ head_with does (head_at s at)) where
+        module _ (h : 1 ≤ left) (r : Head) (head : r ≡ head_with does (head_at s at)) where
           abbrev onward_by : Does → ℕ → ℕ → Fold
           onward_by m n next = operands_by (folded_at (left - 1) s) n m (record_past p next p.depth)
 
-          deeper : x ≡ on_head r onward_by (λ n. L.Refused n p) → x ≡ folded_at left s does p
+          deeper : x ≡ on_head r onward_by (λ n. L.stopped n p) → x ≡ folded_at left s does p
           unfolding folded_at after_f0
           deeper a =
               let z : left ≡ suc (left - 1) = omega arith in
-              rw (z, told, d, eq-eqb b 0xF0 e, lt-leb _ _ l)
-              (a ∙ ap (λ k. on_head k onward_by (λ n. L.Refused n p)) head ∙ head-onward does (head_at s at) onward_by (λ n. L.Refused n p))
+              rw (z, d, eq-eqb b 0xF0 e, lt-leb _ _ l)
+              (a ∙ ap (λ k. on_head k onward_by (λ n. L.stopped n p)) head ∙ head-onward does (head_at s at) onward_by (λ n. L.stopped n p))
 
-          pub no_head : (n : ℕ) → r ≡ H.Fault n → x ≡ L.Refused n p → x ≡ folded_at left s does p
+          pub no_head : (n : ℕ) → r ≡ L.no_head n → x ≡ L.stopped n p → x ≡ folded_at left s does p
           no_head n g a = deeper (rw g a)
 
-          pub with_operands : (m : Does) (n next : ℕ) (o : Place) → r ≡ H.Got m n next → o ≡ record_past p next p.depth
+          pub with_operands : (m : Does) (n next : ℕ) (o : Place) → r ≡ L.head m n next → o ≡ record_past p next p.depth
               → x ≡ operands_by (folded_at (left - 1) s) n m o → x ≡ folded_at left s does p
           with_operands m n next o g j a = deeper (rw (g, ← j) a)
 
-pub ruleset foldings = (no_byte, not_folded, one_too_many, too_deep, no_head, with_operands, refl)
+-- the fault of a call is handed on
+pub fold_handed : (y : Fold) (r : Result (Does × Place) FaultAt) (e : FaultAt) → IsErr r → IsErrAnd r (λ z. z ≡ e) → L.stopped (number e.fault) e.place ≡ y → fold_of r ≡ y
+fold_handed y (Ok x) e i h g = absurd h
+fold_handed y (Err z) e i h g = rw h g
+
+pub fold_refused : (r : Result (Does × Place) FaultAt) (p : Place) (n : Fault) → r ≡ Err (refused_here p n) → fold_of r ≡ L.stopped (number n) p
+fold_refused r p n e = rw e
+
+pub ruleset foldings = (no_byte, not_folded, one_too_many, too_deep, no_head, with_operands, fold_refused, handed_as, refl)
 
 -- ## How far the place has moved
 
@@ -224,8 +232,8 @@ pub record Moved (p q : Place) : Type 0 where
   pub deep : q.depth ≡ p.depth
 
 abbrev pub MovedBy : Place → Fold → Type 0
-MovedBy p (L.Past d q) = Moved p q
-MovedBy p (L.Refused n q) = Unit {0}
+MovedBy p (L.passed d q) = Moved p q
+MovedBy p (L.stopped n q) = Unit {0}
 
 operands_move : (f : Does → Place → Fold) → ((d : Does) (p : Place) → p.rec ≤ 4096 → MovedBy p (f d p)) → (n : ℕ) (d : Does) (p : Place) → p.rec ≤ 4096 → MovedBy p (operands_by f n d p)
 unfolding operands_by
@@ -233,52 +241,52 @@ operands_move f h zero d p l = record { later = omega arith; most = l; deep = re
 operands_move f h (suc n) d p l = go (f d p) (h d p l) (λ e q g. operands_move f h n e q g)
   where
     after : (q : Place) → Moved p q → (x : Fold) → MovedBy q x → MovedBy p x
-    after q m (L.Past e o) w = record { later = omega (arith, m.later, w.later); most = w.most; deep = w.deep ∙ m.deep }
-    after q m (L.Refused e o) w = tt
+    after q m (L.passed e o) w = record { later = omega (arith, m.later, w.later); most = w.most; deep = w.deep ∙ m.deep }
+    after q m (L.stopped e o) w = tt
 
     go : (x : Fold) → MovedBy p x → ((e : Does) (q : Place) → q.rec ≤ 4096 → MovedBy q (operands_by f n e q)) → MovedBy p (on_fold x (λ e q. operands_by f n e q))
-    go (L.Past e q) m w = after q m (operands_by f n e q) (w e q m.most)
-    go (L.Refused e q) m w = tt
+    go (L.passed e q) m w = after q m (operands_by f n e q) (w e q m.most)
+    go (L.stopped e q) m w = tt
 
 -- the operator's own record comes first
 abbrev pub PassedBy : Place → Fold → Type 0
-PassedBy p (L.Past d q) = Moved p q × (p.rec < q.rec)
-PassedBy p (L.Refused n q) = Unit {0}
+PassedBy p (L.passed d q) = Moved p q × (p.rec < q.rec)
+PassedBy p (L.stopped n q) = Unit {0}
 
 module _ (s : Bytes) (p : Place) where
   f0_passes : (f : ℕ → Fold) → ((a : ℕ) → p.rec < 4096 → PassedBy p (f a)) → PassedBy p (after_f0 f s p)
   unfolding after_f0
   f0_passes f h = go (byte s p.at)
     where
-      full : (a : ℕ) (t : Bool) → leb 4096 p.rec ≡ t → PassedBy p (if t then L.Refused 7 p else f a)
+      full : (a : ℕ) (t : Bool) → leb 4096 p.rec ≡ t → PassedBy p (if t then L.stopped 7 p else f a)
       full a true e = tt
       full a false e = h a (leb-false _ _ e)
 
-      is : (a : ℕ) (t : Bool) → PassedBy p (if t then (if leb 4096 p.rec then L.Refused 7 p else f a) else L.Refused 4 p)
+      is : (a : ℕ) (t : Bool) → PassedBy p (if t then (if leb 4096 p.rec then L.stopped 7 p else f a) else L.stopped 4 p)
       is a true = full a (leb 4096 p.rec) refl
       is a false = tt
 
-      go : (m : Step ℕ) → PassedBy p (on_byte m (λ b a. if eqb b 0xF0 then (if leb 4096 p.rec then L.Refused 7 p else f a) else L.Refused 4 p) (λ n. L.Refused n p))
+      go : (m : Step ℕ) → PassedBy p (on_byte m (λ b a. if eqb b 0xF0 then (if leb 4096 p.rec then L.stopped 7 p else f a) else L.stopped 4 p) (λ n. L.stopped n p))
       go (got b a) = is a (eqb b 0xF0)
       go (fault n) = tt
 
-  head_passes : (g : Does → Place → Fold) → ((d : Does) (q : Place) → q.rec ≤ 4096 → MovedBy q (g d q)) → (does : Does) (x : HeadAt) → p.rec < 4096
-      → PassedBy p (on_head x (λ d n next. operands_by g n (both_do does d) (record_past p next p.depth)) (λ n. L.Refused n p))
+  head_passes : (g : Does → Place → Fold) → ((d : Does) (q : Place) → q.rec ≤ 4096 → MovedBy q (g d q)) → (does : Does) (x : Head) → p.rec < 4096
+      → PassedBy p (on_head x (λ d n next. operands_by g n (both_do does d) (record_past p next p.depth)) (λ n. L.stopped n p))
   unfolding record_past
-  head_passes g h does (H.Got d n next) l =
+  head_passes g h does (L.head d n next) l =
       go (operands_by g n (both_do does d) (record_past p next p.depth)) (operands_move g h n (both_do does d) (record_past p next p.depth) (omega arith))
     where
       go : (x : Fold) → MovedBy (record { at = next; rec = p.rec + 1; depth = p.depth }) x → PassedBy p x
-      go (L.Past e q) m = (record { later = omega (arith, m.later); most = m.most; deep = m.deep }, omega (arith, m.later))
-      go (L.Refused e q) m = tt
-  head_passes g h does (H.Fault n) l = tt
+      go (L.passed e q) m = (record { later = omega (arith, m.later); most = m.most; deep = m.deep }, omega (arith, m.later))
+      go (L.stopped e q) m = tt
+  head_passes g h does (L.no_head n) l = tt
 
 passed_moved : (p : Place) (x : Fold) → PassedBy p x → MovedBy p x
-passed_moved p (L.Past d q) m = m.0
-passed_moved p (L.Refused n q) m = tt
+passed_moved p (L.passed d q) m = m.0
+passed_moved p (L.stopped n q) m = tt
 
 pub folded_passes : (left : ℕ) (s : Bytes) (does : Does) (p : Place) → PassedBy p (folded_at left s does p)
 unfolding folded_at
-folded_passes zero s does p = f0_passes s p (λ a. L.Refused 7 p) (λ a l. tt)
+folded_passes zero s does p = f0_passes s p (λ a. L.stopped 7 p) (λ a l. tt)
 folded_passes (suc left) s does p =
     f0_passes s p _ (λ a l. head_passes s p (folded_at left s) (λ d q h. passed_moved q (folded_at left s d q) (folded_passes left s d q)) does (head_at s a) l)

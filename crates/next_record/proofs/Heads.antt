@@ -1,5 +1,6 @@
 -- What stands after F0, read quickly; and that a record has few operands.
-use mathlib.Core.Path.{◌≡◌, refl}
+use Rattle.std.specs.Prelude.{Option as Optional, Some}
+use mathlib.Core.Path.{◌≡◌, refl, ◌∙◌}
 use Prim.Native.Nat.{ℕ, ◌≤◌}
 use mathlib.Core.Bool.{Bool, true, false}
 use lib.Dec.{leb}
@@ -10,57 +11,57 @@ use Rattle.definition.specs.Syntax as Syntax
 use Rattle.definition.specs.Syntax.{Bytes, Identifier, folded}
 use Rattle.definition.specs.Reader.{Step, got, fault, onward, require, byte}
 use Rattle.definition.specs.Token.{u32, up_to}
-use Rattle.definition.specs.Instructions.{operator, fold}
+use Rattle.definition.specs.Instructions.{plain_of, instruction, may_fold, operator, fold}
 use Rattle.laws.specs.Steps.{stops}
-use Rattle.syntax.specs.Numbers.{u32_at}
-use Rattle.syntax.specs.declared.U32.{U32}
-use Rattle.syntax.specs.declared.U32.TheVariants as U32
-use Rattle.syntax.specs.Tokens.{byte_at, skip}
-use Rattle.syntax.specs.declared.ByteAt.{ByteAt}
-use Rattle.syntax.specs.declared.ByteAt.TheVariants as B
-use Rattle.syntax.specs.declared.Skip.{Skip}
-use Rattle.syntax.specs.declared.Skip.TheVariants as K
+use Rattle.token.proofs.Skips.{stops-made, gave_at, stopped_at}
+use Rattle.expr.proofs.Skips.{any-opcode}
+use Rattle.syntax.specs.Plain.{operands_is}
 use Rattle.syntax.specs.declared.Form.TheVariants as FM
 use Rattle.instr.specs.Readers.{count_of}
-use Rattle.instr.proofs.Folds.{operator-none, operator-plain, fold-counts, fold_not}
 use Rattle.next_record.specs.Often.{OftenIs, often_stops}
-use Rattle.next_record.specs.Folds.{head_of, head_at, head_with}
+use Rattle.next_record.specs.Folds.{Head, head_of, head_at, head_with}
 use Rattle.next_record.specs.declared.record.Does.{Does}
-use Rattle.next_record.specs.declared.head.HeadAt.{HeadAt}
-use Rattle.next_record.specs.declared.head.HeadAt.TheVariants as H
+use Rattle.next_record.specs.Folds as L
 use Rattle.next_record.specs.declared.often.Often.{Often}
-use Rattle.next_record.specs.declared.often.Often.TheVariants as O
 use Rattle.next_record.proofs.Frequent.{Met, met_often}
 use Rattle.next_record.proofs.Folding.{does_plain, head-got, head_not}
 
-module _ (s : Bytes) (at : ℕ) (does : Does) (x : HeadAt) (q : ByteAt) (told : byte s at ≡ byte_at q) where
+-- what stands after an operator that was read is its count
+count-made : (m : Step ℕ) (x : Syntax.Instr Identifier) → count_of (onward (λ n next. got (folded x n) next) m) ≡ m
+count-made (got n next) x = refl
+count-made (fault n) x = refl
+
+module _ (s : Bytes) (at : ℕ) (does : Does) (x : Head) where
   -- nothing stands there
-  pub no_operator : (n : ℕ) → q ≡ B.Fault n → x ≡ H.Fault n → x ≡ head_with does (head_at s at)
-  no_operator n d a = head_not s at does x (U32.Fault n) (fold_not s at (K.Fault n) (operator-none s at (skip (K.Fault n)) q told n d refl) n (fault n) refl refl) n refl a
+  pub no_operator : (n : ℕ) → byte s at ≡ fault n → x ≡ L.no_head n → x ≡ head_with does (head_at s at)
+  unfolding fold operator
+  no_operator n d a = head_not s at does x n (rw d) a
 
   -- operands that are met often: the operator does nothing
-  module _ (b a : ℕ) (d : q ≡ B.Got b a) (r : Often) (is : OftenIs b r) (h : (r ≡ O.Rare → ⊥)) (u : Skip) (past : often_stops r s a ≡ skip u) where
-    met : Met b s a (skip u)
-    met = met_often b r is h s a (skip u) past
+  module _ (b a : ℕ) (d : byte s at ≡ got b a) (r : Optional Often) (is : OftenIs b r) (v : Often) (h : r ≡ Some v) where
+    met : (y : Step (Unit {0})) → often_stops v s a ≡ y → Met b s a y
+    met y p = met_often b r v is h s a y p
 
-    operands-past : stops (operator s at) ≡ skip u
-    operands-past = operator-plain s at (skip u) q told b a d (FM.Operands met.what) met.says met.what refl met.past
+    operands-past : (y : Step (Unit {0})) → often_stops v s a ≡ y → stops (operator s at) ≡ y
+    unfolding operator may_fold instruction
+    operands-past y p = let m = met y p in rw (d, m.says) (stops-made _ (plain_of b (operands_is m.what) s a) ∙ any-opcode b (operands_is m.what) s a ∙ m.past)
 
-    pub no_operands : (n : ℕ) → u ≡ K.Fault n → x ≡ H.Fault n → x ≡ head_with does (head_at s at)
-    no_operands n g i = head_not s at does x (U32.Fault n) (fold_not s at u operands-past n (fault n) g refl) n refl i
+    pub no_operands : (n : ℕ) → often_stops v s a ≡ fault n → x ≡ L.no_head n → x ≡ head_with does (head_at s at)
+    unfolding fold
+    no_operands n g i = head_not s at does x n (rw (stopped_at (operator s at) n (operands-past (fault n) g))) i
 
-    module _ (c : ℕ) (g : u ≡ K.Past c) (v : U32) (up : up_to 7 16 s c ≡ u32_at v) where
-      counted-at : count_of (fold s at) ≡ u32_at v
-      counted-at = fold-counts s at u operands-past c (u32_at v) g up
+    module _ (c : ℕ) (g : often_stops v s a ≡ got tt c) where
+      counted-at : count_of (fold s at) ≡ up_to 7 16 s c
+      unfolding fold
+      counted-at = let z = gave_at (operator s at) c (operands-past (got tt c) g) in rw z.is (count-made (up_to 7 16 s c) z.value)
 
-      pub no_count : (n : ℕ) → v ≡ U32.Fault n → x ≡ H.Fault n → x ≡ head_with does (head_at s at)
-      no_count n i j = head_not s at does x v counted-at n i j
+      pub no_count : (n : ℕ) → up_to 7 16 s c ≡ fault n → x ≡ L.no_head n → x ≡ head_with does (head_at s at)
+      no_count n i j = head_not s at does x n (counted-at ∙ i) j
 
-      pub with_count : (n next : ℕ) → v ≡ U32.Got n next → x ≡ H.Got does n next → x ≡ head_with does (head_at s at)
+      pub with_count : (n next : ℕ) → up_to 7 16 s c ≡ got n next → x ≡ L.head does n next → x ≡ head_with does (head_at s at)
       with_count n next i j =
-          head-got s at does x v counted-at n next does i (does_plain s at does q told b a d (FM.Operands met.what) met.says met.what false refl (met.calm (get_or s a 0)) refl) j
-
-pub ruleset quick-heads = (no_operator, no_operands, no_count, with_count, refl)
+          let m = met (got tt c) g in
+          head-got s at does x n next does (counted-at ∙ i) (does_plain s at does b a d (FM.Operands m.what) m.says m.what false refl (m.calm (get_or s a 0)) refl) j
 
 -- it has at most 16 operands: so its count was read
 up_to-few : (s : Bytes) (at n next : ℕ) → up_to 7 16 s at ≡ got n next → n ≤ 16
@@ -76,14 +77,14 @@ up_to-few s at n next e = go (u32 s at) e
     go (fault k) e = let z : ◌≡◌ {A = ℕ} 0 1 = cc in absurd (omega arith)
 
 -- and so it was given
-pub head_few : (s : Bytes) (at : ℕ) (does e : Does) (n next : ℕ) → head_with does (head_at s at) ≡ H.Got e n next → n ≤ 16
+pub head_few : (s : Bytes) (at : ℕ) (does e : Does) (n next : ℕ) → head_with does (head_at s at) ≡ L.head e n next → n ≤ 16
 unfolding head_at fold
 head_few s at does e n next h = go (operator s at) h
   where
-    count : (y : Syntax.Instr Identifier) (a : ℕ) (m : Step ℕ) → up_to 7 16 s a ≡ m → head_with does (head_of (onward (λ k b. got (folded y k) b) m)) ≡ H.Got e n next → n ≤ 16
+    count : (y : Syntax.Instr Identifier) (a : ℕ) (m : Step ℕ) → up_to 7 16 s a ≡ m → head_with does (head_of (onward (λ k b. got (folded y k) b) m)) ≡ L.head e n next → n ≤ 16
     count y a (got k b) d h = let z : k ≡ n = cc in rw (← z) (up_to-few s a k b d)
     count y a (fault k) d h = let z : ◌≡◌ {A = ℕ} 0 1 = cc in absurd (omega arith)
 
-    go : (m : Step (Syntax.Instr Identifier)) → head_with does (head_of (onward (λ y a. onward (λ k b. got (folded y k) b) (up_to 7 16 s a)) m)) ≡ H.Got e n next → n ≤ 16
+    go : (m : Step (Syntax.Instr Identifier)) → head_with does (head_of (onward (λ y a. onward (λ k b. got (folded y k) b) (up_to 7 16 s a)) m)) ≡ L.head e n next → n ≤ 16
     go (got y a) h = count y a (up_to 7 16 s a) refl h
     go (fault k) h = let z : ◌≡◌ {A = ℕ} 0 1 = cc in absurd (omega arith)

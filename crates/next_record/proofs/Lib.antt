@@ -8,4 +8,3 @@ pub mod Heads
 pub mod Along
 pub mod Steps
 pub mod Lent
-pub mod LentTypes

@@ -1,4 +1,9 @@
 -- One record at the running place: what each way out of its readers comes to.
+use Rattle.std.specs.Prelude.{Result, Err}
+use Rattle.syntax.specs.Refusals.{number}
+use Rattle.syntax.specs.declared.Fault.{Fault}
+use Rattle.next_record.specs.declared.record.FaultAt.{FaultAt}
+use Rattle.next_record.proofs.Steps.{handed_as}
 use mathlib.Core.Path.{◌≡◌, refl, ap, sym, ◌∙◌}
 use Prim.Native.Nat.{ℕ, zero, suc, ◌-◌, ◌≤◌, ◌<◌}
 use mathlib.Core.Bool.{Bool, true, false, not, false≢true}
@@ -7,9 +12,9 @@ use mathlib.Core.Option.{none, some}
 use lib.Dec.{leb}
 use borrow.Author.Tests.{le-leb, ne_eqb}
 use native.Mathlib.Omega.{arith}
-use Rattle.definition.specs.Basic.{ok, refused, between, is_some}
+use Rattle.definition.specs.Basic.{ok, between, is_some}
 use Rattle.definition.specs.Syntax.{Bytes, field}
-use Rattle.definition.specs.Reader.{chooses}
+use Rattle.definition.specs.Reader.{got, fault, chooses}
 use Rattle.definition.specs.Instructions.{form_of, is_due, body_begins}
 use Rattle.definition.specs.Records.{Room, field_recs, field_rec, field_begins}
 use Rattle.definition.specs.Read.{field_body, source_body, own_body, begins_in}
@@ -17,18 +22,16 @@ use Rattle.laws.proofs.Exits.{between-low}
 use Rattle.laws.proofs.Table.{everywhere}
 use Rattle.syntax.specs.declared.Own.TheVariants as O
 use Rattle.syntax.specs.declared.Source.TheVariants as S
-use Rattle.syntax.specs.Fields.{field_of, field_at}
+use Rattle.syntax.specs.Fields.{field_of}
 use Rattle.syntax.specs.declared.Field.{Field}
 use Rattle.syntax.specs.declared.Field.TheVariants as F
-use Rattle.syntax.specs.declared.FieldAt.{FieldAt}
-use Rattle.syntax.specs.declared.FieldAt.TheVariants as FA
 use Rattle.syntax.specs.Instructions.{form_is}
 use Rattle.syntax.specs.Marks.{no_marks, inside_of}
 use Rattle.syntax.specs.declared.Marks.{Marks}
 use Rattle.syntax.specs.declared.Form.{Form}
 use Rattle.syntax.specs.declared.Form.TheVariants as FM
 use Rattle.next_record.specs.Places.{body_of, depth_of, record_past, place_after, field_record_at}
-use Rattle.next_record.specs.Answers.{field_depth}
+use Rattle.next_record.specs.Answers.{field_depth, outside_answer, refused_here}
 use Rattle.syntax.specs.declared.Place.{Place}
 
 -- ## Depths
@@ -115,13 +118,13 @@ begins_form b d r h m n e t = is_form r t ∙ some_form b d r h m n e
 
 -- ## The ways out
 
-module _ (free : Room) (p : Place) (s : Bytes) (r : FieldAt) (e : field_rec free s p.at ≡ field_at s r) where
-  pub record_field : (f : Field) (next d : ℕ) (q : Place) → r ≡ FA.Got f next → q ≡ record_past p next d → d ≡ field_depth f → field_record_at free p s ≡ (ok (field (field_of s f)), q)
+module _ (free : Room) (p : Place) (s : Bytes) where
+  pub record_field : (f : Field) (next d : ℕ) (q : Place) → field_rec free s p.at ≡ got (field_of s f) next → q ≡ record_past p next d → d ≡ field_depth f → field_record_at free p s ≡ (ok (field (field_of s f)), q)
   unfolding field_record_at place_after
-  record_field f next d q g a l = rw (a, e, g, l, field-depth s f)
+  record_field f next d q g a l = rw (a, g, l, field-depth s f)
 
-  pub record_no_field : (n : ℕ) → r ≡ FA.Fault n → field_record_at free p s ≡ (refused n p.rec, p)
+  pub record_no_field : (n : Fault) (x : Result (Field × Place) FaultAt) → field_rec free s p.at ≡ fault (number n) → x ≡ Err (refused_here p n) → field_record_at free p s ≡ outside_answer s x
   unfolding field_record_at
-  record_no_field n g = rw (e, g)
+  record_no_field n x g a = rw (g, a)
 
-pub ruleset record-ways = (record_field, record_no_field)
+pub ruleset record-ways = (handed_as, record_field, record_no_field)

@@ -1,6 +1,8 @@
 -- The small steps of the code: depths, bytes.
-use Rattle.std.specs.Prelude.{if◌then◌else◌}
-use mathlib.Core.Path.{◌≡◌, refl}
+use Rattle.std.specs.Prelude.{if◌then◌else◌, Result, Ok, Err, IsErrAnd}
+use Rattle.std.specs.Result.{IsErr, MatchResult}
+use native.Mathlib.Omega.{arith}
+use mathlib.Core.Path.{◌≡◌, refl, ap, ◌∙◌}
 use Prim.Native.Nat.{ℕ}
 use mathlib.Core.Bool.{Bool, true, false}
 use mathlib.Core.List.{List}
@@ -20,7 +22,7 @@ use Rattle.next_record.specs.Answers.{own_depth, source_depth, field_depth, on_p
 use Rattle.syntax.specs.Marks.{no_marks}
 use Rattle.syntax.specs.declared.Place.{Place}
 use Rattle.next_record.specs.declared.record.Inside.{Inside}
-use Rattle.next_record.specs.declared.record.InsideAt.{InsideAt}
+use Rattle.next_record.specs.declared.record.FaultAt.{FaultAt}
 
 -- ## Depths
 
@@ -55,9 +57,25 @@ field_flat (F.Start x) h = refl
 field_flat (F.Elem i m xs) h = refl
 field_flat (F.Data i m d) h = refl
 
+-- ## What `map_err` was given
+
+pub mapped_ok : {A E : Type 0} (D : Type 0) {q : Result A E} {v : A} → MatchResult q (λ x. ◌≡◌ {A = Result A D} (Ok v) (Ok x)) (λ e. ⊥) → q ≡ Ok v
+mapped_ok D {q = Ok x} m = cc
+mapped_ok D {q = Err e} m = absurd m
+
+pub mapped_err : {A E D G : Type 0} (q : Result A E) (d : D) (Q : E → Type 0) → MatchResult q (λ x. ◌≡◌ {A = Result A D} (Err d) (Ok x)) Q → ((e : E) → q ≡ Err e → Q e → G) → G
+mapped_err (Ok x) d Q m k = let z : ◌≡◌ {A = ℕ} 0 1 = cc in absurd (omega arith)
+mapped_err (Err e) d Q m k = k e refl m
+
+-- ## A fault that is handed on
+
+pub handed_as : {A : Type 0} (r : Result A FaultAt) (e q : FaultAt) → IsErr r → IsErrAnd r (λ z. z ≡ e) → e ≡ q → r ≡ Err q
+handed_as (Ok x) e q i h g = absurd h
+handed_as (Err z) e q i h g = ap Err (h ∙ g)
+
 -- ## An instruction
 
-pub on_is : (p q : Place) (next d : ℕ) (what : Inside) → q ≡ record_past p next d → ◌≡◌ {A = InsideAt} (record { what = what; place = q }) (on_past p next d what)
+pub on_is : (p q : Place) (next d : ℕ) (what : Inside) → q ≡ record_past p next d → ◌≡◌ {A = Result (Inside × Place) FaultAt} (Ok (what, q)) (on_past p next d what)
 unfolding on_past
 on_is p q next d what e = rw e
 

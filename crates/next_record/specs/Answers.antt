@@ -1,5 +1,5 @@
 -- What the code's answers and small steps mean.
-use Rattle.std.specs.Prelude.{ℕ, Bool, false, eqb, ltb, if◌then◌else◌}
+use Rattle.std.specs.Prelude.{ℕ, Bool, false, eqb, ltb, if◌then◌else◌, Result, Ok, Err}
 use Rattle.definition.specs.Basic.{Answer, ok, fails, refused}
 use Rattle.definition.specs.Syntax.{Bytes, Identifier, Instr, opens, elses, ends, indirect, plain, Rec, field, instr, folded, body_end}
 use Rattle.definition.specs.Reader.{Step, got, fault, Reader, ◌>>◌, require}
@@ -14,19 +14,23 @@ use Rattle.syntax.specs.Fields.{field_of}
 use Rattle.syntax.specs.declared.Field.{Field}
 use Rattle.syntax.specs.declared.Field.TheVariants as F
 use Rattle.syntax.specs.declared.Place.{Place}
-use Rattle.next_record.specs.declared.record.Outside.{Outside}
-use Rattle.next_record.specs.declared.record.Outside.TheVariants as U
+use Rattle.syntax.specs.Refusals.{number}
+use Rattle.syntax.specs.declared.Fault.{Fault}
+use Rattle.next_record.specs.declared.record.FaultAt.{FaultAt}
 use Rattle.next_record.specs.declared.record.Inside.{Inside}
 use Rattle.next_record.specs.declared.record.Inside.TheVariants as N
-use Rattle.next_record.specs.declared.record.InsideAt.{InsideAt}
 use Rattle.next_record.specs.declared.record.Does.{Does}
 use Rattle.next_record.specs.Uses.{may_use, operand_names, names_data, sort_names}
 use Rattle.next_record.specs.Places.{record_past, place_after}
 
+-- a record's fault, and its place
+abbrev pub fault_at : {A : Type 0} → FaultAt → Answer A × Place
+fault_at e = (refused (number e.fault) e.place.rec, e.place)
+
 -- outside a body
-abbrev pub outside_answer : Bytes → Outside → Place → Answer (Rec Identifier) × Place
-outside_answer s (U.Field f) q = (ok (field (field_of s f)), q)
-outside_answer s (U.Refused n) q = (refused n q.rec, q)
+abbrev pub outside_answer : Bytes → Result (Field × Place) FaultAt → Answer (Rec Identifier) × Place
+outside_answer s (Ok x) = (ok (field (field_of s x.0)), x.1)
+outside_answer s (Err e) = fault_at e
 
 -- what an instruction does: to the open blocks, and of one that opens whether an else may come in it; or it names a data segment
 pub data Shift : Type 0 where
@@ -64,15 +68,18 @@ kept_answer (fails q) = fails q
 abbrev pub kept_at : Answer (Rec Identifier) × Place → Answer Kept × Place
 kept_at y = (kept_answer y.0, y.1)
 
-abbrev pub inside_answer : Inside → Place → Answer Kept × Place
-inside_answer (N.On u) q = (ok (an_instr u stay), q)
-inside_answer N.Data q = (ok (an_instr false name_data), q)
-inside_answer (N.Opens u e) q = (ok (an_instr u (open_one e)), q)
-inside_answer N.Elses q = (ok (an_instr false else_one), q)
-inside_answer N.Ends q = (ok (an_instr false end_one), q)
-inside_answer (N.Folded u n) q = (ok (some_folded (record { uses = u; names = n })), q)
-inside_answer N.End q = (ok an_end, q)
-inside_answer (N.Refused n) q = (refused n q.rec, q)
+abbrev pub inside_kept : Inside → Kept
+inside_kept (N.On u) = an_instr u stay
+inside_kept N.Data = an_instr false name_data
+inside_kept (N.Opens u e) = an_instr u (open_one e)
+inside_kept N.Elses = an_instr false else_one
+inside_kept N.Ends = an_instr false end_one
+inside_kept (N.Folded u n) = some_folded (record { uses = u; names = n })
+inside_kept N.End = an_end
+
+abbrev pub inside_answer : Result (Inside × Place) FaultAt → Answer Kept × Place
+inside_answer (Ok x) = (ok (inside_kept x.0), x.1)
+inside_answer (Err e) = fault_at e
 
 -- the same of an instruction
 abbrev pub kept_instr : Place → Step (Instr Identifier) → Answer Kept × Place
@@ -94,11 +101,11 @@ abbrev pub plain_inside : Operands → ℕ → Inside
 plain_inside w b = if sort_names w b then N.Data else N.On false
 
 -- an instruction was passed, or refused
-unfoldable pub on_past : Place → ℕ → ℕ → Inside → InsideAt
-on_past p next depth what = record { what = what; place = record_past p next depth }
+unfoldable pub on_past : Place → ℕ → ℕ → Inside → Result (Inside × Place) FaultAt
+on_past p next depth what = Ok (what, record_past p next depth)
 
-unfoldable pub refused_here : Place → ℕ → InsideAt
-refused_here p n = record { what = N.Refused n; place = p }
+abbrev pub refused_here : Place → Fault → FaultAt
+refused_here p f = record { fault = f; place = p }
 
 -- how deep the place after a field stands: in the body of an own function, or outside
 abbrev pub own_depth : Own → ℕ

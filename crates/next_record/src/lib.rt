@@ -10,5 +10,5 @@ mod skim;
 mod thin;
 
 pub use marks::{with_block, without_block, without_else};
-pub use record::{Inside, InsideAt, Outside, OutsideAt, field_depth, too_many};
+pub use record::{FaultAt, Inside, field_depth, too_many};
 pub use thin::{next_field, next_instr};

@@ -4,26 +4,20 @@ ghost use Rattle.definition.specs.Read as Read;
 ghost use Rattle.syntax.specs.Items.{room_of};
 ghost use Rattle.syntax.specs.Marks.{no_marks};
 ghost use Rattle.syntax.specs.Plain.{operands_is};
+ghost use Rattle.syntax.specs.Refusals.{number};
 ghost use Rattle.next_record.specs.Marks.{mark_of};
 ghost use Rattle.next_record.specs.Uses.{sort_names};
 ghost use Rattle.next_record.specs.Places.{body_of, record_past, field_record_at};
-ghost use Rattle.next_record.specs.Answers.{outside_answer, inside_answer, on_past, refused_here, field_depth};
+ghost use Rattle.next_record.specs.Answers.{outside_answer, inside_answer, field_depth};
 ghost use Rattle.next_record.specs.Folds.{turn_at};
 
 use crate::marks::Innermost;
-use syntax::{ByteAt, Field, FieldAt, Form, Operands, Own, Place, Seen, Source};
+use syntax::{Fault, Field, Form, Operands, Own, Place, Seen, Source};
 
-// What stands outside a body: a field.
+// What a record has for a fault, and the record's place.
 #[derive(Clone, Copy)]
-pub enum Outside {
-    Field(Field),
-    Refused(u8),
-}
-
-// What was read outside a body, and the place after it. A refusal leaves the place where it was.
-#[derive(Clone, Copy)]
-pub struct OutsideAt {
-    pub what: Outside,
+pub struct FaultAt {
+    pub fault: Fault,
     pub place: Place,
 }
 
@@ -50,14 +44,6 @@ pub enum Inside {
     Folded(bool, bool),
     // the body's end
     End,
-    Refused(u8),
-}
-
-// What was read in a body, and the place after it. A refusal leaves the place at the record at fault.
-#[derive(Clone, Copy)]
-pub struct InsideAt {
-    pub what: Inside,
-    pub place: Place,
 }
 
 // An own function begins a body.
@@ -67,20 +53,12 @@ pub fn field_depth(f: Field) -> u32
     match f {
         Field::Item { source, .. } => match source {
             Source::Own(o) => match o {
-                Own::Func(_, _) => {
-                    return 1;
-                }
-                _ => {
-                    return 0;
-                }
+                Own::Func(_, _) => 1,
+                _ => 0,
             },
-            _ => {
-                return 0;
-            }
+            _ => 0,
         },
-        _ => {
-            return 0;
-        }
+        _ => 0,
     }
 }
 
@@ -101,12 +79,8 @@ fn begins(b: u8, depth: u32) -> bool
         return true;
     }
     match instr::opcode_form(b) {
-        Form::NoOpcode => {
-            return false;
-        }
-        _ => {
-            return true;
-        }
+        Form::NoOpcode => false,
+        _ => true,
     }
 }
 
@@ -134,21 +108,19 @@ pub fn names_data(s: &[u8], at: usize, what: Operands) -> bool
             }
             return false;
         }
-        _ => {
-            return false;
-        }
+        _ => false,
     }
 }
 
-// The refusal of a record that is one too many: 7, and 4 where no record may begin so.
-pub fn too_many(s: &[u8], p: Place) -> u8
-    ensures { result ≡ (if Read.begins_in (get_or s.now p.at 0) (body_of p.depth no_marks) then 7 else 4) }
+// The fault of a record that is one too many: its byte's, where no record may begin so.
+pub fn too_many(s: &[u8], p: Place) -> Fault
+    ensures { number result ≡ (if Read.begins_in (get_or s.now p.at 0) (body_of p.depth no_marks) then 7 else 4) }
 {
     let b = byte_or_zero(s, p.at);
     if begins(b, p.depth) {
-        return 7;
+        return Fault::TooMany;
     }
-    4
+    Fault::UnknownByte
 }
 
 // The place after a record.
@@ -163,63 +135,36 @@ pub fn after_record(p: Place, at: usize, depth: u32) -> Place
     }
 }
 
-// A field's record, for which `seen` says what may still come.
-pub fn field_record(s: &[u8], p: Place, seen: Seen) -> OutsideAt
+// A field's record, for which `seen` says what may still come, and the place after it. A fault leaves the place where it was.
+pub fn field_record(s: &[u8], p: Place, seen: Seen) -> Result<(Field, Place), FaultAt>
     requires { p.rec < 4096 }
-    ensures { field_record_at (room_of seen) p s.now ≡ outside_answer s.now result.what result.place }
+    ensures { field_record_at (room_of seen) p s.now ≡ outside_answer s.now result }
 {
-    let what;
-    match field_records::read_field(s, p.at, seen) {
-        FieldAt::Got(f, at) => {
-            let place = after_record(p, at, field_depth(f));
-            what = Outside::Field(f);
-            return OutsideAt { what, place };
-        }
-        FieldAt::Fault(n) => {
-            what = Outside::Refused(n);
-            return OutsideAt { what, place: p };
-        }
-    }
+    let (f, at) = field_records::read_field(s, p.at, seen).map_err(|fault| FaultAt {
+        fault,
+        place: p,
+    })?;
+    Ok((f, after_record(p, at, field_depth(f))))
 }
 
-// An instruction was passed.
-pub fn on(p: Place, at: usize, depth: u32, what: Inside) -> InsideAt
-    requires { p.rec < 4096 }
-    ensures { result ≡ on_past p at depth what }
-{
-    let place = after_record(p, at, depth);
-    InsideAt { what, place }
-}
-
-pub fn refused(p: Place, n: u8) -> InsideAt
-    ensures { result ≡ refused_here p n }
-{
-    let what = Inside::Refused(n);
-    InsideAt { what, place: p }
-}
-
-// A record of a body: the byte FF where no block is open, an instruction, or a folded record with all its operands.
-pub fn body_record(s: &[u8], p: Place, last: Innermost) -> InsideAt
+// A record of a body, and the place after it: the byte FF where no block is open, an instruction, or a folded record with all its operands. A fault
+// has the place of its record.
+pub fn body_record(s: &[u8], p: Place, last: Innermost) -> Result<(Inside, Place), FaultAt>
     requires { (p.rec < 4096) × (1 ≤ p.depth) }
-    ensures { turn_at p (mark_of last) s.now ≡ inside_answer result.what result.place }
+    ensures { turn_at p (mark_of last) s.now ≡ inside_answer result }
 {
-    match token::read_byte(s, p.at) {
-        ByteAt::Got(b, at) => {
-            if b == 0xF0 {
-                return crate::skim::folded(s, p);
-            }
-            if b != 0xFF {
-                return crate::skim::pass_instr(s, p, last, at, b);
-            }
-            if 1 < p.depth {
-                return refused(p, 8);
-            }
-            let place = after_record(p, at, 0);
-            let what = Inside::End;
-            return InsideAt { what, place };
-        }
-        ByteAt::Fault(n) => {
-            return refused(p, n);
-        }
+    let (b, at) = token::read_byte(s, p.at).map_err(|fault| FaultAt { fault, place: p })?;
+    if b == 0xF0 {
+        return crate::skim::folded(s, p);
     }
+    if b != 0xFF {
+        return crate::skim::pass_instr(s, p, last, at, b);
+    }
+    if 1 < p.depth {
+        return Err(FaultAt {
+            fault: Fault::BrokenBlocks,
+            place: p,
+        });
+    }
+    Ok((Inside::End, after_record(p, at, 0)))
 }

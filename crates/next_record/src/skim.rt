@@ -5,92 +5,73 @@ ghost use Rattle.definition.specs.Instructions as Instructions;
 ghost use Rattle.syntax.specs.Plain.{operands_is};
 ghost use Rattle.syntax.specs.Marks.{inside_of};
 ghost use Rattle.next_record.specs.Marks.{mark_of};
-ghost use Rattle.next_record.specs.Answers.{opens_in, elses_in, ends_in, plain_inside, kept_instr, inside_answer};
+ghost use Rattle.next_record.specs.Answers.{opens_in, elses_in, ends_in, plain_inside, kept_instr, inside_answer, on_past, refused_here};
 ghost use Rattle.next_record.specs.Folds.{none_do, folded_at, kept_fold};
 
-use crate::fold::{Fold, read_operands};
+use crate::fold::read_operands;
 use crate::marks::{Innermost, may_else};
-use crate::record::{Does, Inside, InsideAt, names_data, on, refused};
-use syntax::{Form, Operands, Place, Skip, UseAt};
+use crate::record::{Does, FaultAt, Inside, after_record, names_data};
+use syntax::{Fault, Form, Operands, Place};
+
+// An instruction was passed, after which the place is so deep.
+fn on(p: Place, at: usize, depth: u32, what: Inside) -> Result<(Inside, Place), FaultAt>
+    requires { p.rec < 4096 }
+    ensures { result ≡ on_past p at depth what }
+{
+    Ok((what, after_record(p, at, depth)))
+}
+
+fn refused(p: Place, fault: Fault) -> FaultAt
+    ensures { result ≡ refused_here p fault }
+{
+    FaultAt { fault, place: p }
+}
 
 // A block opens, where fewer than 128 are open.
-fn opens(s: &[u8], p: Place, at: usize, opcode: u8) -> InsideAt
+fn opens(s: &[u8], p: Place, at: usize, opcode: u8) -> Result<(Inside, Place), FaultAt>
     requires { (p.rec < 4096) × (1 ≤ p.depth) }
-    ensures { kept_instr p (opens_in (p.depth - 1) opcode s.now at) ≡ inside_answer result.what result.place }
+    ensures { kept_instr p (opens_in (p.depth - 1) opcode s.now at) ≡ inside_answer result }
 {
     if 128 < p.depth {
-        return refused(p, 7);
+        return Err(refused(p, Fault::TooMany));
     }
-    match token::pass_identifier(s, at) {
-        Skip::Past(a) => match typeuse::read_type_use(s, a) {
-            UseAt::Got(t, next) => {
-                let uses = !type_table::is_short(s, t);
-                let what = Inside::Opens(uses, opcode == 0x04);
-                return on(p, next, p.depth + 1, what);
-            }
-            UseAt::Fault(n) => {
-                return refused(p, n);
-            }
-        },
-        Skip::Fault(n) => {
-            return refused(p, n);
-        }
-    }
+    let a = token::pass_identifier(s, at).map_err(|f| refused(p, f))?;
+    let (t, next) = typeuse::read_type_use(s, a).map_err(|f| refused(p, f))?;
+    let uses = !type_table::is_short(s, t);
+    on(p, next, p.depth + 1, Inside::Opens(uses, opcode == 0x04))
 }
 
 // An else, where one may come.
-fn elses(s: &[u8], p: Place, last: Innermost, at: usize) -> InsideAt
+fn elses(s: &[u8], p: Place, last: Innermost, at: usize) -> Result<(Inside, Place), FaultAt>
     requires { (p.rec < 4096) × (1 ≤ p.depth) }
-    ensures { kept_instr p (elses_in (p.depth - 1) (mark_of last) s.now at) ≡ inside_answer result.what result.place }
+    ensures { kept_instr p (elses_in (p.depth - 1) (mark_of last) s.now at) ≡ inside_answer result }
 {
-    if may_else(last, p.depth) {
-        match token::pass_identifier(s, at) {
-            Skip::Past(next) => {
-                return on(p, next, p.depth, Inside::Elses);
-            }
-            Skip::Fault(n) => {
-                return refused(p, n);
-            }
-        }
+    if !may_else(last, p.depth) {
+        return Err(refused(p, Fault::BrokenBlocks));
     }
-    refused(p, 8)
+    let next = token::pass_identifier(s, at).map_err(|f| refused(p, f))?;
+    on(p, next, p.depth, Inside::Elses)
 }
 
 // An end, where a block is open.
-fn ends(s: &[u8], p: Place, at: usize) -> InsideAt
+fn ends(s: &[u8], p: Place, at: usize) -> Result<(Inside, Place), FaultAt>
     requires { (p.rec < 4096) × (1 ≤ p.depth) }
-    ensures { kept_instr p (ends_in (p.depth - 1) s.now at) ≡ inside_answer result.what result.place }
+    ensures { kept_instr p (ends_in (p.depth - 1) s.now at) ≡ inside_answer result }
 {
     if p.depth < 2 {
-        return refused(p, 8);
+        return Err(refused(p, Fault::BrokenBlocks));
     }
-    match token::pass_identifier(s, at) {
-        Skip::Past(next) => {
-            return on(p, next, p.depth - 1, Inside::Ends);
-        }
-        Skip::Fault(n) => {
-            return refused(p, n);
-        }
-    }
+    let next = token::pass_identifier(s, at).map_err(|f| refused(p, f))?;
+    on(p, next, p.depth - 1, Inside::Ends)
 }
 
-fn indirect(s: &[u8], p: Place, at: usize) -> InsideAt
+fn indirect(s: &[u8], p: Place, at: usize) -> Result<(Inside, Place), FaultAt>
     requires { (p.rec < 4096) × (1 ≤ p.depth) }
-    ensures { kept_instr p (Instructions.instruction 0x11 Instructions.calling s.now at) ≡ inside_answer result.what result.place }
+    ensures { kept_instr p (Instructions.instruction 0x11 Instructions.calling s.now at) ≡ inside_answer result }
 {
-    match token::pass_optional(s, at) {
-        Skip::Past(a) => match typeuse::read_type_use(s, a) {
-            UseAt::Got(_, next) => {
-                return on(p, next, p.depth, Inside::On(true));
-            }
-            UseAt::Fault(n) => {
-                return refused(p, n);
-            }
-        },
-        Skip::Fault(n) => {
-            return refused(p, n);
-        }
-    }
+    let a = token::pass_optional(s, at).map_err(|f| refused(p, f))?;
+    let (_, next) = typeuse::read_type_use(s, a).map_err(|f| refused(p, f))?;
+    on(p, next, p.depth, Inside::On(true))
 }
 
 // An instruction with operands.
@@ -104,38 +85,37 @@ fn plain_inside(s: &[u8], at: usize, what: Operands) -> Inside
 }
 
 // A folded record with all its operands, as a list of one.
-pub fn folded(s: &[u8], p: Place) -> InsideAt
-    ensures { kept_fold (folded_at 32 s.now none_do p) ≡ inside_answer result.what result.place }
+pub fn folded(s: &[u8], p: Place) -> Result<(Inside, Place), FaultAt>
+    ensures { kept_fold (folded_at 32 s.now none_do p) ≡ inside_answer result }
 {
     let none = Does {
         uses: false,
         names: false,
     };
-    match read_operands(s, p, 1, 32, none) {
-        Fold::Past(does, place) => {
-            let what = Inside::Folded(does.uses, does.names);
-            return InsideAt { what, place };
-        }
-        Fold::Refused(n, place) => {
-            return refused(place, n);
-        }
-    }
+    let (does, place) = read_operands(s, p, 1, 32, none)?;
+    Ok((Inside::Folded(does.uses, does.names), place))
 }
 
 // What stands after an opcode.
-pub fn pass_instr(s: &[u8], p: Place, last: Innermost, at: usize, opcode: u8) -> InsideAt
+pub fn pass_instr(
+    s: &[u8],
+    p: Place,
+    last: Innermost,
+    at: usize,
+    opcode: u8,
+) -> Result<(Inside, Place), FaultAt>
     requires { (p.rec < 4096) × (1 ≤ p.depth) }
-    ensures { kept_instr p (Instructions.formed (inside_of (p.depth - 1) (mark_of last)) opcode (Instructions.form_of opcode) s.now at) ≡ inside_answer result.what result.place }
+    ensures { kept_instr p (Instructions.formed (inside_of (p.depth - 1) (mark_of last)) opcode (Instructions.form_of opcode) s.now at) ≡ inside_answer result }
 {
     match instr::opcode_form(opcode) {
-        Form::NoOpcode => refused(p, 4),
+        Form::NoOpcode => Err(refused(p, Fault::UnknownByte)),
         Form::Opening => opens(s, p, at, opcode),
         Form::Elsing => elses(s, p, last, at),
         Form::Ending => ends(s, p, at),
         Form::Calling => indirect(s, p, at),
-        Form::Operands(what) => match expr::pass_plain(s, at, what) {
-            Skip::Past(next) => on(p, next, p.depth, plain_inside(s, at, what)),
-            Skip::Fault(n) => refused(p, n),
-        },
+        Form::Operands(what) => {
+            let next = expr::pass_plain(s, at, what).map_err(|f| refused(p, f))?;
+            on(p, next, p.depth, plain_inside(s, at, what))
+        }
     }
 }

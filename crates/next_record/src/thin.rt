@@ -1,60 +1,26 @@
-// Readers that take the place by reference and move it on; each calls the reader by value. The pass uses `next_field` and `next_instr`, whose place
-// is plain.
+// Records for the pass: of the marks of the open blocks the innermost's alone matters.
 ghost use Rattle.std.specs.Prelude.{◌≡◌, ◌≤◌, ◌<◌};
 ghost use Rattle.syntax.specs.Items.{room_of};
-ghost use Rattle.next_record.specs.Marks.{mark_of};
 ghost use Rattle.next_record.specs.Places.{field_record_at};
 ghost use Rattle.next_record.specs.Answers.{outside_answer, inside_answer};
 ghost use Rattle.next_record.specs.Folds.{turn_at};
 
-use crate::marks::{Innermost, lowest};
-use crate::record::{Inside, InsideAt, Outside, OutsideAt, body_record, field_record};
-use syntax::{Marks, Place, Seen};
-
-// A field's record.
-fn read_field(s: &[u8], place: &mut Place, seen: Seen) -> Outside
-    requires { place.old.rec < 4096 }
-    ensures { field_record_at (room_of seen) place.old s.now ≡ outside_answer s.now result place.new }
-{
-    let r = field_record(s, *place, seen);
-    *place = r.place;
-    r.what
-}
-
-// A record of a body.
-fn read_instr(s: &[u8], place: &mut Place, last: Innermost) -> Inside
-    requires { (place.old.rec < 4096) × (1 ≤ place.old.depth) }
-    ensures { turn_at place.old (mark_of last) s.now ≡ inside_answer result place.new }
-{
-    let r = body_record(s, *place, last);
-    *place = r.place;
-    r.what
-}
+use crate::marks::lowest;
+use crate::record::{FaultAt, Inside, body_record, field_record};
+use syntax::{Field, Marks, Place, Seen};
 
 // The field's record at a place.
-pub fn next_field(s: &[u8], p: Place, seen: Seen) -> OutsideAt
+pub fn next_field(s: &[u8], p: Place, seen: Seen) -> Result<(Field, Place), FaultAt>
     requires { p.rec < 4096 }
-    ensures { field_record_at (room_of seen) p s.now ≡ outside_answer s.now result.what result.place }
+    ensures { field_record_at (room_of seen) p s.now ≡ outside_answer s.now result }
 {
-    let mut place = p;
-    let what = read_field(s, &mut place, seen);
-    OutsideAt { what, place }
+    field_record(s, p, seen)
 }
 
-// The record of a body at a place.
-fn next_inside(s: &[u8], p: Place, last: Innermost) -> InsideAt
+// The record of a body at a place, where the open blocks have these marks.
+pub fn next_instr(s: &[u8], p: Place, marks: Marks) -> Result<(Inside, Place), FaultAt>
     requires { (p.rec < 4096) × (1 ≤ p.depth) }
-    ensures { turn_at p (mark_of last) s.now ≡ inside_answer result.what result.place }
+    ensures { turn_at p marks s.now ≡ inside_answer result }
 {
-    let mut place = p;
-    let what = read_instr(s, &mut place, last);
-    InsideAt { what, place }
-}
-
-// The same where the open blocks have these marks: the innermost's alone matters.
-pub fn next_instr(s: &[u8], p: Place, marks: Marks) -> InsideAt
-    requires { (p.rec < 4096) × (1 ≤ p.depth) }
-    ensures { turn_at p marks s.now ≡ inside_answer result.what result.place }
-{
-    next_inside(s, p, lowest(marks))
+    body_record(s, p, lowest(marks))
 }

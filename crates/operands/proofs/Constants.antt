@@ -1,4 +1,6 @@
 -- Laws of constants.
+use Rattle.std.specs.Prelude.{Ok, Err}
+use Rattle.syntax.specs.Refusals.{Resolved}
 use Prim.Native.Nat.{ℕ}
 use mathlib.Core.Path.{◌≡◌, sym, ◌∙◌}
 use mathlib.Core.Bool.{Bool, true, false}
@@ -16,8 +18,6 @@ use Rattle.name_table.specs.Area as Area
 use Rattle.scope.specs.Scope.{scope_in, locals_in, labels_in}
 use Rattle.scope.specs.declared.Locals.{Locals}
 use Rattle.binary.specs.Emits.{Emits}
-use Rattle.binary.specs.declared.Emitted.{Emitted}
-use Rattle.binary.specs.declared.Emitted.TheVariants as E
 use Rattle.binary.proofs.Emitting.{wrote, halts, was_wrote, has_halted}
 use Rattle.binary.proofs.Immediates.{put-expr}
 use Rattle.operands.specs.Operands.{const_bytes, zero_op}
@@ -28,19 +28,19 @@ use Rattle.operands.specs.Operands.{const_bytes, zero_op}
 abbrev no_locals : Locals
 no_locals = record { nameless = 0; count = 0 }
 
-module _ (s w : List ℕ) (rec : ℕ) (c : ℕ) (p : Plain) (is : plain_is s p ≡ constant_at s c) (old : List ℕ) (at : ℕ) (q : Emitted) (mid : List ℕ)
+module _ (s w : List ℕ) (rec : ℕ) (c : ℕ) (p : Plain) (is : plain_is s p ≡ constant_at s c) (old : List ℕ) (at : ℕ) (q : Resolved ℕ) (mid : List ℕ)
     (told : Emits instruction (plain_op (scope_in s w) (locals_in s w no_locals) (labels_in s w 0) rec (plain_is s p)) old at q mid) where
   same : plain_op (scope_in s w) (locals_in s w no_locals) (labels_in s w 0) rec (plain_is s p) ≡ const_op (scope_in s w) rec (constant_at s c)
   unfolding const_op locals_in labels_in Area.names Area.labels
   same = rw is
 
-  pub const_to : (o r : ℕ) (new : List ℕ) → q ≡ E.To o → Put mid o (0x0B ∷ []) r new → Emits const_bytes (const_op (scope_in s w) rec (constant_at s c)) old at (E.To r) new
+  pub const_to : (o r : ℕ) (new : List ℕ) → q ≡ Ok o → Put mid o (0x0B ∷ []) r new → Emits const_bytes (const_op (scope_in s w) rec (constant_at s c)) old at (Ok r) new
   unfolding const_bytes
   const_to o r new d e =
       let v = was_wrote instruction (plain_op (scope_in s w) (locals_in s w no_locals) (labels_in s w 0) rec (plain_is s p)) old at mid q o told d in
       wrote const_bytes (const_op (scope_in s w) rec (constant_at s c)) old at new v.value r (put-expr v.value v.put e) (sym same ∙ v.is)
 
-  pub const_not : (r : Refusal) → q ≡ E.Refused r → Emits const_bytes (const_op (scope_in s w) rec (constant_at s c)) old at (E.Refused r) mid
+  pub const_not : (r : Refusal) → q ≡ Err r → Emits const_bytes (const_op (scope_in s w) rec (constant_at s c)) old at (Err r) mid
   const_not r d =
       halts const_bytes (const_op (scope_in s w) rec (constant_at s c)) old at mid r
       (sym same ∙ has_halted instruction (plain_op (scope_in s w) (locals_in s w no_locals) (labels_in s w 0) rec (plain_is s p)) old at mid q r told d)

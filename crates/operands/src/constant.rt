@@ -8,11 +8,18 @@ ghost use Rattle.scope.specs.Scope.{scope_in};
 ghost use Rattle.binary.specs.Emits.{Emits};
 ghost use Rattle.operands.specs.Operands.{const_bytes, zero_op};
 
-use binary::Emitted;
 use scope::Locals;
+use syntax::Resolved;
 
 // The constant at the place c. It has no locals and no blocks, so no label or local of it has a name.
-pub fn emit_const(s: &[u8], work: &[u32], out: &mut [u8], at: usize, c: usize, rec: u32) -> Emitted
+pub fn emit_const(
+    s: &[u8],
+    work: &[u32],
+    out: &mut [u8],
+    at: usize,
+    c: usize,
+    rec: u32,
+) -> Resolved<usize>
     requires { WORDS ≤ length work.now }
     ensures { Emits const_bytes (Names.const_op (scope_in s.now work.now) rec (constant_at s.now c)) out.old at result out.new }
 {
@@ -21,10 +28,8 @@ pub fn emit_const(s: &[u8], work: &[u32], out: &mut [u8], at: usize, c: usize, r
         nameless: 0,
         count: 0,
     };
-    match crate::operand::emit_plain(s, work, out, at, none, 0, plain, rec) {
-        Emitted::To(o) => Emitted::To(emit::put(out, o, 0x0B)),
-        Emitted::Refused(r) => Emitted::Refused(r),
-    }
+    let o = crate::operand::emit_plain(s, work, out, at, none, 0, plain, rec)?;
+    Ok(emit::put(out, o, 0x0B))
 }
 
 // Offset 0, as wide as the item's indices.

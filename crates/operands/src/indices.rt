@@ -12,10 +12,7 @@ ghost use Rattle.scope.specs.Scope.{scope_in, labels_in};
 ghost use Rattle.binary.specs.Emits.{Emits};
 ghost use Rattle.operands.specs.Operands.{depth_bytes, FewBlocks, bytes_of, target_of};
 
-use binary::Emitted;
-use name_table::Resolved;
-use scope::DepthAt;
-use syntax::{Index, IndexAt, List, Space};
+use syntax::{Index, List, Resolved, Space};
 
 // How many indices a list has.
 pub fn count_indices(s: &[u8], l: List) -> u64
@@ -26,12 +23,12 @@ pub fn count_indices(s: &[u8], l: List) -> u64
     let mut left = l.count;
     while 0 < left {
         match token::read_present(s, here) {
-            IndexAt::Got(_, next) => {
+            Ok((_, next)) => {
                 n += 1;
                 here = next;
                 left -= 1;
             }
-            IndexAt::Fault(_) => {
+            Err(_) => {
                 return n;
             }
         }
@@ -48,14 +45,12 @@ pub fn emit_number(
     kind: Space,
     x: Index,
     rec: u32,
-) -> Emitted
+) -> Resolved<usize>
     requires { WORDS ≤ length work.now }
     ensures { Emits Binary.u (Names.item_no (scope_in s.now work.now) (space_of kind) rec (index_of s.now x)) out.old at result out.new }
 {
-    match scope::item_no(s, work, kind, x, rec) {
-        Resolved::To(n) => Emitted::To(leb::put_u(out, at, n as u64)),
-        Resolved::Refused(r) => Emitted::Refused(r),
-    }
+    let n = scope::item_no(s, work, kind, x, rec)?;
+    Ok(leb::put_u(out, at, n as u64))
 }
 
 // A label's depth.
@@ -67,14 +62,12 @@ pub fn emit_depth(
     blocks: u32,
     x: Index,
     rec: u32,
-) -> Emitted
+) -> Resolved<usize>
     requires { (WORDS ≤ length work.now) × (blocks ≤ 128) }
     ensures { Emits depth_bytes (Names.depth_of (scope_in s.now work.now) (labels_in s.now work.now blocks) rec (index_of s.now x)) out.old at result out.new }
 {
-    match scope::depth_no(s, work, blocks, x, rec) {
-        DepthAt::To(d) => Emitted::To(binary::put_depth(out, at, d)),
-        DepthAt::Refused(r) => Emitted::Refused(r),
-    }
+    let d = scope::depth_no(s, work, blocks, x, rec)?;
+    Ok(binary::put_depth(out, at, d))
 }
 
 // What the indices of a list refer to: functions, or labels of so many open blocks.
@@ -92,7 +85,7 @@ fn emit_index(
     to: Target,
     x: Index,
     rec: u32,
-) -> Emitted
+) -> Resolved<usize>
     requires { (WORDS ≤ length work.now) × FewBlocks to }
     ensures { Emits (bytes_of to) (target_of s.now work.now to rec (index_of s.now x)) out.old at result out.new }
 {
@@ -111,7 +104,7 @@ fn emit_each(
     to: Target,
     l: List,
     rec: u32,
-) -> Emitted
+) -> Resolved<usize>
     requires { (WORDS ≤ length work.now) × FewBlocks to }
     ensures { Emits (concat_map (bytes_of to)) (each (target_of s.now work.now to rec) (list_of Token.present s.now l)) out.old at result out.new }
 {
@@ -120,22 +113,18 @@ fn emit_each(
     let mut left = l.count;
     while 0 < left {
         match token::read_present(s, here) {
-            IndexAt::Got(x, next) => match emit_index(s, work, out, o, to, x, rec) {
-                Emitted::To(a) => {
-                    o = a;
-                    here = next;
-                    left -= 1;
-                }
-                Emitted::Refused(r) => {
-                    return Emitted::Refused(r);
-                }
-            },
-            IndexAt::Fault(_) => {
-                return Emitted::To(o);
+            Ok((x, next)) => {
+                let a = emit_index(s, work, out, o, to, x, rec)?;
+                o = a;
+                here = next;
+                left -= 1;
+            }
+            Err(_) => {
+                return Ok(o);
             }
         }
     }
-    Emitted::To(o)
+    Ok(o)
 }
 
 fn emit_list(
@@ -146,7 +135,7 @@ fn emit_list(
     to: Target,
     l: List,
     rec: u32,
-) -> Emitted
+) -> Resolved<usize>
     requires { (WORDS ≤ length work.now) × FewBlocks to }
     ensures { Emits (Binary.vec (bytes_of to)) (each (target_of s.now work.now to rec) (list_of Token.present s.now l)) out.old at result out.new }
 {
@@ -156,7 +145,14 @@ fn emit_list(
 }
 
 // The functions of an element segment.
-pub fn emit_funcs(s: &[u8], work: &[u32], out: &mut [u8], at: usize, l: List, rec: u32) -> Emitted
+pub fn emit_funcs(
+    s: &[u8],
+    work: &[u32],
+    out: &mut [u8],
+    at: usize,
+    l: List,
+    rec: u32,
+) -> Resolved<usize>
     requires { WORDS ≤ length work.now }
     ensures { Emits (Binary.vec Binary.u) (each (Names.item_no (scope_in s.now work.now) funcs rec) (list_of Token.present s.now l)) out.old at result out.new }
 {
@@ -173,12 +169,10 @@ pub fn emit_labels(
     xs: List,
     x: Index,
     rec: u32,
-) -> Emitted
+) -> Resolved<usize>
     requires { (WORDS ≤ length work.now) × (blocks ≤ 128) }
     ensures { Emits Binary.imm (Names.immediate (scope_in s.now work.now) [] (labels_in s.now work.now blocks) rec (labels (list_of Token.present s.now xs) (index_of s.now x))) out.old at result out.new }
 {
-    match emit_list(s, work, out, at, Target::Label(blocks), xs, rec) {
-        Emitted::To(a) => emit_depth(s, work, out, a, blocks, x, rec),
-        Emitted::Refused(r) => Emitted::Refused(r),
-    }
+    let a = emit_list(s, work, out, at, Target::Label(blocks), xs, rec)?;
+    emit_depth(s, work, out, a, blocks, x, rec)
 }

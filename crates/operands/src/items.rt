@@ -12,8 +12,7 @@ ghost use Rattle.scope.specs.Scope.{scope_in};
 ghost use Rattle.binary.specs.Emits.{Emits};
 ghost use Rattle.operands.specs.Operands.{numbers_of};
 
-use binary::Emitted;
-use syntax::{IndexAt, Space, Spaces};
+use syntax::{Resolved, Space, Spaces};
 
 // The index of this space at `here`.
 fn emit_one(
@@ -24,13 +23,13 @@ fn emit_one(
     k: Space,
     here: usize,
     rec: u32,
-) -> Emitted
+) -> Resolved<usize>
     requires { WORDS ≤ length work.now }
     ensures { Emits (concat_map Binary.u) (numbers_of s.now work.now rec (indices_at (space_of k ∷ []) s.now here)) out.old at result out.new }
 {
     match expr::read_in(s, here, k) {
-        IndexAt::Got(x, _) => crate::indices::emit_number(s, work, out, at, k, x, rec),
-        IndexAt::Fault(_) => Emitted::To(at),
+        Ok((x, _)) => crate::indices::emit_number(s, work, out, at, k, x, rec),
+        Err(_) => Ok(at),
     }
 }
 
@@ -44,16 +43,16 @@ fn emit_two(
     k: Space,
     here: usize,
     rec: u32,
-) -> Emitted
+) -> Resolved<usize>
     requires { WORDS ≤ length work.now }
     ensures { Emits (concat_map Binary.u) (numbers_of s.now work.now rec (indices_at (space_of j ∷ space_of k ∷ []) s.now here)) out.old at result out.new }
 {
     match expr::read_in(s, here, j) {
-        IndexAt::Got(x, next) => match crate::indices::emit_number(s, work, out, at, j, x, rec) {
-            Emitted::To(o) => emit_one(s, work, out, o, k, next, rec),
-            Emitted::Refused(q) => Emitted::Refused(q),
-        },
-        IndexAt::Fault(_) => Emitted::To(at),
+        Ok((x, next)) => {
+            let o = crate::indices::emit_number(s, work, out, at, j, x, rec)?;
+            emit_one(s, work, out, o, k, next, rec)
+        }
+        Err(_) => Ok(at),
     }
 }
 
@@ -66,13 +65,13 @@ pub fn emit_items(
     b: u8,
     here: usize,
     rec: u32,
-) -> Emitted
+) -> Resolved<usize>
     requires { WORDS ≤ length work.now }
     ensures { Emits Binary.imm (Names.immediate (scope_in s.now work.now) [] [] rec (items b (bulk_at (Instructions.spaces_of b) s.now here))) out.old at result out.new }
 {
     let a = leb::put_u(out, at, b as u64);
     match syntax::bulk_spaces(b) {
-        Spaces::None => Emitted::To(a),
+        Spaces::None => Ok(a),
         Spaces::One(k) => emit_one(s, work, out, a, k, here, rec),
         Spaces::Two(j, k) => emit_two(s, work, out, a, j, k, here, rec),
     }

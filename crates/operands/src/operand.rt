@@ -9,10 +9,8 @@ ghost use Rattle.syntax.specs.Plain.{operand_of, plain_is};
 ghost use Rattle.scope.specs.Scope.{scope_in, locals_in, FewLocals, labels_in};
 ghost use Rattle.binary.specs.Emits.{Emits};
 
-use binary::Emitted;
-use name_table::Resolved;
-use scope::{LocalAt, Locals};
-use syntax::{Index, Operand, Plain, Space};
+use scope::Locals;
+use syntax::{Index, Operand, Plain, Resolved, Space};
 
 pub fn emit_label(
     s: &[u8],
@@ -22,7 +20,7 @@ pub fn emit_label(
     k: u32,
     x: Index,
     rec: u32,
-) -> Emitted
+) -> Resolved<usize>
     requires { (WORDS ≤ length work.now) × (k ≤ 128) }
     ensures { Emits Binary.imm (Names.immediate (scope_in s.now work.now) [] (labels_in s.now work.now k) rec (label (index_of s.now x))) out.old at result out.new }
 {
@@ -37,14 +35,12 @@ pub fn emit_local(
     l: Locals,
     x: Index,
     rec: u32,
-) -> Emitted
+) -> Resolved<usize>
     requires { (WORDS ≤ length work.now) × FewLocals l }
     ensures { Emits Binary.imm (Names.immediate (scope_in s.now work.now) (locals_in s.now work.now l) [] rec (local (index_of s.now x))) out.old at result out.new }
 {
-    match scope::local_no(s, work, l, x, rec) {
-        LocalAt::To(n) => Emitted::To(binary::put_local(out, at, n)),
-        LocalAt::Refused(q) => Emitted::Refused(q),
-    }
+    let n = scope::local_no(s, work, l, x, rec)?;
+    Ok(binary::put_local(out, at, n))
 }
 
 pub fn emit_item(
@@ -55,7 +51,7 @@ pub fn emit_item(
     kind: Space,
     x: Index,
     rec: u32,
-) -> Emitted
+) -> Resolved<usize>
     requires { WORDS ≤ length work.now }
     ensures { Emits Binary.imm (Names.immediate (scope_in s.now work.now) [] [] rec (item (space_of kind) (index_of s.now x))) out.old at result out.new }
 {
@@ -72,14 +68,12 @@ fn emit_access(
     offset: u32,
     x: Index,
     rec: u32,
-) -> Emitted
+) -> Resolved<usize>
     requires { WORDS ≤ length work.now }
     ensures { Emits Binary.imm (Names.immediate (scope_in s.now work.now) [] [] rec (access exponent offset (index_of s.now x))) out.old at result out.new }
 {
-    match scope::item_no(s, work, Space::Mems, x, rec) {
-        Resolved::To(m) => Emitted::To(binary::put_memarg(out, at, exponent, offset, m)),
-        Resolved::Refused(q) => Emitted::Refused(q),
-    }
+    let m = scope::item_no(s, work, Space::Mems, x, rec)?;
+    Ok(binary::put_memarg(out, at, exponent, offset, m))
 }
 
 fn emit_operand(
@@ -91,22 +85,22 @@ fn emit_operand(
     k: u32,
     operand: Operand,
     rec: u32,
-) -> Emitted
+) -> Resolved<usize>
     requires { (WORDS ≤ length work.now) × FewLocals l × (k ≤ 128) }
     ensures { Emits Binary.imm (Names.immediate (scope_in s.now work.now) (locals_in s.now work.now l) (labels_in s.now work.now k) rec (operand_of s.now operand)) out.old at result out.new }
 {
     match operand {
-        Operand::Nothing => Emitted::To(at),
+        Operand::Nothing => Ok(at),
         Operand::Label(x) => emit_label(s, work, out, at, k, x, rec),
         Operand::Labels(xs, x) => crate::indices::emit_labels(s, work, out, at, k, xs, x, rec),
         Operand::Local(x) => emit_local(s, work, out, at, l, x, rec),
         Operand::Item(kind, x) => emit_item(s, work, out, at, kind, x, rec),
         Operand::Items(b, here) => crate::items::emit_items(s, work, out, at, b, here, rec),
         Operand::Access(e, o, x) => emit_access(s, work, out, at, e, o, x, rec),
-        Operand::Int32(n) => Emitted::To(leb::put_i32(out, at, n)),
-        Operand::Int64(n) => Emitted::To(leb::put_i64(out, at, n)),
-        Operand::Raw(p) => Emitted::To(binary::put_part(s, out, at, p)),
-        Operand::Heap(t) => Emitted::To(emit::put(out, at, t)),
+        Operand::Int32(n) => Ok(leb::put_i32(out, at, n)),
+        Operand::Int64(n) => Ok(leb::put_i64(out, at, n)),
+        Operand::Raw(p) => Ok(binary::put_part(s, out, at, p)),
+        Operand::Heap(t) => Ok(emit::put(out, at, t)),
     }
 }
 
@@ -120,7 +114,7 @@ pub fn emit_plain(
     k: u32,
     p: Plain,
     rec: u32,
-) -> Emitted
+) -> Resolved<usize>
     requires { (WORDS ≤ length work.now) × FewLocals l × (k ≤ 128) }
     ensures { Emits Binary.instruction (Names.plain_op (scope_in s.now work.now) (locals_in s.now work.now l) (labels_in s.now work.now k) rec (plain_is s.now p)) out.old at result out.new }
 {

@@ -1,4 +1,5 @@
 -- What reading leaves is what a walk begins with.
+use Rattle.std.specs.Prelude.{Ok}
 use Rattle.std.specs.Prelude.{if◌then◌else◌}
 use mathlib.Core.Path.{◌≡◌, refl, ap, ◌∙◌}
 use Prim.Native.Nat.{ℕ, suc, ◌+◌, ◌-◌, ◌≤◌, ◌<◌}
@@ -16,10 +17,8 @@ use Rattle.laws.specs.Steps.{total}
 use Rattle.area.specs.Flags.{data_named_in, flag_put}
 use Rattle.area.specs.Layout.{BYTES, COUNTS, DATA_NAMED, ENDS, STRICT, WORDS}
 use Rattle.area.proofs.Flags.{flag-put, put-kept}
-use Rattle.stream.specs.Pass.{passed, end_words, area_after, counted, reading, reading_area, Reads}
+use Rattle.stream.specs.Pass.{passed, end_words, area_after, reading, reading_area, Reads}
 use Rattle.counting.specs.Counting.{count_words}
-use Rattle.stream.specs.declared.pass.Count.{Count}
-use Rattle.stream.specs.declared.pass.Count.TheVariants as C
 use Rattle.stream.proofs.Model.{passed-says}
 use Rattle.walk.specs.Walk.{begin, ends_from, Ahead}
 use Rattle.walk.specs.declared.Cursor.{Cursor}
@@ -104,10 +103,10 @@ pub record Left (s : Bytes) (w w' : List ℕ) : Type 0 where
   pub short : length s ≤ BYTES
   pub leaves : w' ≡ area_after (passed s) w
 
-module _ (s : Bytes) (w w' : List ℕ) (r : Count) (v : Reads s w r w') (n : ℕ) (is : r ≡ C.Records n) where
+module _ (s : Bytes) (w w' : List ℕ) (n : ℕ) (v : Reads s w (Ok n) w') where
   pub left : Left s w w'
   unfolding reading reading_area
-  left = go (ltb BYTES (length s)) refl (ltb (length w) WORDS) refl (v.says ∙ ap counted is) v.leaves
+  left = go (ltb BYTES (length s)) refl (ltb (length w) WORDS) refl v.says v.leaves
     where
       last : (a : Answer (List (Rec Identifier))) → read s ≡ a → total 0 a ≡ ok n → WORDS ≤ length w → length s ≤ BYTES → w' ≡ area_after (passed s) w → Left s w w'
       last (ok rs) e d l h k = record { recs = rs; is = e; long = l; short = h; leaves = k }

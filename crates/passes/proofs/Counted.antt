@@ -1,4 +1,5 @@
 -- How many types a stream declares, as reading counts them.
+use Rattle.std.specs.Prelude.{Ok}
 use mathlib.Core.Path.{◌≡◌, refl, ap, sym, ◌∙◌}
 use Prim.Native.Nat.{ℕ, zero, suc, ◌+◌, ◌-◌, ◌≤◌, ◌<◌, min}
 use mathlib.Core.Bool.{Bool, false}
@@ -33,8 +34,6 @@ use Rattle.laws.proofs.Reading.{records_end, records_full, accepted-next}
 use Rattle.reread.proofs.Gives.{RoomyField, roomy}
 use Rattle.stream.specs.Pass.{used_after, named_after, end_of, pass, passed, Reads}
 use Rattle.counting.specs.Counting.{count_words}
-use Rattle.stream.specs.declared.pass.Count.{Count}
-use Rattle.stream.specs.declared.pass.Count.TheVariants as C
 use Rattle.stream.proofs.Model.{pass_end, pass-got}
 use Rattle.walk.specs.Walk.{begin, ends_from, fields_in}
 use Rattle.passes.proofs.Join.{fields_in_lem}
@@ -179,11 +178,11 @@ fifth : (w : List ℕ) (seen : Read.Seen) → 7 ≤ length w → get_or (sets w 
 unfolding count_words
 fifth w seen h = ap (λ l. get_or l DECLARED 0) (sets-eq (count_words seen) w COUNTS h)
 
-module _ (s : Bytes) (w w' : List ℕ) (r : Count) (v : Reads s w r w') (n : ℕ) (is : r ≡ C.Records n) where
+module _ (s : Bytes) (w w' : List ℕ) (n : ℕ) (v : Reads s w (Ok n) w') where
   -- reading leaves how many types are declared
   pub reads-declared : get_or w' DECLARED 0 ≡ length (declared (fields_in s))
   reads-declared =
-      let x = left s w w' r v n is in
+      let x = left s w w' n v in
       let t = types-counted s x.recs x.is in
       let counts = sets (sets w ENDS (ends_from 4096 begin s)) COUNTS (count_words (passed s).seen) in
       let a : w' ≡ flag_put DATA_NAMED counts (passed s).named = x.leaves ∙ area-is s w x.recs x.is in

@@ -1,4 +1,7 @@
 -- The last stage: the fields, resolved.
+use Rattle.std.specs.Prelude.{Ok, Err, IsErrAnd}
+use Rattle.std.specs.Result.{IsErr}
+use Rattle.syntax.specs.Refusals.{Resolved}
 use Prim.Native.Nat.{ℕ}
 use mathlib.Core.Path.{◌≡◌, refl, sym, ◌∙◌, ap}
 use mathlib.Core.List.{List}
@@ -20,21 +23,14 @@ use Rattle.walk.proofs.Steps.{ahead-kept}
 use Rattle.scope.specs.Scope.{scope_in}
 use Rattle.scope.proofs.Frames.{types-kept, scope_kept, recalled-scope}
 use Rattle.deinline.specs.Entry.{untyped, entries_of}
-use Rattle.kept.specs.Tally.{no_tally, ChecksIn}
+use Rattle.syntax.proofs.Ways.{handed}
+use Rattle.kept.specs.Tally.{no_tally, Tallied, Checks, ChecksIn}
 use Rattle.kept.specs.Content.{kept}
 use Rattle.kept.specs.declared.tally.Tally.{Tally}
-use Rattle.kept.specs.declared.tally.Verdict.{Verdict}
-use Rattle.kept.specs.declared.tally.Verdict.TheVariants as V'
-use Rattle.kept.specs.declared.tally.Checked.{Checked}
-use Rattle.resolve.proofs.Checking.{was_fine, fine-kept, was_not, not_long}
 use Rattle.sections.specs.Write.{Writable, all_entries, module_items}
 use Rattle.sections.proofs.Items.{items_are}
 use Rattle.passes.specs.Passes.{Found, Resolvable, from_names, Passes}
 use Rattle.passes.specs.declared.Passed.{Passed}
-
--- a stage that refuses
-pub refuses : (a : Answer Found) (count : ℕ) (s w : List ℕ) (p : Passed) (w' b : List ℕ) (q : Refusal) → a ≡ refused_by q → p.verdict ≡ V'.Refused q → length w' ≡ length w → Passes a count s w p w' b
-refuses a count s w p w' b q e v l = record { says = rw v e; long = l }
 
 -- ## The fields, resolved
 
@@ -43,10 +39,14 @@ unfolding ◌>>=◌
 not_items (ok is) q e = let z : ◌≡◌ {A = ℕ} 0 1 = cc in absurd (omega arith)
 not_items (fails z) q e = cc
 
-module _ (s w : List ℕ) (count : ℕ) (r : Checked) (w₁ b₀ b₁ : List ℕ) (h : ChecksIn (entries_of (scope_in s w) (fields_in s)) no_tally w b₀ r w₁ b₁) (v : Verdict) (g : v ≡ r.verdict) where
-  module _ (e : v ≡ V'.Fine) where
+module _ (s w : List ℕ) (count : ℕ) (w₁ b₀ b₁ : List ℕ) where
+  module _ (t : Tally) (h : ChecksIn (entries_of (scope_in s w) (fields_in s)) no_tally w b₀ (Ok t) w₁ b₁) where
+    tallied : Tallied (entries_of (scope_in s w) (fields_in s)) no_tally b₀ t b₁
+    unfolding Checks
+    tallied = h.says
+
     k : Kept LOCALS w w₁
-    k = fine-kept h (sym g ∙ e)
+    k = h.area
 
     scope : scope_in s w₁ ≡ scope_in s w
     scope = scope_kept s w w₁ k
@@ -57,7 +57,7 @@ module _ (s w : List ℕ) (count : ℕ) (r : Checked) (w₁ b₀ b₁ : List ℕ
     -- what the writer asks for
     writable : Resolvable s w → Writable s w₁
     writable a =
-        let x = was_fine h (sym g ∙ e) in
+        let x = tallied in
         record {
           left = record {
             stream = a.lent.stream;
@@ -69,32 +69,32 @@ module _ (s w : List ℕ) (count : ℕ) (r : Checked) (w₁ b₀ b₁ : List ℕ
           fine = record { entries = x.entries; is = rw scope x.is };
         }
 
-    same_entries : all_entries s w₁ ≡ (was_fine h (sym g ∙ e)).entries
+    same_entries : all_entries s w₁ ≡ tallied.entries
     unfolding all_entries
-    same_entries = let x = was_fine h (sym g ∙ e) in ap (λ z. kept (entries_of z (fields_in s))) scope ∙ ap kept x.is
+    same_entries = let x = tallied in ap (λ z. kept (entries_of z (fields_in s))) scope ∙ ap kept x.is
 
     -- the items
     found : Writable s w₁ → from_names (fields_in s) (scope_in s w) ≡ ok (scope_in s w₁, module_items s w₁)
     unfolding from_names ◌>>=◌
     found y = rw (← scope, items_are s w₁ y.fine) refl
 
-    pub resolve-done : (t : Tally) → t ≡ r.tally → Resolvable s w
-        → Passes (from_names (fields_in s) (scope_in s w)) count s w (record { count = count; tally = t; verdict = V'.Fine }) w₁ b₁
-    resolve-done t i a =
-        let x = was_fine h (sym g ∙ e) in
+    pub resolve-done : Resolvable s w → Passes (from_names (fields_in s) (scope_in s w)) count s w (Ok (record { count = count; tally = t })) w₁ b₁
+    resolve-done a =
+        let x = tallied in
         let z = writable a in
         record {
           says = record {
             found = found z;
             records = refl;
-            ready = record { writable = z; tally = rw same_entries (i ∙ x.tally); held = record { old = b₀; keeps = rw same_entries x.keeps } };
+            ready = record { writable = z; tally = rw same_entries x.tally; held = record { old = b₀; keeps = rw same_entries x.keeps } };
           };
           long = k.long;
         }
 
   -- a field was refused
-  pub resolve_not : (p : Passed) (q : Refusal) → v ≡ V'.Refused q → p.verdict ≡ V'.Refused q → Passes (from_names (fields_in s) (scope_in s w)) count s w p w₁ b₁
-  unfolding from_names items_in entries_of ◌>>=◌
-  resolve_not p q e y =
-      let i = not_items (resolve_all (scope_in s w) (fields_in s)) q (was_not h q (sym g ∙ e)) in
-      refuses _ count s w p w₁ b₁ q (rw i refl) y (not_long h q (sym g ∙ e))
+  pub resolve_not : (q : Refusal) → ChecksIn (entries_of (scope_in s w) (fields_in s)) no_tally w b₀ (Err q) w₁ b₁ → (r : Resolved Passed) → IsErr r → IsErrAnd r (λ e. e ≡ q)
+      → Passes (from_names (fields_in s) (scope_in s w)) count s w r w₁ b₁
+  unfolding from_names items_in entries_of ◌>>=◌ Checks
+  resolve_not q h r i p =
+      let x = not_items (resolve_all (scope_in s w) (fields_in s)) q h.says.is in
+      rw (handed r q i p) (record { says = rw x refl; long = h.area })

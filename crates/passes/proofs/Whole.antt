@@ -1,4 +1,7 @@
 -- The stages before the last, and the join with the records.
+use Rattle.std.specs.Prelude.{Ok, Err, IsErrAnd}
+use Rattle.std.specs.Result.{IsErr}
+use Rattle.syntax.specs.Refusals.{Resolved}
 use Rattle.std.specs.Prelude.{if◌then◌else◌}
 use Prim.Native.Nat.{ℕ, ◌+◌}
 use mathlib.Core.Path.{◌≡◌, refl, sym, ◌∙◌, ap}
@@ -9,6 +12,7 @@ use lib.ListN.{length, get_or}
 use native.Mathlib.Omega.{arith}
 use Rattle.syntax.specs.Refusals.{refusal_of}
 use Rattle.syntax.specs.declared.Refusal.{Refusal}
+use Rattle.syntax.proofs.Ways.{handed}
 use Rattle.area.specs.Layout.{BYTES, WORDS, STRICT, DECLARED}
 use Rattle.definition.specs.Basic as Basic
 use Rattle.definition.specs.Basic.{refusal, Answer, ok, fails, refused, ◌>>=◌, same_bytes}
@@ -23,9 +27,7 @@ use Rattle.definition.specs.Assemble.{refusing, say, say_read, assemble_by}
 use Rattle.laws.proofs.Passes.{scope_then}
 use Rattle.laws.proofs.Interning.{came}
 use Rattle.laws.specs.Steps.{total}
-use Rattle.stream.specs.Pass.{reading, counted, Reads}
-use Rattle.stream.specs.declared.pass.Count.{Count}
-use Rattle.stream.specs.declared.pass.Count.TheVariants as C
+use Rattle.stream.specs.Pass.{reading, Reads}
 use Rattle.type_table.specs.Table.{types_in}
 use Rattle.walk.specs.Walk.{begin, fields_in, Ahead}
 use Rattle.walk.proofs.Steps.{ahead-kept, ahead-below}
@@ -34,11 +36,7 @@ use Rattle.passes.proofs.Begin.{reads-accepted, reads-ahead, reads-long, reads_s
 use Rattle.passes.proofs.Counted.{reads-declared}
 use Rattle.interning.specs.Declaring.{DeclaredAll}
 use Rattle.survey.specs.Survey.{types_after_order, Stands, Surveys}
-use Rattle.survey.specs.declared.Surveyed.{Surveyed}
-use Rattle.survey.specs.declared.Surveyed.TheVariants as S
 use Rattle.scope.specs.Scope.{scope_in}
-use Rattle.kept.specs.declared.tally.Verdict.{Verdict}
-use Rattle.kept.specs.declared.tally.Verdict.TheVariants as V'
 use Rattle.sections.specs.Write.{module_items}
 use Rattle.passes.specs.Passes.{Found, from_names, from_types, from_fields, Walkable, Begun, Unread, Begins, Resolvable, Named, Unnamed, Interns, PassesBy, Passes}
 use Rattle.passes.specs.Passes.{makes, writes, said_by, ReadyBy, Prepares}
@@ -57,19 +55,18 @@ falls_then (ok ts) (ok xs) k z e = let y : ◌≡◌ {A = ℕ} 0 1 = cc in absur
 falls_then (ok ts) (fails q) k z e = let x : q ≡ z = cc in rw x refl
 falls_then (fails q) b k z e = let x : q ≡ z = cc in rw x refl
 
-module _ (s w : List ℕ) (q : Surveyed) (w₁ : List ℕ) (h : Surveys s w q w₁) where
-  module _ (e : q ≡ S.Done) where
-    stands : Stands s w w₁
-    unfolding Surveys
-    stands = rw e at h
+module _ (s w : List ℕ) (w₁ : List ℕ) (u : Unit {0}) (h : Surveys s w (Ok u) w₁) where
+  stands : Stands s w w₁
+  unfolding Surveys
+  stands = h
 
-    scope-is : ◌≡◌ {A = Scope Identifier} (record { strict = strict_in w; eq = same_bytes; names = λ k. space k stands.items; definers = λ k. definers k stands.items; all_types = types_in s w₁ }) (scope_in s w₁)
-    unfolding scope_in
-    scope-is = let k = sym (flag-kept STRICT stands.kept (omega arith)) in λ i. record { strict = k i; eq = same_bytes; names = λ k. stands.tables.each k i; definers = λ k. stands.tables.made k i; all_types = types_in s w₁ }
+  scope-is : ◌≡◌ {A = Scope Identifier} (record { strict = strict_in w; eq = same_bytes; names = λ k. space k stands.items; definers = λ k. definers k stands.items; all_types = types_in s w₁ }) (scope_in s w₁)
+  unfolding scope_in
+  scope-is = let k = sym (flag-kept STRICT stands.kept (omega arith)) in λ i. record { strict = k i; eq = same_bytes; names = λ k. stands.tables.each k i; definers = λ k. stands.tables.made k i; all_types = types_in s w₁ }
 
-    survey_finds : from_fields (strict_in w) (fields_in s) ≡ from_names (fields_in s) (scope_in s w₁)
-    unfolding from_fields from_types ◌>>=◌
-    survey_finds = let t = stands.all in let a = stands.says in rw (t, a, scope-is) refl
+  survey_finds : from_fields (strict_in w) (fields_in s) ≡ from_names (fields_in s) (scope_in s w₁)
+  unfolding from_fields from_types ◌>>=◌
+  survey_finds = let t = stands.all in let a = stands.says in rw (t, a, scope-is) refl
 
 module _ (s w : List ℕ) (d : ℕ) (w₁ : List ℕ) (h : DeclaredAll s w d w₁) (a : Walkable s w) where
   pub declared-lent : Lent s w₁
@@ -81,39 +78,33 @@ module _ (s w : List ℕ) (d : ℕ) (w₁ : List ℕ) (h : DeclaredAll s w d w�
   as_strict : strict_in w₁ ≡ strict_in w
   as_strict = flag-kept STRICT h.kept (omega arith)
 
-  module _ (q : Surveyed) (w₂ : List ℕ) (g : Surveys s w₁ q w₂) where
-    -- the order of imports was fine, so the types are those of the definition
-    intern-done : q ≡ S.Done → Interns s w S.Done w₂
-    unfolding Interns types_after_order
-    intern-done e =
-        let x = stands s w₁ q w₂ g e in
-        record {
-          finds = ap (λ u. from_fields u (fields_in s)) (sym as_strict) ∙ survey_finds s w₁ q w₂ g e;
-          ready = record {
-            lent = record { stream = a.lent.stream; area = rw x.kept.long declared-lent.area };
-            ahead = ahead-kept s w₁ w₂ begin x.kept declared-ahead;
-            recalled = x.recalled;
-            typed = record { all = (came (import_order (fields_in s)) (λ _. all_types (fields_in s)) (types_in s w₂) x.all).2; size = x.size };
-          };
-          long = x.kept.long ∙ h.kept.long;
-        }
+  -- the order of imports was fine, so the types are those of the definition
+  intern-done : (w₂ : List ℕ) (u : Unit {0}) → Surveys s w₁ (Ok u) w₂ → Interns s w (Ok u) w₂
+  unfolding Interns types_after_order
+  intern-done w₂ u g =
+      let x = stands s w₁ w₂ u g in
+      record {
+        finds = ap (λ u. from_fields u (fields_in s)) (sym as_strict) ∙ survey_finds s w₁ w₂ u g;
+        ready = record {
+          lent = record { stream = a.lent.stream; area = rw x.kept.long declared-lent.area };
+          ahead = ahead-kept s w₁ w₂ begin x.kept declared-ahead;
+          recalled = x.recalled;
+          typed = record { all = (came (import_order (fields_in s)) (λ _. all_types (fields_in s)) (types_in s w₂) x.all).2; size = x.size };
+        };
+        long = x.kept.long ∙ h.kept.long;
+      }
 
-    intern_not : (r : Refusal) → q ≡ S.Refused r → Interns s w (S.Refused r) w₂
-    unfolding from_fields from_types Surveys Interns
-    intern_not r e =
-        let y = rw e at g in
-        record {
-          finds = ap (λ u. from_fields u (fields_in s)) (sym as_strict) ∙ falls_then (types_after_order (fields_in s)) (register same_bytes [] (fields_in s)) _ (refusal_of r) y.says;
-          long = y.long ∙ h.kept.long;
-        }
+  intern_not : (w₂ : List ℕ) (r : Refusal) → Surveys s w₁ (Err r) w₂ → Interns s w (Err r) w₂
+  unfolding from_fields from_types Surveys Interns
+  intern_not w₂ r y = record {
+    finds = ap (λ u. from_fields u (fields_in s)) (sym as_strict) ∙ falls_then (types_after_order (fields_in s)) (register same_bytes [] (fields_in s)) _ (refusal_of r) y.says;
+    long = y.long ∙ h.kept.long;
+  }
 
-    -- whatever the walk says
-    pub interns_on : Interns s w q w₂
-    interns_on = go q refl
-      where
-        go : (t : Surveyed) → q ≡ t → Interns s w t w₂
-        go S.Done e = intern-done e
-        go (S.Refused r) e = intern_not r e
+  -- whatever the walk says
+  pub interns_on : (q : Resolved (Unit {0})) (w₂ : List ℕ) → Surveys s w₁ q w₂ → Interns s w q w₂
+  interns_on (Ok u) w₂ g = intern-done w₂ u g
+  interns_on (Err r) w₂ g = intern_not w₂ r g
 
 -- ## The records
 
@@ -191,75 +182,66 @@ count_of s work n rs d e = go (ltb BYTES (length s)) (ltb work WORDS) e
     go false false e = let f : ok (0 + length rs) ≡ ok n = (let g = e in rw d at g) in let x : 0 + length rs ≡ n = cc in omega arith
 
 -- the records were read, and whether the call is strict is written beyond what reading leaves
-pub begins_on : (strict : Bool) (s w : List ℕ) (q : Count) (w₁ w₂ : List ℕ) (n : ℕ) → Reads s w q w₁ → q ≡ C.Records n → w₂ ≡ flag_put STRICT w₁ strict → length w₁ ≡ length w → Begins strict s w (C.Records n) w₂
+pub begins_on : (strict : Bool) (s w w₁ w₂ : List ℕ) (n : ℕ) → Reads s w (Ok n) w₁ → w₂ ≡ flag_put STRICT w₁ strict → length w₁ ≡ length w → Begins strict s w (Ok n) w₂
 unfolding Begins
-begins_on strict s w q w₁ w₂ n h e p l =
-    let a = reads-accepted s w w₁ q h n e in
+begins_on strict s w w₁ w₂ n h p l =
+    let a = reads-accepted s w w₁ n h in
     let k = put-kept w₁ STRICT strict in
     let long : length w₂ ≡ length w₁ = ap length p ∙ k.long in
-    let area = reads-long s w w₁ q h n e in
+    let area = reads-long s w w₁ n h in
     record {
       recs = a.recs;
       is = a.is;
-      says = h.says ∙ ap counted e;
+      says = h.says;
       strictness = ap strict_in p ∙ flag-put w₁ STRICT strict (omega (arith, area));
       ready = record {
-        lent = record { stream = reads_short s w w₁ q h n e; area = rw long area };
-        ahead = rw p (ahead-below s w₁ (flag_put STRICT w₁ strict) begin k (reads-ahead s w w₁ q h n e begin refl));
-        declared_word = ap (λ x. get_or x DECLARED 0) p ∙ kept_word k DECLARED (omega arith) ∙ reads-declared s w w₁ q h n e;
+        lent = record { stream = reads_short s w w₁ n h; area = rw long area };
+        ahead = rw p (ahead-below s w₁ (flag_put STRICT w₁ strict) begin k (reads-ahead s w w₁ n h begin refl));
+        declared_word = ap (λ x. get_or x DECLARED 0) p ∙ kept_word k DECLARED (omega arith) ∙ reads-declared s w w₁ n h;
       };
       long = long ∙ l;
     }
 
-pub begins_not : (strict : Bool) (s w : List ℕ) (q : Count) (w₁ : List ℕ) (r : Refusal) → Reads s w q w₁ → q ≡ C.Refused r → length w₁ ≡ length w → Begins strict s w (C.Refused r) w₁
+pub begins_not : (strict : Bool) (s w w₁ : List ℕ) (r : Refusal) → Reads s w (Err r) w₁ → length w₁ ≡ length w → (q : Resolved ℕ) → IsErr q → IsErrAnd q (λ e. e ≡ r) → Begins strict s w q w₁
 unfolding Begins
-begins_not strict s w q w₁ r h e l = record { says = h.says ∙ ap counted e; long = l }
+begins_not strict s w w₁ r h l q i p = rw (handed q r i p) (record { says = h.says; long = l })
 
-module _ (strict : Bool) (s w : List ℕ) (q : Count) (w₁ : List ℕ) (h : Begins strict s w q w₁) where
-  pub begun : (n : ℕ) → q ≡ C.Records n → Begun strict s w n w₁
-  unfolding Begins
-  begun n e = rw e at h
+begun : (strict : Bool) (s w w₁ : List ℕ) (n : ℕ) → Begins strict s w (Ok n) w₁ → Begun strict s w n w₁
+unfolding Begins
+begun strict s w w₁ n h = h
 
-  unread : (r : Refusal) → q ≡ C.Refused r → Unread s w r w₁
-  unfolding Begins
-  unread r e = rw e at h
+-- reading refuses
+pub prepare_unread : (strict : Bool) (s w w₁ b : List ℕ) (r : Refusal) → Begins strict s w (Err r) w₁ → (q : Resolved Passed) → IsErr q → IsErrAnd q (λ e. e ≡ r) → Prepares strict s w q w₁ b
+unfolding Begins
+prepare_unread strict s w w₁ b r h q i p =
+    rw (handed q r i p) (record { says = λ names room. read_not (makes strict names) s (length w) room (refusal_of r) h.says; ready = tt; long = h.long })
 
-  -- reading refuses
-  pub prepare_unread : (r : Refusal) → q ≡ C.Refused r → (p : Passed) → p.verdict ≡ V'.Refused r → (b : List ℕ) → Prepares strict s w p w₁ b
-  prepare_unread r e p v b =
-      let g = unread r e in
-      record { says = λ names room. rw v (read_not (makes strict names) s (length w) room (refusal_of r) g.says); ready = rw v tt; long = g.long }
+-- a walk may begin
+pub begun-ready : (strict : Bool) (s w w₁ : List ℕ) (n : ℕ) → Begins strict s w (Ok n) w₁ → Walkable s w₁
+begun-ready strict s w w₁ n h = (begun strict s w w₁ n h).ready
 
-  -- a walk may begin
-  pub begun-ready : (n : ℕ) → q ≡ C.Records n → Walkable s w₁
-  begun-ready n e = (begun n e).ready
-
-module _ (s w : List ℕ) (q : Surveyed) (w₁ : List ℕ) (h : Interns s w q w₁) where
-  named : q ≡ S.Done → Named s w w₁
+module _ (s w w₁ : List ℕ) (u : Unit {0}) (h : Interns s w (Ok u) w₁) where
+  named : Named s w w₁
   unfolding Interns
-  named e = rw e at h
-
-  unnamed : (r : Refusal) → q ≡ S.Refused r → Unnamed s w r w₁
-  unfolding Interns
-  unnamed r e = rw e at h
+  named = h
 
   -- the fields may be resolved
-  pub named-ready : q ≡ S.Done → Resolvable s w₁
-  named-ready e = (named e).ready
+  pub named-ready : Resolvable s w₁
+  named-ready = named.ready
 
   -- and what they come to is found
-  pub find-done : (count : ℕ) (p : Passed) (w₂ b : List ℕ) → Passes (from_names (fields_in s) (scope_in s w₁)) count s w₁ p w₂ b → q ≡ S.Done
-      → Passes (from_fields (strict_in w) (fields_in s)) count s w p w₂ b
-  find-done count p w₂ b y e = let g = named e in let f = g.finds in record { says = rw f y.says; long = y.long ∙ g.long }
+  pub find-done : (count : ℕ) (p : Resolved Passed) (w₂ b : List ℕ) → Passes (from_names (fields_in s) (scope_in s w₁)) count s w₁ p w₂ b → Passes (from_fields (strict_in w) (fields_in s)) count s w p w₂ b
+  find-done count p w₂ b y = let f = named.finds in record { says = rw f y.says; long = y.long ∙ named.long }
 
-  -- the types or the names are refused
-  pub find_not : (count : ℕ) (p : Passed) (b : List ℕ) (r : Refusal) → q ≡ S.Refused r → p.verdict ≡ V'.Refused r → Passes (from_fields (strict_in w) (fields_in s)) count s w p w₁ b
-  find_not count p b r e v = let g = unnamed r e in record { says = rw v g.finds; long = g.long }
+-- the types or the names are refused
+pub find_not : (s w w₁ b : List ℕ) (count : ℕ) (r : Refusal) → Interns s w (Err r) w₁ → (p : Resolved Passed) → IsErr p → IsErrAnd p (λ e. e ≡ r) → Passes (from_fields (strict_in w) (fields_in s)) count s w p w₁ b
+unfolding Interns
+find_not s w w₁ b count r h p i k = rw (handed p r i k) (record { says = h.finds; long = h.long })
 
 -- ## All passes
 
 -- what the passes over the fields find is what the call's writer is given
-module _ (strict : Bool) (s w : List ℕ) (n : ℕ) (w₁ : List ℕ) (h : Begun strict s w n w₁) (p : Passed) (w₂ b : List ℕ) (y : PassesBy p.verdict (from_fields strict (fields_in s)) n s p w₂ b) where
+module _ (strict : Bool) (s w : List ℕ) (n : ℕ) (w₁ : List ℕ) (h : Begun strict s w n w₁) (w₂ b : List ℕ) where
   whole : (names : Bool) (room : ℕ)
       → assemble_by (makes strict names) s (length w) room ≡ say n (from_fields strict (fields_in s) >>= λ x. fitting room n (writes names (fields_in s) x))
   whole names room =
@@ -268,24 +250,24 @@ module _ (strict : Bool) (s w : List ℕ) (n : ℕ) (w₁ : List ℕ) (h : Begun
       made strict names room h.recs ∙ rw (fields_in_lem s h.recs h.is, number) refl in
       read_ok (makes strict names) s (length w) room n h.recs h.is h.says ∙ ap (say n) m
 
-  ends : (names : Bool) (room : ℕ) (v : Verdict) → PassesBy v (from_fields strict (fields_in s)) n s p w₂ b
+  ends : (names : Bool) (room : ℕ) (p : Resolved Passed) → PassesBy p (from_fields strict (fields_in s)) n s w₂ b
       → say n (from_fields strict (fields_in s) >>= λ x. fitting room n (writes names (fields_in s) x))
-      ≡ said_by v p.count room (writes names (fields_in s) (scope_in s w₂, module_items s w₂))
+      ≡ said_by p room (writes names (fields_in s) (scope_in s w₂, module_items s w₂))
   unfolding ◌>>=◌ say
-  ends names room V'.Fine z = let f = z.found in let c = z.records in rw (f, c) refl
-  ends names room (V'.Refused r) z = rw z refl
+  ends names room (Ok p) z = let f = z.found in let c = z.records in rw (f, c) refl
+  ends names room (Err r) z = rw z refl
 
-  prepared : (v : Verdict) → PassesBy v (from_fields strict (fields_in s)) n s p w₂ b → ReadyBy v s p w₂ b
-  prepared V'.Fine z = z.ready
-  prepared (V'.Refused r) z = tt
+  prepared : (p : Resolved Passed) → PassesBy p (from_fields strict (fields_in s)) n s w₂ b → ReadyBy p s w₂ b
+  prepared (Ok p) z = z.ready
+  prepared (Err r) z = tt
 
-  prepares : length w₂ ≡ length w → Prepares strict s w p w₂ b
-  prepares l = record { says = λ names room. whole names room ∙ ends names room p.verdict y; ready = prepared p.verdict y; long = l }
+  prepares : (p : Resolved Passed) → PassesBy p (from_fields strict (fields_in s)) n s w₂ b → length w₂ ≡ length w → Prepares strict s w p w₂ b
+  prepares p y l = record { says = λ names room. whole names room ∙ ends names room p y; ready = prepared p y; long = l }
 
 -- the records are read, and then their fields
-pub prepare_done : (strict : Bool) (s w : List ℕ) (p : Passed) (w₂ b : List ℕ) (n : ℕ) (w₁ : List ℕ) → Passes (from_fields (strict_in w₁) (fields_in s)) n s w₁ p w₂ b
-    → (q : Count) → Begins strict s w q w₁ → q ≡ C.Records n → Prepares strict s w p w₂ b
-prepare_done strict s w p w₂ b n w₁ a q h i =
-    let g = begun strict s w q w₁ h n i in
+pub prepare_done : (strict : Bool) (s w : List ℕ) (p : Resolved Passed) (w₂ b : List ℕ) (n : ℕ) (w₁ : List ℕ) → Passes (from_fields (strict_in w₁) (fields_in s)) n s w₁ p w₂ b
+    → Begins strict s w (Ok n) w₁ → Prepares strict s w p w₂ b
+prepare_done strict s w p w₂ b n w₁ a h =
+    let g = begun strict s w w₁ n h in
     let f : from_fields strict (fields_in s) ≡ from_fields (strict_in w₁) (fields_in s) = ap (λ u. from_fields u (fields_in s)) (sym g.strictness) in
-    prepares strict s w n w₁ g p w₂ b (rw f a.says) (a.long ∙ g.long)
+    prepares strict s w n w₁ g w₂ b p (rw f a.says) (a.long ∙ g.long)

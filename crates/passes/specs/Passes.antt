@@ -1,4 +1,6 @@
 -- What the passes find, stage by stage, and what is then left of a call: its writer.
+use Rattle.std.specs.Prelude.{Ok, Err}
+use Rattle.syntax.specs.Refusals.{Resolved}
 use Rattle.std.specs.Prelude.{ℕ, ◌≡◌, Bool, true, false, List, [], ◌++◌, length, get_or}
 use Rattle.definition.specs.Basic.{Answer, ok, ◌>>=◌, same_bytes}
 use Rattle.definition.specs.Syntax.{Bytes, Identifier, Rec, FuncType, Item}
@@ -16,17 +18,11 @@ use Rattle.area.specs.Layout.{DECLARED}
 use Rattle.area.specs.Lent.{Lent}
 use Rattle.area.specs.Flags.{strict_in}
 use Rattle.stream.specs.Pass.{reading}
-use Rattle.stream.specs.declared.pass.Count.{Count}
-use Rattle.stream.specs.declared.pass.Count.TheVariants as C
 use Rattle.type_table.specs.Table.{types_in, Recalled}
 use Rattle.walk.specs.Walk.{Ahead, begin, fields_in}
 use Rattle.survey.specs.Survey.{types_after_order}
-use Rattle.survey.specs.declared.Surveyed.{Surveyed}
-use Rattle.survey.specs.declared.Surveyed.TheVariants as S
 use Rattle.scope.specs.Scope.{scope_in}
 use Rattle.kept.specs.Tally.{tallies, no_tally}
-use Rattle.kept.specs.declared.tally.Verdict.{Verdict}
-use Rattle.kept.specs.declared.tally.Verdict.TheVariants as V'
 use Rattle.sections.specs.Write.{Typed, Writable, Held, all_entries, module_items}
 use Rattle.passes.specs.declared.Passed.{Passed}
 
@@ -75,9 +71,9 @@ pub record Unread (s w : List ℕ) (q : Refusal) (w' : List ℕ) : Type 0 where
   pub says : reading s (length w) ≡ refused_by q
   pub long : length w' ≡ length w
 
-unfoldable pub Begins : Bool → List ℕ → List ℕ → Count → List ℕ → Type 0
-Begins strict s w (C.Records n) w' = Begun strict s w n w'
-Begins strict s w (C.Refused q) w' = Unread s w q w'
+unfoldable pub Begins : Bool → List ℕ → List ℕ → Resolved ℕ → List ℕ → Type 0
+Begins strict s w (Ok n) w' = Begun strict s w n w'
+Begins strict s w (Err q) w' = Unread s w q w'
 
 -- all types and names are in the area, and each use has its number
 pub record Resolvable (s w : List ℕ) : Type 0 where
@@ -95,9 +91,9 @@ pub record Unnamed (s w : List ℕ) (q : Refusal) (w' : List ℕ) : Type 0 where
   pub finds : from_fields (strict_in w) (fields_in s) ≡ refused_by q
   pub long : length w' ≡ length w
 
-unfoldable pub Interns : List ℕ → List ℕ → Surveyed → List ℕ → Type 0
-Interns s w S.Done w' = Named s w w'
-Interns s w (S.Refused q) w' = Unnamed s w q w'
+unfoldable pub Interns : List ℕ → List ℕ → Resolved (Unit {0}) → List ℕ → Type 0
+Interns s w (Ok u) w' = Named s w w'
+Interns s w (Err q) w' = Unnamed s w q w'
 
 -- what a writer asks for: the items as the work area has them, their tally, and the bytes of their entries that were kept
 pub record Prepared (s : List ℕ) (p : Passed) (w kept : List ℕ) : Type 0 where
@@ -111,29 +107,29 @@ pub record Holds (a : Answer Found) (count : ℕ) (s : List ℕ) (p : Passed) (w
   pub records : p.count ≡ count
   pub ready : Prepared s p w kept
 
-abbrev pub PassesBy : Verdict → Answer Found → ℕ → List ℕ → Passed → List ℕ → List ℕ → Type 0
-PassesBy V'.Fine a count s p w kept = Holds a count s p w kept
-PassesBy (V'.Refused q) a count s p w kept = a ≡ refused_by q
+abbrev pub PassesBy : Resolved Passed → Answer Found → ℕ → List ℕ → List ℕ → List ℕ → Type 0
+PassesBy (Ok p) a count s w kept = Holds a count s p w kept
+PassesBy (Err q) a count s w kept = a ≡ refused_by q
 
 -- a stage finds what is left to find, and keeps the work area's length
-pub record Passes (a : Answer Found) (count : ℕ) (s w : List ℕ) (p : Passed) (w' kept : List ℕ) : Type 0 where
-  pub says : PassesBy p.verdict a count s p w' kept
+pub record Passes (a : Answer Found) (count : ℕ) (s w : List ℕ) (r : Resolved Passed) (w' kept : List ℕ) : Type 0 where
+  pub says : PassesBy r a count s w' kept
   pub long : length w' ≡ length w
 
 -- ## What is left of a call
 
 -- what is said after the passes
-abbrev pub said_by : Verdict → ℕ → ℕ → Bytes → Assemble.Said
-said_by V'.Fine count room bs = say count (fitting room count bs)
-said_by (V'.Refused q) count room bs = refusing (refusal_of q)
+abbrev pub said_by : Resolved Passed → ℕ → Bytes → Assemble.Said
+said_by (Ok p) room bs = say p.count (fitting room p.count bs)
+said_by (Err q) room bs = refusing (refusal_of q)
 
-abbrev pub ReadyBy : Verdict → List ℕ → Passed → List ℕ → List ℕ → Type 0
-ReadyBy V'.Fine s p w kept = Prepared s p w kept
-ReadyBy (V'.Refused q) s p w kept = Unit {0}
+abbrev pub ReadyBy : Resolved Passed → List ℕ → List ℕ → List ℕ → Type 0
+ReadyBy (Ok p) s w kept = Prepared s p w kept
+ReadyBy (Err q) s w kept = Unit {0}
 
 -- all passes: what is left of any call is its writer
-pub record Prepares (strict : Bool) (s w : List ℕ) (p : Passed) (w' kept : List ℕ) : Type 0 where
+pub record Prepares (strict : Bool) (s w : List ℕ) (r : Resolved Passed) (w' kept : List ℕ) : Type 0 where
   pub says : (names : Bool) (room : ℕ) → assemble_by (makes strict names) s (length w) room
-      ≡ said_by p.verdict p.count room (writes names (fields_in s) (scope_in s w', module_items s w'))
-  pub ready : ReadyBy p.verdict s p w' kept
+      ≡ said_by r room (writes names (fields_in s) (scope_in s w', module_items s w'))
+  pub ready : ReadyBy r s w' kept
   pub long : length w' ≡ length w

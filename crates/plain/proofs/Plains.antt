@@ -1,4 +1,8 @@
 -- Instructions that open and close no block and have no type use: what is read is resolved and written.
+use Rattle.std.specs.Prelude.{Ok, Err, Option, None}
+use Rattle.syntax.specs.Reads.{Read}
+use Rattle.syntax.specs.Refusals.{number, Resolved}
+use Rattle.syntax.specs.declared.Fault.{Fault}
 use Prim.Native.Nat.{ℕ, ◌-◌}
 use mathlib.Core.Path.{◌≡◌, refl}
 use mathlib.Core.List.{List, [], ◌∷◌}
@@ -15,35 +19,27 @@ use Rattle.syntax.specs.declared.Place.{Place}
 use Rattle.syntax.specs.declared.Space.{Space}
 use Rattle.syntax.specs.declared.Space.TheVariants as S
 use Rattle.syntax.specs.declared.Index.{Index}
-use Rattle.syntax.specs.declared.IndexAt.{IndexAt}
-use Rattle.syntax.specs.declared.IndexAt.TheVariants as X
 use Rattle.token.proofs.Gets.{gets_first}
 use Rattle.syntax.specs.Plain.{plain_is, plain_at, operands_is}
 use Rattle.syntax.specs.declared.Plain.{Plain}
-use Rattle.syntax.specs.declared.PlainAt.{PlainAt}
-use Rattle.syntax.specs.declared.PlainAt.TheVariants as P
 use Rattle.syntax.specs.declared.Operands.{Operands}
 use Rattle.syntax.specs.declared.Operands.TheVariants as W
 use Rattle.scope.specs.Scope.{scope_in, locals_in, labels_in}
 use Rattle.scope.specs.declared.Locals.{Locals}
 use Rattle.binary.specs.Emits.{Emits}
-use Rattle.binary.specs.declared.Emitted.{Emitted}
-use Rattle.binary.specs.declared.Emitted.TheVariants as E
 use Rattle.binary.proofs.Emitting.{wrote}
 use Rattle.plain.specs.Turns.{InBody, past, turn_of, plain_record, operand_to, indexed, IsIndex, StandsAfter, Turned}
 use Rattle.plain.specs.declared.record.After.{After}
 use Rattle.plain.specs.declared.record.After.TheVariants as A
 use Rattle.plain.specs.declared.record.Target.{Target}
 use Rattle.plain.specs.declared.record.Target.TheVariants as G
-use Rattle.plain.specs.declared.turn.Turn.{Turn}
-use Rattle.plain.specs.declared.turn.Turn.TheVariants as T
 use Rattle.plain.proofs.Turns.{plain-fault, plain-got}
 use Rattle.operands.proofs.Operands.{opcode_then}
 
 -- ## An index
 
 -- `emit_index`: a label says nothing of locals, a local nothing of blocks, an item nothing of either
-module _ (s w : List ℕ) (l : Locals) (k rec : ℕ) (to : Target) (x : Index) (old : List ℕ) (at : ℕ) (r : Emitted) (new : List ℕ) where
+module _ (s w : List ℕ) (l : Locals) (k rec : ℕ) (to : Target) (x : Index) (old : List ℕ) (at : ℕ) (r : Resolved ℕ) (new : List ℕ) where
   abbrev Refers : Type 0
   Refers = Emits imm (immediate (scope_in s w) (locals_in s w l) (labels_in s w k) rec (operand_to to (index_of s x))) old at r new
 
@@ -62,11 +58,11 @@ module _ (s w : List ℕ) (l : Locals) (k rec : ℕ) (to : Target) (x : Index) (
 pub ruleset targets = (to_label, to_local, to_item)
 
 -- `index_record`
-module _ (s w : List ℕ) (l : Locals) (p : Place) (op : ℕ) (to : Target) (here : ℕ) (q : IndexAt) (told : Token.present s here ≡ index_at s q) (old : List ℕ) (at : ℕ) where
-  pub index-unread : (n : ℕ) → q ≡ X.Fault n → Turned s w (locals_in s w l) (p.depth - 1) p.rec (plain_record (indexed op (operand_to to) s here)) old at T.Done w old
-  index-unread n d = plain-fault s w (locals_in s w l) p (indexed op (operand_to to) s here) old at n (unfold indexed in rw (told, d))
+module _ (s w : List ℕ) (l : Locals) (p : Place) (op : ℕ) (to : Target) (here : ℕ) (q : Read Index) (told : Token.present s here ≡ index_at s q) (old : List ℕ) (at : ℕ) where
+  pub index-unread : (n : Fault) → q ≡ Err n → Turned s w (locals_in s w l) (p.depth - 1) p.rec (plain_record (indexed op (operand_to to) s here)) old at (Ok None) w old
+  index-unread n d = plain-fault s w (locals_in s w l) p (indexed op (operand_to to) s here) old at (number n) (unfold indexed in rw (told, d))
 
-  pub index_read : (x : Index) (next a : ℕ) (mid : List ℕ) (y : Emitted) (new : List ℕ) (r : Turn) → q ≡ X.Got x next → InBody p → Put old at (op ∷ []) a mid
+  pub index_read : (x : Index) (next a : ℕ) (mid : List ℕ) (y : Resolved ℕ) (new : List ℕ) (r : Resolved (Option (ℕ × Place))) → q ≡ Ok (x, next) → InBody p → Put old at (op ∷ []) a mid
       → Emits imm (immediate (scope_in s w) (locals_in s w l) (labels_in s w (p.depth - 1)) p.rec (operand_to to (index_of s x))) mid a y new → r ≡ turn_of y (past p next p.depth)
       → Turned s w (locals_in s w l) (p.depth - 1) p.rec (plain_record (indexed op (operand_to to) s here)) old at r w new
   index_read x next a mid y new r d few u e t =
@@ -75,18 +71,18 @@ module _ (s w : List ℕ) (l : Locals) (p : Place) (op : ℕ) (to : Target) (her
 
 -- ## Any operand
 
-module _ (s w : List ℕ) (l : Locals) (p : Place) (op here : ℕ) (v : Operands) (q : PlainAt) (told : Instructions.plain_of op (operands_is v) s here ≡ plain_at s q) (old : List ℕ) (at : ℕ) where
-  pub other-unread : (n : ℕ) → q ≡ P.Fault n → Turned s w (locals_in s w l) (p.depth - 1) p.rec (plain_record (Instructions.plain_of op (operands_is v) s here)) old at T.Done w old
-  other-unread n d = plain-fault s w (locals_in s w l) p (Instructions.plain_of op (operands_is v) s here) old at n (rw (told, d))
+module _ (s w : List ℕ) (l : Locals) (p : Place) (op here : ℕ) (v : Operands) (q : Read Plain) (told : Instructions.plain_of op (operands_is v) s here ≡ plain_at s q) (old : List ℕ) (at : ℕ) where
+  pub other-unread : (n : Fault) → q ≡ Err n → Turned s w (locals_in s w l) (p.depth - 1) p.rec (plain_record (Instructions.plain_of op (operands_is v) s here)) old at (Ok None) w old
+  other-unread n d = plain-fault s w (locals_in s w l) p (Instructions.plain_of op (operands_is v) s here) old at (number n) (rw (told, d))
 
-  pub other-read : (x : Plain) (next : ℕ) (y : Emitted) (r : Turn) (new : List ℕ) → q ≡ P.Got x next → InBody p
+  pub other-read : (x : Plain) (next : ℕ) (y : Resolved ℕ) (r : Resolved (Option (ℕ × Place))) (new : List ℕ) → q ≡ Ok (x, next) → InBody p
       → Emits instruction (plain_op (scope_in s w) (locals_in s w l) (labels_in s w (p.depth - 1)) p.rec (plain_is s x)) old at y new → r ≡ turn_of y (past p next p.depth)
       → Turned s w (locals_in s w l) (p.depth - 1) p.rec (plain_record (Instructions.plain_of op (operands_is v) s here)) old at r w new
   other-read x next y r new d f e t = plain-got s w (locals_in s w l) p (Instructions.plain_of op (operands_is v) s here) old at (plain_is s x) next y r new (rw (told, d)) f e t
 
 -- ## `plain_record`
 
-module _ (s w : List ℕ) (l : Locals) (k rec op here : ℕ) (v : Operands) (old : List ℕ) (at : ℕ) (r : Turn) (new : List ℕ) where
+module _ (s w : List ℕ) (l : Locals) (k rec op here : ℕ) (v : Operands) (old : List ℕ) (at : ℕ) (r : Resolved (Option (ℕ × Place))) (new : List ℕ) where
   abbrev Plainly : Type 0
   Plainly = Turned s w (locals_in s w l) k rec (plain_record (Instructions.plain_of op (operands_is v) s here)) old at r w new
 
@@ -98,13 +94,13 @@ module _ (s w : List ℕ) (l : Locals) (k rec op here : ℕ) (v : Operands) (old
   is-index to u e = rw (u.is op) e
 
 -- nothing stands after the opcode
-pub is_bare : (s w : List ℕ) (l : Locals) (p : Place) (op : ℕ) (v : Operands) (old : List ℕ) (at o : ℕ) (r : Turn) (new : List ℕ) → v ≡ W.Bare → InBody p → Put old at (op ∷ []) o new
-    → r ≡ turn_of (E.To o) (past p p.at p.depth)
+pub is_bare : (s w : List ℕ) (l : Locals) (p : Place) (op : ℕ) (v : Operands) (old : List ℕ) (at o : ℕ) (r : Resolved (Option (ℕ × Place))) (new : List ℕ) → v ≡ W.Bare → InBody p → Put old at (op ∷ []) o new
+    → r ≡ turn_of (Ok o) (past p p.at p.depth)
     → Turned s w (locals_in s w l) (p.depth - 1) p.rec (plain_record (Instructions.plain_of op (operands_is v) s p.at)) old at r w new
 unfolding Instructions.plain_of plain_op immediate ◌>>=◌ instruction imm
 is_bare s w l p op v old at o r new d f e t =
     rw d
-    (plain-got s w (locals_in s w l) p (Instructions.plain_of op Instructions.bare s p.at) old at (record { opcode = op; operand = Syntax.nothing }) p.at (E.To o) r new refl f
+    (plain-got s w (locals_in s w l) p (Instructions.plain_of op Instructions.bare s p.at) old at (record { opcode = op; operand = Syntax.nothing }) p.at (Ok o) r new refl f
     (wrote instruction (plain_op (scope_in s w) (locals_in s w l) (labels_in s w (p.depth - 1)) p.rec (record { opcode = op; operand = Syntax.nothing })) old at new (record { opcode = op; imm = Syntax.no_imm }) o e refl) t)
 
 pub ruleset kinds = (is_bare, is-index)

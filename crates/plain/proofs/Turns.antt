@@ -1,4 +1,6 @@
 -- One record: what was read, and what came of it.
+use Rattle.std.specs.Prelude.{Ok, Err, Option, Some, None}
+use Rattle.syntax.specs.Refusals.{Resolved}
 use Prim.Native.Nat.{ℕ, ◌+◌, ◌-◌, ◌≤◌}
 use mathlib.Core.Path.{◌≡◌, refl}
 use mathlib.Core.List.{List}
@@ -17,54 +19,50 @@ use Rattle.area.specs.Kept.{Kept}
 use Rattle.area.proofs.Kept.{kept_same}
 use Rattle.scope.specs.Scope.{scope_in, labels_in}
 use Rattle.binary.specs.Emits.{Wrote, Emits}
-use Rattle.binary.specs.declared.Emitted.{Emitted}
-use Rattle.binary.specs.declared.Emitted.TheVariants as E
 use Rattle.plain.specs.Turns.{InBody, past, turn_of, plain_record, Turned}
-use Rattle.plain.specs.declared.turn.Turn.{Turn}
-use Rattle.plain.specs.declared.turn.Turn.TheVariants as T
 
 -- ## `go_on`
 
-module _ (e : Emitted) (p : Place) where
-  pub goes_to : (o : ℕ) → e ≡ E.To o → T.On o p ≡ turn_of e p
+module _ (e : Resolved ℕ) (p : Place) where
+  pub goes_to : (o : ℕ) → e ≡ Ok o → Ok (Some (o, p)) ≡ turn_of e p
   goes_to o d = rw d
 
-  pub goes_not : (q : Refusal) → e ≡ E.Refused q → T.Refused q ≡ turn_of e p
+  pub goes_not : (q : Refusal) → e ≡ Err q → Err q ≡ turn_of e p
   goes_not q d = rw d
 
 -- ## Any record
 
 module _ (s w : List ℕ) (ls : Namespace Identifier) (k rec : ℕ) (m : Step (Rec Identifier)) (old : List ℕ) (at : ℕ) where
-  pub turned-fault : (n : ℕ) → m ≡ fault n → Turned s w ls k rec m old at T.Done w old
+  pub turned-fault : (n : ℕ) → m ≡ fault n → Turned s w ls k rec m old at (Ok None) w old
   unfolding Turned
   turned-fault n d = record { none = λ x next e. let z : ◌≡◌ {A = ℕ} 0 1 = cc in omega arith; area = refl; bytes = refl }
 
   pub turned-refused : (x : Syntax.Instr Identifier) (next : ℕ) (q : Refusal) (new : List ℕ) → m ≡ got (instr x) next
-      → instr_op (scope_in s w) ls (labels_in s w k) rec x ≡ refused_by q → Turned s w ls k rec m old at (T.Refused q) w new
+      → instr_op (scope_in s w) ls (labels_in s w k) rec x ≡ refused_by q → Turned s w ls k rec m old at (Err q) w new
   unfolding Turned
   turned-refused x next q new reads e = record { read = x; next = next; reads = reads; says = e; area = refl }
 
   -- an instruction was read and emitted
   module _ (x : Syntax.Instr Identifier) (p : Place) (reads : m ≡ got (instr x) p.at) (d : p.depth ≡ depth_after x k + 1) (f : p.depth ≤ 129) (n : p.rec ≡ rec + 1) (new : List ℕ) where
     pub turned_on : (o : ℕ) (w' : List ℕ) → Wrote instruction (instr_op (scope_in s w) ls (labels_in s w k) rec x) old at o new
-        → labels_in s w' (p.depth - 1) ≡ blocks_after (labels_in s w k) x → Kept LABELS w w' → Turned s w ls k rec m old at (T.On o p) w' new
+        → labels_in s w' (p.depth - 1) ≡ blocks_after (labels_in s w k) x → Kept LABELS w w' → Turned s w ls k rec m old at (Ok (Some (o, p))) w' new
     unfolding Turned
     turned_on o w' v b kept = record { read = x; op = v.value; reads = reads; is = v.is; put = v.put; blocks = b; depth = d; few = f; next = n; kept = kept }
 
     -- it opened no block
-    pub turned_same : (y : Emitted) → labels_in s w (p.depth - 1) ≡ blocks_after (labels_in s w k) x
+    pub turned_same : (y : Resolved ℕ) → labels_in s w (p.depth - 1) ≡ blocks_after (labels_in s w k) x
         → Emits instruction (instr_op (scope_in s w) ls (labels_in s w k) rec x) old at y new → Turned s w ls k rec m old at (turn_of y p) w new
     unfolding Emits
-    turned_same (E.To o) b v = turned_on o w v b (kept_same LABELS w)
-    turned_same (E.Refused q) b v = turned-refused x p.at q new reads v
+    turned_same (Ok o) b v = turned_on o w v b (kept_same LABELS w)
+    turned_same (Err q) b v = turned-refused x p.at q new reads v
 
 -- ## Plain ones
 
 module _ (s w : List ℕ) (ls : Namespace Identifier) (p : Place) (m : Step (Syntax.Plain Identifier)) (old : List ℕ) (at : ℕ) where
-  pub plain-fault : (n : ℕ) → m ≡ fault n → Turned s w ls (p.depth - 1) p.rec (plain_record m) old at T.Done w old
+  pub plain-fault : (n : ℕ) → m ≡ fault n → Turned s w ls (p.depth - 1) p.rec (plain_record m) old at (Ok None) w old
   plain-fault n d = turned-fault s w ls (p.depth - 1) p.rec (plain_record m) old at n (rw d)
 
-  pub plain-got : (x : Syntax.Plain Identifier) (next : ℕ) (y : Emitted) (r : Turn) (new : List ℕ) → m ≡ got x next → InBody p
+  pub plain-got : (x : Syntax.Plain Identifier) (next : ℕ) (y : Resolved ℕ) (r : Resolved (Option (ℕ × Place))) (new : List ℕ) → m ≡ got x next → InBody p
       → Emits instruction (plain_op (scope_in s w) ls (labels_in s w (p.depth - 1)) p.rec x) old at y new → r ≡ turn_of y (past p next p.depth)
       → Turned s w ls (p.depth - 1) p.rec (plain_record m) old at r w new
   unfolding blocks_after depth_after instr_op

@@ -1,5 +1,5 @@
 -- What comes of one record of a body.
-use Rattle.std.specs.Prelude.{ℕ, ◌+◌, ◌-◌, ◌≤◌, ◌<◌, ◌≡◌, List, []}
+use Rattle.std.specs.Prelude.{Ok, Err, Option, Some, None, ℕ, ◌+◌, ◌-◌, ◌≤◌, ◌<◌, ◌≡◌, List, []}
 use Rattle.definition.specs.Basic.{ok}
 use Rattle.definition.specs.Syntax as Syntax
 use Rattle.definition.specs.Syntax.{Identifier, Op, Rec, instr, plain}
@@ -14,21 +14,17 @@ use Rattle.syntax.specs.Tokens.{space_of}
 use Rattle.syntax.specs.Plain.{operands_is}
 use Rattle.syntax.specs.declared.Operands.{Operands}
 use Rattle.syntax.specs.declared.Operands.TheVariants as W
-use Rattle.syntax.specs.Refusals.{refused_by}
+use Rattle.syntax.specs.Refusals.{Resolved, refused_by}
 use Rattle.syntax.specs.declared.Place.{Place}
 use Rattle.syntax.specs.declared.Refusal.{Refusal}
 use Rattle.emit.specs.Put.{Put}
 use Rattle.area.specs.Layout.{LABELS}
 use Rattle.area.specs.Kept.{Kept}
 use Rattle.scope.specs.Scope.{scope_in, labels_in}
-use Rattle.binary.specs.declared.Emitted.{Emitted}
-use Rattle.binary.specs.declared.Emitted.TheVariants as E
 use Rattle.plain.specs.declared.record.After.{After}
 use Rattle.plain.specs.declared.record.After.TheVariants as A
 use Rattle.plain.specs.declared.record.Target.{Target}
 use Rattle.plain.specs.declared.record.Target.TheVariants as G
-use Rattle.plain.specs.declared.turn.Turn.{Turn}
-use Rattle.plain.specs.declared.turn.Turn.TheVariants as T
 
 -- ## The running place
 
@@ -43,9 +39,9 @@ abbrev pub past : Place → ℕ → ℕ → Place
 past p next depth = record { at = next; rec = p.rec + 1; depth = depth }
 
 -- what came of an instruction
-abbrev pub turn_of : Emitted → Place → Turn
-turn_of (E.To o) p = T.On o p
-turn_of (E.Refused q) p = T.Refused q
+abbrev pub turn_of : Resolved ℕ → Place → Resolved (Option (ℕ × Place))
+turn_of (Ok o) p = Ok (Some (o, p))
+turn_of (Err q) p = Err q
 
 -- ## What is read
 
@@ -111,11 +107,11 @@ pub record Halted (s w : List ℕ) (locals : Namespace Identifier) (k rec : ℕ)
   pub area : w' ≡ w
 
 -- `m` is what is read where k blocks are open
-unfoldable pub Turned : List ℕ → List ℕ → Namespace Identifier → ℕ → ℕ → Step (Rec Identifier) → List ℕ → ℕ → Turn → List ℕ → List ℕ → Type 0
-Turned s w locals k rec m old at (T.On o p) w' new = Stepped s w locals k rec m old at o p w' new
-Turned s w locals k rec m old at T.Done w' new = Ended m w old w' new
-Turned s w locals k rec m old at (T.Refused q) w' new = Halted s w locals k rec m q w'
+unfoldable pub Turned : List ℕ → List ℕ → Namespace Identifier → ℕ → ℕ → Step (Rec Identifier) → List ℕ → ℕ → Resolved (Option (ℕ × Place)) → List ℕ → List ℕ → Type 0
+Turned s w locals k rec m old at (Ok (Some (o, p))) w' new = Stepped s w locals k rec m old at o p w' new
+Turned s w locals k rec m old at (Ok None) w' new = Ended m w old w' new
+Turned s w locals k rec m old at (Err q) w' new = Halted s w locals k rec m q w'
 
 -- whatever the locals are
-pub record AnyLocals (s w : List ℕ) (k rec : ℕ) (m : Step (Rec Identifier)) (old : List ℕ) (at : ℕ) (r : Turn) (w' new : List ℕ) : Type 0 where
+pub record AnyLocals (s w : List ℕ) (k rec : ℕ) (m : Step (Rec Identifier)) (old : List ℕ) (at : ℕ) (r : Resolved (Option (ℕ × Place))) (w' new : List ℕ) : Type 0 where
   pub each : (locals : Namespace Identifier) → Turned s w locals k rec m old at r w' new

@@ -5,4 +5,4 @@ pub mod record;
 pub mod turn;
 
 pub use record::plain_record;
-pub use turn::{Turn, go_on};
+pub use turn::go_on;

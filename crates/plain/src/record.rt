@@ -13,10 +13,8 @@ ghost use Rattle.scope.specs.Scope.{scope_in, locals_in, FewLocals, labels_in};
 ghost use Rattle.binary.specs.Emits.{Emits};
 ghost use Rattle.plain.specs.Turns.{InBody, plain_record, operand_to, indexed, StandsAfter, Turned};
 
-use crate::turn::Turn;
-use binary::Emitted;
 use scope::Locals;
-use syntax::{Index, IndexAt, Operands, Place, PlainAt, Space};
+use syntax::{Index, Local, Operands, Place, Resolved, Space};
 
 // What an index refers to.
 #[derive(Clone, Copy)]
@@ -38,24 +36,12 @@ fn after_opcode(what: Operands) -> After
     ensures { StandsAfter what result }
 {
     match what {
-        Operands::Bare => {
-            return After::Nothing;
-        }
-        Operands::LabelIdx => {
-            return After::Index(Target::Label);
-        }
-        Operands::LocalIdx => {
-            return After::Index(Target::Local);
-        }
-        Operands::FuncIdx => {
-            return After::Index(Target::Item(Space::Funcs));
-        }
-        Operands::GlobalIdx => {
-            return After::Index(Target::Item(Space::Globals));
-        }
-        _ => {
-            return After::Other;
-        }
+        Operands::Bare => After::Nothing,
+        Operands::LabelIdx => After::Index(Target::Label),
+        Operands::LocalIdx => After::Index(Target::Local),
+        Operands::FuncIdx => After::Index(Target::Item(Space::Funcs)),
+        Operands::GlobalIdx => After::Index(Target::Item(Space::Globals)),
+        _ => After::Other,
     }
 }
 
@@ -68,7 +54,7 @@ fn emit_index(
     l: Locals,
     to: Target,
     x: Index,
-) -> Emitted
+) -> Resolved<usize>
     requires { (WORDS ≤ length work.now) × FewLocals l × InBody p }
     ensures { Emits Binary.imm (Names.immediate (scope_in s.now work.now) (locals_in s.now work.now l) (labels_in s.now work.now (p.depth - 1)) p.rec (operand_to to (index_of s.now x))) out.old at result out.new }
 {
@@ -89,17 +75,17 @@ fn index_record(
     l: Locals,
     opcode: u8,
     to: Target,
-) -> Turn
+) -> Resolved<Option<(usize, Place)>>
     requires { (WORDS ≤ length work.now) × FewLocals l × InBody p × Gets (Token.present s.now p.at) }
     ensures { Turned s.now work.now (locals_in s.now work.now l) (p.depth - 1) p.rec (plain_record (indexed opcode (operand_to to) s.now p.at)) out.old at result work.now out.new }
 {
     match token::known_present(s, p.at) {
-        IndexAt::Got(x, next) => {
+        Ok((x, next)) => {
             let a = emit::put(out, at, opcode);
             let e = emit_index(s, work, out, a, p, l, to, x);
             crate::turn::go_on(e, p, next, p.depth)
         }
-        IndexAt::Fault(_) => Turn::Done,
+        Err(_) => Ok(None),
     }
 }
 
@@ -112,16 +98,16 @@ fn other_record(
     l: Locals,
     opcode: u8,
     what: Operands,
-) -> Turn
+) -> Resolved<Option<(usize, Place)>>
     requires { (WORDS ≤ length work.now) × FewLocals l × InBody p }
     ensures { Turned s.now work.now (locals_in s.now work.now l) (p.depth - 1) p.rec (plain_record (Instructions.plain_of opcode (operands_is what) s.now p.at)) out.old at result work.now out.new }
 {
     match expr::read_plain(s, p.at, opcode, what) {
-        PlainAt::Got(x, next) => {
+        Ok((x, next)) => {
             let e = operands::emit_plain(s, work, out, at, l, p.depth - 1, x, p.rec);
             crate::turn::go_on(e, p, next, p.depth)
         }
-        PlainAt::Fault(_) => Turn::Done,
+        Err(_) => Ok(None),
     }
 }
 
@@ -134,20 +120,16 @@ pub fn plain_record(
     l: Locals,
     opcode: u8,
     what: Operands,
-) -> Turn
+) -> Resolved<Option<(usize, Place)>>
     requires { (WORDS ≤ length work.now) × FewLocals l × InBody p × Gets (Instructions.plain_of opcode (operands_is what) s.now p.at) }
     ensures { Turned s.now work.now (locals_in s.now work.now l) (p.depth - 1) p.rec (plain_record (Instructions.plain_of opcode (operands_is what) s.now p.at)) out.old at result work.now out.new }
 {
     match after_opcode(what) {
-        After::Index(to) => {
-            return index_record(s, work, out, at, p, l, opcode, to);
-        }
+        After::Index(to) => index_record(s, work, out, at, p, l, opcode, to),
         After::Nothing => {
             let o = emit::put(out, at, opcode);
-            return crate::turn::go_on(Emitted::To(o), p, p.at, p.depth);
+            return crate::turn::go_on(Ok(o), p, p.at, p.depth);
         }
-        After::Other => {
-            return other_record(s, work, out, at, p, l, opcode, what);
-        }
+        After::Other => other_record(s, work, out, at, p, l, opcode, what),
     }
 }

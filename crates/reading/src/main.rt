@@ -5,16 +5,12 @@
 use console::Next;
 use std::io;
 use std::io::Read;
-use stream::Count;
+use syntax::Resolved;
 
-fn report(to: &impl Print, c: Count) -> io::Result<()> {
+fn report(to: &impl Print, c: Resolved<u32>) -> io::Result<()> {
     match c {
-        Count::Records(n) => {
-            console::text(to, b"records ")?;
-            console::number(to, n)?;
-            console::text(to, b"\n")
-        }
-        Count::Refused(r) => console::refused(to, r.number, r.rec, r.first),
+        Ok(n) => println!(to; "records {n}"),
+        Err(r) => console::refused(to, u8::from(r.fault), r.rec, r.first),
     }
 }
 
@@ -35,7 +31,7 @@ fn read_one(
         }
         Next::End => Ok(false),
         Next::Cut => {
-            console::text(to, b"cut\n")?;
+            println!(to; "cut")?;
             Ok(false)
         }
     }

@@ -1,4 +1,6 @@
 -- Registration over the work area: what a field brings goes into the tables, item by item.
+use Rattle.std.specs.Prelude.{Ok, Err}
+use Rattle.syntax.specs.Refusals.{Resolved}
 use Rattle.std.specs.Prelude.{ℕ, ◌<◌, ◌≡◌, List, [], ◌∷◌}
 use Rattle.definition.specs.Basic.{Answer, ok, ◌>>=◌}
 use Rattle.definition.specs.Syntax.{Bytes, Identifier, Space, tables, mems, types, elems, datas}
@@ -17,8 +19,6 @@ use Rattle.name_table.specs.Area.{names}
 use Rattle.name_table.specs.Tables.{base, table_of}
 use Rattle.name_table.specs.Definers.{definers_base, definers_in, definers_of, holder_in, item_words}
 use Rattle.area.specs.Kept.{Kept}
-use Rattle.registration.specs.declared.register.Registered.{Registered}
-use Rattle.registration.specs.declared.register.Registered.TheVariants as R
 
 -- ## The tables
 
@@ -66,12 +66,12 @@ unfoldable pub Fit : Seen → List Entry → Type 0
 Fit seen [] = Unit {0}
 Fit seen ((k, p) ∷ ps) = (count_of seen k < 256) × Fit (one_more seen k) ps
 
-abbrev pub registered : Registered → List ℕ → Answer (List ℕ)
-registered R.Done w = ok w
-registered (R.Refused r) w = refused_by r
+abbrev pub registered : Resolved (Unit {0}) → List ℕ → Answer (List ℕ)
+registered (Ok u) w = ok w
+registered (Err r) w = refused_by r
 
 -- they were registered or refused, and the words below the tables are as they were
-pub record Puts (s w : List ℕ) (seen : Seen) (r : ℕ) (ps : List Entry) (q : Registered) (w' : List ℕ) : Type 0 where
+pub record Puts (s w : List ℕ) (seen : Seen) (r : ℕ) (ps : List Entry) (q : Resolved (Unit {0})) (w' : List ℕ) : Type 0 where
   pub says : register_in s w seen r ps ≡ registered q w'
   pub kept : Kept NAMES w w'
 

@@ -5,23 +5,28 @@ ghost use Rattle.syntax.specs.Tokens.{space_of};
 ghost use Rattle.syntax.specs.Items.{count_of};
 ghost use Rattle.registration.specs.Register.{Fit, Puts, brought, source_items, nameless};
 
-use crate::register::Registered;
-use name_table::Held;
-use syntax::{Field, Part, Refusal, Seen, Source, Space};
+use syntax::{Fault, Field, Part, Refusal, Resolved, Seen, Source, Space};
 
 // The next item of a space.
-fn register_item(s: &[u8], work: &mut [u32], seen: Seen, k: Space, id: Part, rec: u32) -> Registered
+fn register_item(
+    s: &[u8],
+    work: &mut [u32],
+    seen: Seen,
+    k: Space,
+    id: Part,
+    rec: u32,
+) -> Resolved<()>
     requires { Lent s.now work.old × (count_of seen (space_of k) < 256) }
     ensures { Puts s.now work.old seen rec ((space_of k, id) ∷ []) result work.new }
 {
     let count = sources::seen::count_of(seen, k) as usize;
     match name_table::holder(s, work, k, count, id) {
-        Held::Nobody => {
+        None => {
             name_table::put_item(s, work, k, count, id, rec);
-            Registered::Done
+            Ok(())
         }
-        Held::At(first) => Registered::Refused(Refusal {
-            number: 13,
+        Some(first) => Err(Refusal {
+            fault: Fault::NameTaken,
             rec,
             first,
         }),
@@ -44,19 +49,16 @@ fn register_with(
     k: Space,
     id: Part,
     rec: u32,
-) -> Registered
+) -> Resolved<()>
     requires { Lent s.now work.old × Fit seen ((space_of segment, nameless) ∷ (space_of k, id) ∷ []) }
     ensures { Puts s.now work.old seen rec ((space_of segment, nameless) ∷ (space_of k, id) ∷ []) result work.new }
 {
-    match register_item(s, work, seen, segment, nameless(), rec) {
-        Registered::Done => {
-            let more = counting::one_more(seen, segment);
-            register_item(s, work, more, k, id, rec)
-        }
-        Registered::Refused(r) => Registered::Refused(r),
-    }
+    register_item(s, work, seen, segment, nameless(), rec)?;
+    let more = counting::one_more(seen, segment);
+    register_item(s, work, more, k, id, rec)
 }
 
+#[tactic(auto, unfolding(crate::specs::Register::Fit))]
 fn register_source(
     s: &[u8],
     work: &mut [u32],
@@ -64,7 +66,7 @@ fn register_source(
     id: Part,
     x: Source,
     rec: u32,
-) -> Registered
+) -> Resolved<()>
     requires { Lent s.now work.old × Fit seen (source_items id x) }
     ensures { Puts s.now work.old seen rec (source_items id x) result work.new }
 {
@@ -76,17 +78,14 @@ fn register_source(
     }
 }
 
-pub fn register_field(s: &[u8], work: &mut [u32], seen: Seen, f: Field, rec: u32) -> Registered
+#[tactic(auto, using(crate::proofs::Puts::puts_none), unfolding(crate::specs::Register::Fit))]
+pub fn register_field(s: &[u8], work: &mut [u32], seen: Seen, f: Field, rec: u32) -> Resolved<()>
     requires { Lent s.now work.old × Fit seen (brought f) }
     ensures { Puts s.now work.old seen rec (brought f) result work.new }
 {
     match f {
-        Field::Type {
-            id,
-            params: _,
-            results: _,
-        } => register_item(s, work, seen, Space::Types, id, rec),
-        Field::Import { name: _, id, what } => register_item(
+        Field::Type { id, .. } => register_item(s, work, seen, Space::Types, id, rec),
+        Field::Import { id, what, .. } => register_item(
             s,
             work,
             seen,
@@ -94,26 +93,10 @@ pub fn register_field(s: &[u8], work: &mut [u32], seen: Seen, f: Field, rec: u32
             id,
             rec,
         ),
-        Field::Item {
-            id,
-            exports: _,
-            source,
-        } => register_source(s, work, seen, id, source, rec),
-        Field::Export {
-            name: _,
-            space: _,
-            index: _,
-        } => Registered::Done,
-        Field::Start(_) => Registered::Done,
-        Field::Elem {
-            id,
-            mode: _,
-            funcs: _,
-        } => register_item(s, work, seen, Space::Elems, id, rec),
-        Field::Data {
-            id,
-            mode: _,
-            bytes: _,
-        } => register_item(s, work, seen, Space::Datas, id, rec),
+        Field::Item { id, source, .. } => register_source(s, work, seen, id, source, rec),
+        Field::Export { .. } => Ok(()),
+        Field::Start(_) => Ok(()),
+        Field::Elem { id, .. } => register_item(s, work, seen, Space::Elems, id, rec),
+        Field::Data { id, .. } => register_item(s, work, seen, Space::Datas, id, rec),
     }
 }

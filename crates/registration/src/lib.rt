@@ -2,7 +2,5 @@
 #![tactic(auto)]
 
 pub mod item;
-pub mod register;
 
 pub use item::register_field;
-pub use register::Registered;

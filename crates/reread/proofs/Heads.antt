@@ -1,9 +1,11 @@
 -- A field that brings no function has no lists that are read again.
+use Rattle.std.specs.Prelude.{Ok, Err}
 use mathlib.Core.Path.{◌≡◌, refl}
 use Prim.Native.Nat.{ℕ}
 use Rattle.definition.specs.Syntax.{Bytes, Identifier, FieldRec}
 use Rattle.definition.specs.Reader.{Step, got}
 use Rattle.definition.specs.Spaces.{source_space, extern_space, own_space}
+use Rattle.syntax.specs.Reads.{Read}
 use Rattle.syntax.specs.declared.Extern.TheVariants as E
 use Rattle.syntax.specs.declared.Own.TheVariants as O
 use Rattle.syntax.specs.declared.Source.TheVariants as S
@@ -11,8 +13,6 @@ use Rattle.reread.specs.Known.{ReadableHead, ReadableField}
 use Rattle.syntax.specs.Fields.{field_of, field_at}
 use Rattle.syntax.specs.declared.Field.{Field}
 use Rattle.syntax.specs.declared.Field.TheVariants as F
-use Rattle.syntax.specs.declared.FieldAt.{FieldAt}
-use Rattle.syntax.specs.declared.FieldAt.TheVariants as FA
 use Rattle.reread.proofs.Gives.{NoFunc}
 
 other-head : (s : Bytes) (f : Field) → NoFunc (field_of s f) → ReadableHead s f
@@ -38,6 +38,6 @@ other-head s (F.Elem i m xs) h = tt
 other-head s (F.Data i m d) h = tt
 
 -- an answer for what the definition reads as no function
-pub other-field : (s : Bytes) (r : FieldAt) (m : Step (FieldRec Identifier)) → m ≡ field_at s r → ((f : FieldRec Identifier) (q : ℕ) → m ≡ got f q → NoFunc f) → ReadableField s r
-other-field s (FA.Got f q) m e h = other-head s f (h (field_of s f) q e)
-other-field s (FA.Fault n) m e h = tt
+pub other-field : (s : Bytes) (r : Read Field) (m : Step (FieldRec Identifier)) → m ≡ field_at s r → ((f : FieldRec Identifier) (q : ℕ) → m ≡ got f q → NoFunc f) → ReadableField s r
+other-field s (Ok (f, q)) m e h = other-head s f (h (field_of s f) q e)
+other-field s (Err n) m e h = tt

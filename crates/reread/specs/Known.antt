@@ -1,10 +1,11 @@
 -- What is known of a function's head once its field was read: its lists can be read again.
-use Rattle.std.specs.Prelude.{List}
+use Rattle.std.specs.Prelude.{List, Ok, Err}
 use Rattle.std.proofs.Math.Option.{Option}
 use Rattle.definition.specs.Syntax.{Bytes, Identifier, FieldRec, item_r}
 use Rattle.definition.specs.Reader.{Reader, give, ◌>>=◌}
 use Rattle.definition.specs.Records.{func_extern, import_form}
 use Rattle.typeuse.specs.Known.{Readable}
+use Rattle.syntax.specs.Reads.{Read}
 use Rattle.syntax.specs.declared.Extern.{Extern}
 use Rattle.syntax.specs.declared.Extern.TheVariants as E
 use Rattle.syntax.specs.declared.Own.{Own}
@@ -13,8 +14,6 @@ use Rattle.syntax.specs.declared.Source.{Source}
 use Rattle.syntax.specs.declared.Source.TheVariants as S
 use Rattle.syntax.specs.declared.Field.{Field}
 use Rattle.syntax.specs.declared.Field.TheVariants as F
-use Rattle.syntax.specs.declared.FieldAt.{FieldAt}
-use Rattle.syntax.specs.declared.FieldAt.TheVariants as FA
 
 -- what follows the form byte of a function that is imported where it stands
 unfoldable pub imported_item : Option Identifier → List Bytes → Reader (FieldRec Identifier)
@@ -50,6 +49,6 @@ ReadableHead s (F.Elem i m xs) = Unit {0}
 ReadableHead s (F.Data i m d) = Unit {0}
 
 -- those of a field that was read
-abbrev pub ReadableField : Bytes → FieldAt → Type 0
-ReadableField s (FA.Got f here) = ReadableHead s f
-ReadableField s (FA.Fault n) = Unit {0}
+abbrev pub ReadableField : Bytes → Read Field → Type 0
+ReadableField s (Ok (f, here)) = ReadableHead s f
+ReadableField s (Err n) = Unit {0}

@@ -1,4 +1,8 @@
 -- Checking one answer after the other.
+use Rattle.std.specs.Prelude.{Ok, Err, Some, None, IsErrAnd}
+use Rattle.std.specs.Result.{IsErr}
+use Rattle.syntax.specs.Refusals.{Resolved, refused_by}
+use Rattle.syntax.proofs.Ways.{handed}
 use Prim.Native.Nat.{ℕ, ◌*◌, ◌^◌, ◌≤◌, ◌<◌}
 use mathlib.Core.Path.{◌≡◌, refl, sym, ◌∙◌}
 use mathlib.Core.List.{List, [], ◌++◌, map}
@@ -7,7 +11,6 @@ use Rattle.definition.specs.Basic.{Answer, ok}
 use Rattle.definition.specs.Syntax.{Bytes}
 use Rattle.definition.specs.Binary.{joined}
 use native.Mathlib.Omega.{arith}
-use Rattle.syntax.specs.Refusals.{refused_by}
 use Rattle.syntax.specs.declared.Refusal.{Refusal}
 use Rattle.emit.specs.Put.{Put}
 use Rattle.area.specs.Layout.{LOCALS, WORDS}
@@ -22,18 +25,12 @@ use Rattle.syntax.specs.declared.Entry.{Entry}
 use Rattle.syntax.specs.declared.Entry.TheVariants as E
 use Rattle.deinline.specs.Entry.{Entries, tagged, both, uses_of, section_no, answer_of, entry_in, first_of, second_of, third_of, item_in, three, three_in}
 use Rattle.entries.specs.Listed.{Listed, Answers}
-use Rattle.deinline.specs.declared.entry.ItemIn.{ItemIn}
-use Rattle.deinline.specs.declared.entry.ItemIn.TheVariants as I
-use Rattle.entries.specs.declared.EndsAt.{EndsAt}
-use Rattle.entries.specs.declared.EndsAt.TheVariants as A
+use Rattle.import_export.specs.declared.export.Ends.{Ends}
 use Rattle.kept.specs.Sections.{SECTIONS}
 use Rattle.kept.specs.Emit.{EmitsKept}
 use Rattle.kept.specs.Parts.{part_in}
-use Rattle.kept.specs.Tally.{reached, tallies, tally_of, Slots, Tallied, NotTallied, Checks, Ready, ReadyThree, ChecksIn}
+use Rattle.kept.specs.Tally.{reached, tallies, tallied, Slots, Tallied, NotTallied, Checks, Ready, ReadyThree, AreaBy, ChecksIn}
 use Rattle.kept.specs.declared.tally.Tally.{Tally}
-use Rattle.kept.specs.declared.tally.Verdict.{Verdict}
-use Rattle.kept.specs.declared.tally.Verdict.TheVariants as V'
-use Rattle.kept.specs.declared.tally.Checked.{Checked}
 use Rattle.kept.proofs.Tallies.{tallies-append}
 use Rattle.kept.proofs.Keeping.{reached-is, keeps-none, keeps-one, keeps_then}
 use Rattle.kept.proofs.Emitting.{section-below}
@@ -80,47 +77,43 @@ refused-first a b r e = rw e refl
 
 -- ## What the code answers
 
-module _ (a : Answer Entries) (t t' : Tally) (w w' : List ℕ) (old new : Bytes) where
-  pub checks_fine : Tallied a t old t' new → Kept LOCALS w w' → ChecksIn a t w old (record { tally = t'; verdict = V'.Fine }) w' new
+module _ (a : Answer Entries) (t : Tally) (w w' : List ℕ) (old new : Bytes) where
+  pub checks_fine : (t' : Tally) → Tallied a t old t' new → Kept LOCALS w w' → ChecksIn a t w old (Ok t') w' new
   unfolding Checks
-  checks_fine x k = record { says = x; area = k }
+  checks_fine t' x k = record { says = x; area = k }
 
-  pub checks_not : (r : Refusal) → a ≡ refused_by r → length w' ≡ length w → length new ≡ length old → ChecksIn a t w old (record { tally = t'; verdict = V'.Refused r }) w' new
+  pub checks_not : (r : Refusal) → a ≡ refused_by r → length w' ≡ length w → length new ≡ length old → ChecksIn a t w old (Err r) w' new
   unfolding Checks
   checks_not r e l m = record { says = record { is = e; long = m }; area = l }
 
-module _ {a : Answer Entries} {t : Tally} {w : List ℕ} {old : Bytes} {r : Checked} {w' : List ℕ} {new : Bytes} (v : ChecksIn a t w old r w' new) where
-  pub was_fine : r.verdict ≡ V'.Fine → Tallied a t old r.tally new
+  -- and back
+  pub was_fine : (t' : Tally) → ChecksIn a t w old (Ok t') w' new → Tallied a t old t' new
   unfolding Checks
-  was_fine e = (let d = v.says in rw e at d)
+  was_fine t' v = v.says
 
-  pub fine-kept : r.verdict ≡ V'.Fine → Kept LOCALS w w'
-  fine-kept e = (let d = v.area in rw e at d)
-
-  not_tallied : (q : Refusal) → r.verdict ≡ V'.Refused q → NotTallied a q old new
+  pub was_not : (r : Refusal) → ChecksIn a t w old (Err r) w' new → NotTallied a r old new
   unfolding Checks
-  not_tallied q e = (let d = v.says in rw e at d)
+  was_not r v = v.says
 
-  pub was_not : (q : Refusal) → r.verdict ≡ V'.Refused q → a ≡ refused_by q
-  was_not q e = (not_tallied q e).is
+  module _ (r : Resolved Tally) (v : ChecksIn a t w old r w' new) where
+    pub area-long : length w' ≡ length w
+    area-long = go r v.area
+      where
+        go : (r : Resolved Tally) → AreaBy r w w' → length w' ≡ length w
+        go (Ok t') k = k.long
+        go (Err q) l = l
 
-  pub not_long : (q : Refusal) → r.verdict ≡ V'.Refused q → length w' ≡ length w
-  not_long q e = (let d = v.area in rw e at d)
+    -- the kept bytes are as many as they were
+    pub kept-long : length new ≡ length old
+    kept-long = go r v.says
+      where
+        go : (r : Resolved Tally) → Checks a t old r new → length new ≡ length old
+        go (Ok t') x = unfold Checks in x.keeps.long
+        go (Err q) x = unfold Checks in x.long
 
-  pub area-long : length w' ≡ length w
-  area-long = go r.verdict refl
-    where
-      go : (x : Verdict) → r.verdict ≡ x → length w' ≡ length w
-      go V'.Fine e = (fine-kept e).long
-      go (V'.Refused q) e = not_long q e
-
-  -- the kept bytes are as many as they were
-  pub kept-long : length new ≡ length old
-  kept-long = go r.verdict refl
-    where
-      go : (x : Verdict) → r.verdict ≡ x → length new ≡ length old
-      go V'.Fine e = (was_fine e).keeps.long
-      go (V'.Refused q) e = (not_tallied q e).long
+  -- a refusal is handed on
+  pub check-refused : (r : Resolved Tally) (q : Refusal) → ChecksIn a t w old (Err q) w' new → IsErr r → IsErrAnd r (λ e. e ≡ q) → ChecksIn a t w old r w' new
+  check-refused r q v i z = rw (handed r q i z) v
 
 -- ## Ready after what was written
 
@@ -149,91 +142,82 @@ nothing_is (E.Data m b) d = absurd (omega arith)
 nothing_is (E.InlineData w n b) d = absurd (omega arith)
 
 pub entry-none : (s w : List ℕ) (r : ℕ) (e : Entry) (k : ℕ) (t : Tally) (old : Bytes) → k ≡ section_no e → k ≡ 0 → length old * 1 < 2 ^ 63
-    → ChecksIn (entry_in (scope_in s w) s r e) t w old (record { tally = t; verdict = V'.Fine }) w old
+    → ChecksIn (entry_in (scope_in s w) s r e) t w old (Ok t) w old
 unfolding entry_in tagged answer_of tallies
 entry-none s w r e k t old d z l =
-    checks_fine _ t t w w old old (record { entries = []; is = rw (nothing_is e (sym d ∙ z)) refl; tally = refl; keeps = keeps-none old t l }) (kept_same LOCALS w)
+    checks_fine _ t w w old old t (record { entries = []; is = rw (nothing_is e (sym d ∙ z)) refl; tally = refl; keeps = keeps-none old t l }) (kept_same LOCALS w)
 
--- its section has a slot
-pub in_sizes : (e : Entry) (k : ℕ) (sizes counts : List ℕ) → k ≡ section_no e → Slots (tally_of sizes counts) → k < length sizes
-in_sizes e k sizes counts d h = rw h.sizes (section-below e k d)
-
-module _ (s w : List ℕ) (r : ℕ) (e : Entry) (t : Tally) (old : Bytes) (from : ℕ) (q : EndsAt) (w' : List ℕ) (new : Bytes) (h : EmitsKept s w r e old from q w' new) where
-  pub entry-fine : (k to n : ℕ) (t' : Tally) → Slots t → length old * 1 < 2 ^ 63 → q ≡ A.Ends to n → k ≡ section_no e → from ≡ get_or t.sizes k 0 → t' ≡ reached t k to n
-      → ChecksIn (entry_in (scope_in s w) s r e) t w old (record { tally = t'; verdict = V'.Fine }) w' new
+module _ (s w : List ℕ) (r : ℕ) (e : Entry) (t : Tally) (old : Bytes) (from : ℕ) (w' : List ℕ) (new : Bytes) where
+  pub entry-fine : (k : ℕ) (x : Ends) (t' : Tally) → EmitsKept s w r e old from (Ok x) w' new → Slots t → length old * 1 < 2 ^ 63 → k ≡ section_no e → from ≡ get_or t.sizes k 0 → t' ≡ reached t k x.to x.count
+      → ChecksIn (entry_in (scope_in s w) s r e) t w old (Ok t') w' new
   unfolding Answers entry_in
-  entry-fine k to n t' y f d g u z =
-      let a : Listed (answer_of (scope_in s w) s r e) (part_in old (section_no e)) (get_or t.sizes (section_no e) 0) to n (part_in new (section_no e)) = (let b = h.here.answers in rw (d, u, g) at b) in
-      let b : Kept LOCALS w w' = (let c = h.here.area in rw d at c) in
+  entry-fine k x t' h y f g u z =
+      let a : Listed (answer_of (scope_in s w) s r e) (part_in old (section_no e)) (get_or t.sizes (section_no e) 0) x.to x.count (part_in new (section_no e)) = (let b = h.here.answers in rw (u, g) at b) in
       rw (z, g)
-      (checks_fine _ t _ w w' old new
-      (tallied_one t (section_no e) to n (answer_of (scope_in s w) s r e) a.entries old new (section-below e _ refl) y f a.is a.put a.number h.there h.long)
-      b)
+      (checks_fine _ t w w' old new _
+      (tallied_one t (section_no e) x.to x.count (answer_of (scope_in s w) s r e) a.entries old new (section-below e _ refl) y f a.is a.put a.number h.there h.long)
+      h.here.area)
 
-  pub entry_not : (z : Refusal) → q ≡ A.Refused z → ChecksIn (entry_in (scope_in s w) s r e) t w old (record { tally = t; verdict = V'.Refused z }) w' new
+  pub entry_not : (q : Resolved (Unit {0})) (z : Refusal) (t' : Tally) → EmitsKept s w r e old from (Err z) w' new → IsErr q → IsErrAnd q (λ e. e ≡ z)
+      → ChecksIn (entry_in (scope_in s w) s r e) t w old (tallied q t') w' new
   unfolding Answers entry_in
-  entry_not z d =
-      checks_not _ t t w w' old new z (refused-one (section_no e) z (answer_of (scope_in s w) s r e) (let b = h.here.answers in rw d at b)) (let c = h.here.area in rw d at c) h.long
+  entry_not q z t' h i j = rw (handed q z i j) (checks_not _ t w w' old new z (refused-one (section_no e) z (answer_of (scope_in s w) s r e) h.here.answers) h.here.area h.long)
 
 -- ## One entry after another
 
-module _ (A B : Answer Entries) (t t₁ : Tally) (w : List ℕ) (old : Bytes) (v : Verdict) (w₁ : List ℕ) (mid : Bytes) (x : ChecksIn A t w old (record { tally = t₁; verdict = v }) w₁ mid) where
-  pub then_by : (b : Tally) (z : Verdict) (w₂ : List ℕ) (new : Bytes) → v ≡ V'.Fine → ChecksIn B t₁ w₁ mid (record { tally = b; verdict = z }) w₂ new
-      → ChecksIn (both A B) t w old (record { tally = b; verdict = z }) w₂ new
-  unfolding Checks
-  then_by b V'.Fine w₂ new d y = checks_fine (both A B) t b w w₂ old new (tallied_both A B t old mid new t₁ b (was_fine x d) y.says) (kept_then (fine-kept x d) y.area)
-  then_by b (V'.Refused q) w₂ new d y =
-      checks_not (both A B) t b w w₂ old new q (refused-second A B t old mid new t₁ q (was_fine x d) y.says.is) (y.area ∙ (fine-kept x d).long) (y.says.long ∙ kept-long x)
+module _ (A B : Answer Entries) (t : Tally) (w : List ℕ) (old : Bytes) (w₁ : List ℕ) (mid : Bytes) where
+  pub then_by : (t₁ : Tally) (r : Resolved Tally) (w₂ : List ℕ) (new : Bytes) → ChecksIn A t w old (Ok t₁) w₁ mid → ChecksIn B t₁ w₁ mid r w₂ new → ChecksIn (both A B) t w old r w₂ new
+  then_by t₁ (Ok b) w₂ new x y =
+      checks_fine (both A B) t w w₂ old new b (tallied_both A B t old mid new t₁ b (was_fine A t w w₁ old mid t₁ x) (was_fine B t₁ w₁ w₂ mid new b y)) (kept_then x.area y.area)
+  then_by t₁ (Err q) w₂ new x y =
+      let z = was_not B t₁ w₁ w₂ mid new q y in
+      checks_not (both A B) t w w₂ old new q (refused-second A B t old mid new t₁ q (was_fine A t w w₁ old mid t₁ x) z.is) (y.area ∙ x.area.long)
+      (z.long ∙ kept-long A t w w₁ old mid (Ok t₁) x)
 
-  stops_by : (q : Refusal) → v ≡ V'.Refused q → ChecksIn (both A B) t w old (record { tally = t₁; verdict = V'.Refused q }) w₁ mid
-  stops_by q d = checks_not (both A B) t t₁ w w₁ old mid q (refused-first A B q (was_not x q d)) (not_long x q d) (kept-long x)
+  stops_by : (q : Refusal) → ChecksIn A t w old (Err q) w₁ mid → ChecksIn (both A B) t w old (Err q) w₁ mid
+  stops_by q x = let z = was_not A t w w₁ old mid q x in checks_not (both A B) t w w₁ old mid q (refused-first A B q z.is) x.area z.long
 
 -- what is ready stays so
-pub after-ready : (a : Answer Entries) (t : Tally) (w : List ℕ) (old : Bytes) (q : Checked) (w₁ : List ℕ) (mid : Bytes) (s : List ℕ) (r : ℕ) (f : Entry)
-    → ChecksIn a t w old q w₁ mid → q.verdict ≡ V'.Fine → Ready s w r f → Ready s w₁ r f
-after-ready a t w old q w₁ mid s r f x d h = ready-kept s w w₁ r f (fine-kept x d) h
+pub after-ready : (a : Answer Entries) (t t₁ : Tally) (w : List ℕ) (old : Bytes) (w₁ : List ℕ) (mid : Bytes) (s : List ℕ) (r : ℕ) (f : Entry)
+    → ChecksIn a t w old (Ok t₁) w₁ mid → Ready s w r f → Ready s w₁ r f
+after-ready a t t₁ w old w₁ mid s r f x h = ready-kept s w w₁ r f x.area h
 
 pub item-ready : (s w : List ℕ) (r : ℕ) (e e' : Entry) → e ≡ e' → Ready s w r e' → Ready s w r e
 item-ready s w r e e' d h = rw d h
 
-pub after-item : (a : Answer Entries) (t : Tally) (w : List ℕ) (old : Bytes) (q : Checked) (w₁ : List ℕ) (mid : Bytes) (s : List ℕ) (r : ℕ) (e e' : Entry)
-    → e ≡ e' → ChecksIn a t w old q w₁ mid → q.verdict ≡ V'.Fine → Ready s w r e' → Ready s w₁ r e
-after-item a t w old q w₁ mid s r e e' g x d h = rw g (after-ready a t w old q w₁ mid s r e' x d h)
-
--- slices of the same lengths are a tally too
-pub after_slots : (sizes counts sizes' counts' : List ℕ) → Slots (tally_of sizes counts) → length sizes' ≡ length sizes → length counts' ≡ length counts → Slots (tally_of sizes' counts')
-after_slots sizes counts sizes' counts' h d e = record { sizes = d ∙ h.sizes; counts = e ∙ h.counts }
+pub after-item : (a : Answer Entries) (t t₁ : Tally) (w : List ℕ) (old : Bytes) (w₁ : List ℕ) (mid : Bytes) (s : List ℕ) (r : ℕ) (e e' : Entry)
+    → e ≡ e' → ChecksIn a t w old (Ok t₁) w₁ mid → Ready s w r e' → Ready s w₁ r e
+after-item a t t₁ w old w₁ mid s r e e' g x h = rw g (after-ready a t t₁ w old w₁ mid s r e' x h)
 
 -- the scope after what was written
 scope-same : (s w w' : List ℕ) → Kept LOCALS w w' → scope_in s w' ≡ scope_in s w
 scope-same s w w' k = scope_kept s w w' k
 
-module _ (s w : List ℕ) (r : ℕ) (t t₁ : Tally) (e : Entry) (old : Bytes) (v : Verdict) (w₁ : List ℕ) (mid : Bytes) (x : ChecksIn (entry_in (scope_in s w) s r e) t w old (record { tally = t₁; verdict = v }) w₁ mid)
-    (e' : Entry) (is : e ≡ e') where
+module _ (s w : List ℕ) (r : ℕ) (t : Tally) (e : Entry) (old : Bytes) (w₁ : List ℕ) (mid : Bytes) (e' : Entry) (is : e ≡ e') where
   -- two entries
-  pub two_then : (f f' : Entry) (b : Tally) (z : Verdict) (w₂ : List ℕ) (new : Bytes) → v ≡ V'.Fine → f ≡ f' → ChecksIn (entry_in (scope_in s w₁) s r f) t₁ w₁ mid (record { tally = b; verdict = z }) w₂ new
-      → ChecksIn (both (entry_in (scope_in s w) s r e') (entry_in (scope_in s w) s r f')) t w old (record { tally = b; verdict = z }) w₂ new
-  two_then f f' b z w₂ new d g y =
+  pub two_then : (t₁ : Tally) (f f' : Entry) (z : Resolved Tally) (w₂ : List ℕ) (new : Bytes) → ChecksIn (entry_in (scope_in s w) s r e) t w old (Ok t₁) w₁ mid
+      → f ≡ f' → ChecksIn (entry_in (scope_in s w₁) s r f) t₁ w₁ mid z w₂ new → ChecksIn (both (entry_in (scope_in s w) s r e') (entry_in (scope_in s w) s r f')) t w old z w₂ new
+  two_then t₁ f f' z w₂ new x g y =
       rw (← is, ← g)
-      (then_by (entry_in (scope_in s w) s r e) (entry_in (scope_in s w) s r f) t t₁ w old v w₁ mid x b z w₂ new d
-      (let k = scope-same s w w₁ (fine-kept x d) in rw k at y))
+      (then_by (entry_in (scope_in s w) s r e) (entry_in (scope_in s w) s r f) t w old w₁ mid t₁ z w₂ new x
+      (let k = scope-same s w w₁ x.area in rw k at y))
 
-  pub two_not : (f : Entry) (q : Refusal) → v ≡ V'.Refused q
-      → ChecksIn (both (entry_in (scope_in s w) s r e') (entry_in (scope_in s w) s r f)) t w old (record { tally = t₁; verdict = V'.Refused q }) w₁ mid
-  two_not f q d = rw (← is) (stops_by (entry_in (scope_in s w) s r e) (entry_in (scope_in s w) s r f) t t₁ w old v w₁ mid x q d)
+  pub two_not : (f : Entry) (z : Resolved (Unit {0})) (q : Refusal) (t' : Tally) → ChecksIn (entry_in (scope_in s w) s r e) t w old (Err q) w₁ mid → IsErr z → IsErrAnd z (λ e. e ≡ q)
+      → ChecksIn (both (entry_in (scope_in s w) s r e') (entry_in (scope_in s w) s r f)) t w old (tallied z t') w₁ mid
+  two_not f z q t' x i j = rw (handed z q i j, ← is) (stops_by (entry_in (scope_in s w) s r e) (entry_in (scope_in s w) s r f) t w old w₁ mid q x)
 
 -- ## The entries of a field
 
 -- beside its exports an item has two
-module _ (s w : List ℕ) (r : ℕ) (f : Field) (seen : Seen) (here : ℕ) (i : ItemIn) (in_f : i ≡ item_in f) where
-  module _ (x : Source) (is : i ≡ I.Item x) where
+module _ (s w : List ℕ) (r : ℕ) (f : Field) (seen : Seen) (here : ℕ) where
+  module _ (x : Source) (is : Some x ≡ item_in f) where
     second_is : (three f seen here).second ≡ second_of x seen
     unfolding three
-    second_is = rw (sym in_f ∙ is) refl
+    second_is = rw (sym is) refl
 
     third-is : (three f seen here).third ≡ third_of x here
     unfolding three
-    third-is = rw (sym in_f ∙ is) refl
+    third-is = rw (sym is) refl
 
     pub rest-second : Ready s w r (three f seen here).second → Ready s w r (second_of x seen)
     rest-second h = rw second_is at h
@@ -241,34 +225,34 @@ module _ (s w : List ℕ) (r : ℕ) (f : Field) (seen : Seen) (here : ℕ) (i : 
     pub rest-third : Ready s w r (three f seen here).third → Ready s w r (third_of x here)
     rest-third h = rw third-is at h
 
-    pub rest-item : (t : Tally) (old : Bytes) (q : Checked) (w' : List ℕ) (new : Bytes)
+    pub rest-item : (t : Tally) (old : Bytes) (q : Resolved Tally) (w' : List ℕ) (new : Bytes)
         → ChecksIn (both (entry_in (scope_in s w) s r (second_of x seen)) (entry_in (scope_in s w) s r (third_of x here))) t w old q w' new
         → ChecksIn (both (entry_in (scope_in s w) s r (three f seen here).second) (entry_in (scope_in s w) s r (three f seen here).third)) t w old q w' new
     rest-item t old q w' new h = rw (second_is, third-is) h
 
   -- another field has nothing more
-  pub rest-none : (t : Tally) (old : Bytes) → i ≡ I.Other → length old * 1 < 2 ^ 63
-      → ChecksIn (both (entry_in (scope_in s w) s r (three f seen here).second) (entry_in (scope_in s w) s r (three f seen here).third)) t w old (record { tally = t; verdict = V'.Fine }) w old
+  pub rest-none : (t : Tally) (old : Bytes) → None ≡ item_in f → length old * 1 < 2 ^ 63
+      → ChecksIn (both (entry_in (scope_in s w) s r (three f seen here).second) (entry_in (scope_in s w) s r (three f seen here).third)) t w old (Ok t) w old
   unfolding three both entry_in tagged answer_of tallies
-  rest-none t old is l = checks_fine _ t t w w old old (record { entries = []; is = rw (sym in_f ∙ is) refl; tally = refl; keeps = keeps-none old t l }) (kept_same LOCALS w)
+  rest-none t old is l = checks_fine _ t w w old old t (record { entries = []; is = rw (sym is) refl; tally = refl; keeps = keeps-none old t l }) (kept_same LOCALS w)
 
-module _ (s w : List ℕ) (r : ℕ) (t t₁ : Tally) (e : Entry) (old : Bytes) (v : Verdict) (w₁ : List ℕ) (mid : Bytes) (x : ChecksIn (entry_in (scope_in s w) s r e) t w old (record { tally = t₁; verdict = v }) w₁ mid)
-    (f : Field) (seen : Seen) (here : ℕ) (told : e ≡ first_of f seen) where
+module _ (s w : List ℕ) (r : ℕ) (t : Tally) (e : Entry) (old : Bytes) (w₁ : List ℕ) (mid : Bytes) (f : Field) (seen : Seen) (here : ℕ) (told : e ≡ first_of f seen) where
   first-is : three_in (scope_in s w) s r (three f seen here)
       ≡ both (entry_in (scope_in s w) s r e) (both (entry_in (scope_in s w) s r (three f seen here).second) (entry_in (scope_in s w) s r (three f seen here).third))
   unfolding three_in three
   first-is = rw told refl
 
   -- the first entry and then the others
-  pub field_then : (b : Tally) (z : Verdict) (w₂ : List ℕ) (new : Bytes)
-      → ChecksIn (both (entry_in (scope_in s w₁) s r (three f seen here).second) (entry_in (scope_in s w₁) s r (three f seen here).third)) t₁ w₁ mid (record { tally = b; verdict = z }) w₂ new
-      → v ≡ V'.Fine → ChecksIn (three_in (scope_in s w) s r (three f seen here)) t w old (record { tally = b; verdict = z }) w₂ new
-  field_then b z w₂ new h d =
+  pub field_then : (t₁ : Tally) (z : Resolved Tally) (w₂ : List ℕ) (new : Bytes) → ChecksIn (entry_in (scope_in s w) s r e) t w old (Ok t₁) w₁ mid
+      → ChecksIn (both (entry_in (scope_in s w₁) s r (three f seen here).second) (entry_in (scope_in s w₁) s r (three f seen here).third)) t₁ w₁ mid z w₂ new
+      → ChecksIn (three_in (scope_in s w) s r (three f seen here)) t w old z w₂ new
+  field_then t₁ z w₂ new x h =
       rw first-is
-      (then_by (entry_in (scope_in s w) s r e) _ t t₁ w old v w₁ mid x b z w₂ new d (let k = scope-same s w w₁ (fine-kept x d) in rw k at h))
+      (then_by (entry_in (scope_in s w) s r e) _ t w old w₁ mid t₁ z w₂ new x (let k = scope-same s w w₁ x.area in rw k at h))
 
-  pub field_not : (q : Refusal) → v ≡ V'.Refused q → ChecksIn (three_in (scope_in s w) s r (three f seen here)) t w old (record { tally = t₁; verdict = V'.Refused q }) w₁ mid
-  field_not q d = rw first-is (stops_by (entry_in (scope_in s w) s r e) _ t t₁ w old v w₁ mid x q d)
+  pub field_not : (z : Resolved (Unit {0})) (q : Refusal) (t' : Tally) → ChecksIn (entry_in (scope_in s w) s r e) t w old (Err q) w₁ mid → IsErr z → IsErrAnd z (λ e. e ≡ q)
+      → ChecksIn (three_in (scope_in s w) s r (three f seen here)) t w old (tallied z t') w₁ mid
+  field_not z q t' x i j = rw (handed z q i j, first-is) (stops_by (entry_in (scope_in s w) s r e) _ t w old w₁ mid q x)
 
 -- each of them is ready: the first, and then the others
 module _ (s w : List ℕ) (r : ℕ) (f : Field) (seen : Seen) (here : ℕ) (h : ReadyThree s w r (three f seen here)) where
@@ -276,12 +260,12 @@ module _ (s w : List ℕ) (r : ℕ) (f : Field) (seen : Seen) (here : ℕ) (h : 
   unfolding three
   field-first e d = rw d h.first
 
-  module _ (a : Answer Entries) (t : Tally) (old : Bytes) (q : Checked) (w₁ : List ℕ) (mid : Bytes) (y : ChecksIn a t w old q w₁ mid) (d : q.verdict ≡ V'.Fine) where
+  module _ (a : Answer Entries) (t t₁ : Tally) (old : Bytes) (w₁ : List ℕ) (mid : Bytes) (y : ChecksIn a t w old (Ok t₁) w₁ mid) where
     pub field-second : Ready s w₁ r (three f seen here).second
-    field-second = after-ready a t w old q w₁ mid s r (three f seen here).second y d h.second
+    field-second = after-ready a t t₁ w old w₁ mid s r (three f seen here).second y h.second
 
     pub field-third : Ready s w₁ r (three f seen here).third
-    field-third = after-ready a t w old q w₁ mid s r (three f seen here).third y d h.third
+    field-third = after-ready a t t₁ w old w₁ mid s r (three f seen here).third y h.third
 
-pub long_after : (a : Answer Entries) (t : Tally) (w : List ℕ) (old : Bytes) (r : Checked) (w' : List ℕ) (new : Bytes) → ChecksIn a t w old r w' new → WORDS ≤ length w → WORDS ≤ length w'
-long_after a t w old r w' new v h = rw (area-long v) h
+pub long_after : (a : Answer Entries) (t : Tally) (w : List ℕ) (old : Bytes) (r : Resolved Tally) (w' : List ℕ) (new : Bytes) → ChecksIn a t w old r w' new → WORDS ≤ length w → WORDS ≤ length w'
+long_after a t w old r w' new v h = rw (area-long a t w w' old new r v) h

@@ -1,4 +1,8 @@
 -- An own function: its type's number is kept, and then its code.
+use Rattle.std.specs.Prelude.{Option, Ok, Err, Some, None, IsErrAnd}
+use Rattle.std.specs.Result.{IsErr}
+use Rattle.syntax.specs.Refusals.{Resolved, refused_by}
+use Rattle.syntax.proofs.Ways.{handed}
 use Prim.Native.Nat.{ℕ, ◌+◌, ◌-◌, ◌*◌, ◌^◌, ◌<◌}
 use mathlib.Core.Path.{◌≡◌, refl, sym, ◌∙◌, ap}
 use mathlib.Core.List.{List, [], ◌∷◌, ◌++◌, append-nil}
@@ -11,7 +15,6 @@ use Rattle.definition.specs.Syntax.{Bytes}
 use Rattle.definition.specs.Types as Types
 use Rattle.definition.specs.Names.{type_no, own_item, resolve}
 use Rattle.definition.specs.Binary.{u, joined}
-use Rattle.syntax.specs.Refusals.{refused_by}
 use Rattle.syntax.specs.declared.Refusal.{Refusal}
 use Rattle.area.specs.Layout.{LOCALS}
 use Rattle.syntax.specs.TypeUses.{use_of}
@@ -23,13 +26,8 @@ use Rattle.area.proofs.Kept.{kept_same}
 use Rattle.syntax.specs.Resolved.{type_no_of}
 use Rattle.binary.specs.Emits.{Emits, Wrote}
 use Rattle.syntax.specs.declared.TypeNo.{TypeNo}
-use Rattle.binary.specs.declared.Emitted.{Emitted}
-use Rattle.binary.specs.declared.Emitted.TheVariants as T
 use Rattle.type_table.specs.Table.{types_in, Recalled}
 use Rattle.scope.specs.Scope.{scope_in}
-use Rattle.scope.specs.Answers.{type_answer}
-use Rattle.scope.specs.declared.types.TypeAt.{TypeAt}
-use Rattle.scope.specs.declared.types.TypeAt.TheVariants as N
 use Rattle.syntax.specs.declared.Seen.{Seen}
 use Rattle.syntax.specs.declared.Own.{Own}
 use Rattle.syntax.specs.declared.Own.TheVariants as O
@@ -46,14 +44,9 @@ use Rattle.syntax.specs.declared.Entry.{Entry}
 use Rattle.syntax.specs.declared.Entry.TheVariants as E
 use Rattle.kept.specs.Sections.{SECTIONS}
 use Rattle.kept.specs.Parts.{start_of, part_in}
-use Rattle.kept.specs.Tally.{reached, Slots, Tallied, Ready, ChecksIn}
+use Rattle.kept.specs.Tally.{reached, tallied, Slots, Tallied, Ready, ChecksIn}
 use Rattle.resolve.specs.Func.{func_in, type_entry, code_entry, KeepsCode}
 use Rattle.kept.specs.declared.tally.Tally.{Tally}
-use Rattle.kept.specs.declared.tally.Verdict.{Verdict}
-use Rattle.kept.specs.declared.tally.Verdict.TheVariants as V'
-use Rattle.kept.specs.declared.tally.Checked.{Checked}
-use Rattle.resolve.specs.declared.func.FuncIn.{FuncIn}
-use Rattle.resolve.specs.declared.func.FuncIn.TheVariants as F
 use Rattle.kept.proofs.Keeping.{lent-here, lent-there, lent-long, reached-is, keeps-lent}
 use Rattle.kept.proofs.Emitting.{code_body}
 use Rattle.resolve.proofs.Checking.{tallied_one, checks_fine, checks_not, refused-one, refused-first, then_by}
@@ -91,7 +84,7 @@ module _ (s w : List ℕ) (r : ℕ) (t : TypeUse) (ls : Code.List) (here : ℕ) 
   own-head = h.head
 
 -- it was emitted into the part that was lent
-pub code-kept : (s w : List ℕ) (r : ℕ) (n : Syntax.TypeNo) (t : TypeUse) (ls : Code.List) (here : ℕ) (old : Bytes) (a b from : ℕ) (q : Emitted) (w' new : List ℕ)
+pub code-kept : (s w : List ℕ) (r : ℕ) (n : Syntax.TypeNo) (t : TypeUse) (ls : Code.List) (here : ℕ) (old : Bytes) (a b from : ℕ) (q : Resolved ℕ) (w' new : List ℕ)
     → EmitsTyped s w r n t ls here (take (b - a) (drop a old)) from q w' new → a ≡ start_of (length old) 10 → b ≡ start_of (length old) 11 → length new ≡ length (take (b - a) (drop a old))
     → KeepsCode s w r n t ls here old from q w' (put_mid a (b - a) old new)
 unfolding part_in
@@ -110,21 +103,19 @@ code_tallied a x old new from to v y f i o l =
     let p : Put (part_in old 10) from (code_of v.value ++ []) to (part_in new 10) = put_is v.put (sym (append-nil (code_of v.value))) in
     tallied_one x 10 to 1 (one_of code_of a) (code_of v.value ∷ []) old new (omega arith) y f (ap (one_of code_of) v.is) (rw i at p) refl o l
 
-module _ (s w : List ℕ) (r : ℕ) (n : Syntax.TypeNo) (t : TypeUse) (ls : Code.List) (here : ℕ) (old : Bytes) (from : ℕ) (q : Emitted) (w' new : List ℕ)
-    (h : KeepsCode s w r n t ls here old from q w' new) (x : Tally) where
-  pub code-fine : (to : ℕ) (x' : Tally) → q ≡ T.To to → Slots x → length old * 1 < 2 ^ 63 → from ≡ get_or x.sizes 10 0 → x' ≡ reached x 10 to 1
-      → ChecksIn (code_entry s w r n t ls here) x w old (record { tally = x'; verdict = V'.Fine }) w' new
+module _ (s w : List ℕ) (r : ℕ) (n : Syntax.TypeNo) (t : TypeUse) (ls : Code.List) (here : ℕ) (old : Bytes) (from : ℕ) (w' new : List ℕ) (x : Tally) where
+  pub code-fine : (to : ℕ) (x' : Tally) → KeepsCode s w r n t ls here old from (Ok to) w' new → Slots x → length old * 1 < 2 ^ 63 → from ≡ get_or x.sizes 10 0 → x' ≡ reached x 10 to 1
+      → ChecksIn (code_entry s w r n t ls here) x w old (Ok x') w' new
   unfolding Emits code_entry
-  code-fine to x' d y f i z =
-      rw z
-      (checks_fine _ x _ w w' old new (code_tallied (typed_answer s w r n t ls here) x old new from to (let g = h.part.emits in rw d at g) y f i h.there h.long)
-      (let g = h.part.area in rw d at g))
+  code-fine to x' h y f i z =
+      rw z (checks_fine _ x w w' old new _ (code_tallied (typed_answer s w r n t ls here) x old new from to h.part.emits y f i h.there h.long) h.part.area)
 
-  pub code_not : (z : Refusal) → q ≡ T.Refused z → ChecksIn (code_entry s w r n t ls here) x w old (record { tally = x; verdict = V'.Refused z }) w' new
+  pub code_not : (q : Resolved (Unit {0})) (z : Refusal) (x' : Tally) → KeepsCode s w r n t ls here old from (Err z) w' new → IsErr q → IsErrAnd q (λ e. e ≡ z)
+      → ChecksIn (code_entry s w r n t ls here) x w old (tallied q x') w' new
   unfolding Emits code_entry one_of
-  code_not z d =
-      let g : typed_answer s w r n t ls here ≡ refused_by z = (let i = h.part.emits in rw d at i) in
-      checks_not _ x x w w' old new z (refused-one 10 z (one_of code_of (typed_answer s w r n t ls here)) (rw g refl)) (let k = h.part.area in rw d at k) h.long
+  code_not q z x' h i j =
+      let g : typed_answer s w r n t ls here ≡ refused_by z = h.part.emits in
+      rw (handed q z i j) (checks_not _ x w w' old new z (refused-one 10 z (one_of code_of (typed_answer s w r n t ls here)) (rw g refl)) h.part.area h.long)
 
 -- ## Both
 
@@ -132,56 +123,36 @@ pub func_use : (s w : List ℕ) (r : ℕ) (t : TypeUse) → Ready s w r (E.Func 
 unfolding uses_of
 func_use s w r t h = h.recalled
 
-module _ (s w : List ℕ) (r : ℕ) (t : TypeUse) (q : TypeAt) (told : type_no (scope_in s w) r (use_of s t) ≡ type_answer q) where
+module _ (s w : List ℕ) (r : ℕ) (t : TypeUse) where
   -- the type has a number: the two entries by it
-  type-is : (n : TypeNo) → q ≡ N.To n → entry_in (scope_in s w) s r (E.Func t) ≡ type_entry (type_no_of n)
+  type-is : (n : TypeNo) → type_no (scope_in s w) r (use_of s t) ≡ ok (type_no_of n) → entry_in (scope_in s w) s r (E.Func t) ≡ type_entry (type_no_of n)
   unfolding entry_in answer_of type_entry
-  type-is n d = rw (told, d) refl
+  type-is n d = rw d refl
 
-  code_is : (n : TypeNo) (ls : Code.List) (here : ℕ) → q ≡ N.To n → entry_in (scope_in s w) s r (E.Code t ls here) ≡ code_entry s w r (type_no_of n) t ls here
+  code_is : (n : TypeNo) (ls : Code.List) (here : ℕ) → type_no (scope_in s w) r (use_of s t) ≡ ok (type_no_of n) → entry_in (scope_in s w) s r (E.Code t ls here) ≡ code_entry s w r (type_no_of n) t ls here
   unfolding entry_in answer_of code_entry resolve own_item func_field typed_answer ◌>>=◌ scope_in
-  code_is n ls here d = rw (told, d) refl
+  code_is n ls here d = rw d refl
 
-  pub func-both : (n : TypeNo) (ls : Code.List) (here : ℕ) (x x₁ x₂ : Tally) (old mid : Bytes) (z : Verdict) (w₂ : List ℕ) (new : Bytes) → q ≡ N.To n
-      → Tallied (type_entry (type_no_of n)) x old x₁ mid → ChecksIn (code_entry s w r (type_no_of n) t ls here) x₁ w mid (record { tally = x₂; verdict = z }) w₂ new
-      → ChecksIn (both (entry_in (scope_in s w) s r (E.Func t)) (entry_in (scope_in s w) s r (E.Code t ls here))) x w old (record { tally = x₂; verdict = z }) w₂ new
-  func-both n ls here x x₁ x₂ old mid z w₂ new d y h =
+  pub func-both : (n : TypeNo) (ls : Code.List) (here : ℕ) (x x₁ : Tally) (old mid : Bytes) (z : Resolved Tally) (w₂ : List ℕ) (new : Bytes) → type_no (scope_in s w) r (use_of s t) ≡ ok (type_no_of n)
+      → Tallied (type_entry (type_no_of n)) x old x₁ mid → ChecksIn (code_entry s w r (type_no_of n) t ls here) x₁ w mid z w₂ new
+      → ChecksIn (both (entry_in (scope_in s w) s r (E.Func t)) (entry_in (scope_in s w) s r (E.Code t ls here))) x w old z w₂ new
+  func-both n ls here x x₁ old mid z w₂ new d y h =
       rw (type-is n d, code_is n ls here d)
-      (then_by (type_entry (type_no_of n)) (code_entry s w r (type_no_of n) t ls here) x x₁ w old V'.Fine w mid (checks_fine _ x x₁ w w old mid y (kept_same LOCALS w)) x₂ z w₂ new refl h)
+      (then_by (type_entry (type_no_of n)) (code_entry s w r (type_no_of n) t ls here) x w old w mid x₁ z w₂ new (checks_fine _ x w w old mid x₁ y (kept_same LOCALS w)) h)
 
   -- it has none
-  no_type : (z : Refusal) → q ≡ N.Refused z → entry_in (scope_in s w) s r (E.Func t) ≡ refused_by z
+  no_type : (z : Refusal) → type_no (scope_in s w) r (use_of s t) ≡ refused_by z → entry_in (scope_in s w) s r (E.Func t) ≡ refused_by z
   unfolding entry_in answer_of one_of tagged
-  no_type z d = rw (told, d) refl
+  no_type z d = rw d refl
 
-  pub func_not : (z : Refusal) (b : Entry) (x : Tally) (old : Bytes) → q ≡ N.Refused z
-      → ChecksIn (both (entry_in (scope_in s w) s r (E.Func t)) (entry_in (scope_in s w) s r b)) x w old (record { tally = x; verdict = V'.Refused z }) w old
-  func_not z b x old d = checks_not _ x x w w old old z (refused-first _ _ z (no_type z d)) refl refl
+  pub func_not : (q : Resolved (Unit {0})) (z : Refusal) (b : Entry) (x x' : Tally) (old : Bytes) → type_no (scope_in s w) r (use_of s t) ≡ refused_by z → IsErr q → IsErrAnd q (λ e. e ≡ z)
+      → ChecksIn (both (entry_in (scope_in s w) s r (E.Func t)) (entry_in (scope_in s w) s r b)) x w old (tallied q x') w old
+  func_not q z b x x' old d i j = rw (handed q z i j) (checks_not _ x w w old old z (refused-first _ _ z (no_type z d)) refl refl)
 
 -- ## Which items are functions
 
--- a case at a time, as a match gives it
-pub own-func : (r : FuncIn) (x : Source) (o v : Own) → x ≡ S.Own o → o ≡ v → r ≡ func_in (S.Own v) → r ≡ func_in x
-own-func r x o v p q d = rw (p, q) d
-
--- the arms that are left: no other item is a function
-pub own-other : (x : Source) (o : Own) → x ≡ S.Own o → ((t : TypeUse) (ls : Code.List) → o ≡ O.Func t ls → ⊥) → F.Other ≡ func_in x
-own-other x o d h = rw d (go o h)
-  where
-    go : (o : Own) → ((t : TypeUse) (ls : Code.List) → o ≡ O.Func t ls → ⊥) → F.Other ≡ func_in (S.Own o)
-    go (O.Func t ls) h = absurd (h t ls refl)
-    go (O.Table t) h = refl
-    go (O.Mem l) h = refl
-    go (O.Global t c) h = refl
-
-pub source-other : (x : Source) → ((o : Own) → x ≡ S.Own o → ⊥) → F.Other ≡ func_in x
-source-other (S.Own o) h = absurd (h o refl)
-source-other (S.Imported n e) h = refl
-source-other (S.TableOf w xs) h = refl
-source-other (S.MemOf w b) h = refl
-
-func-is : (x : Source) (t : TypeUse) (ls : Code.List) → func_in x ≡ F.Func t ls → x ≡ S.Own (O.Func t ls)
-func-is (S.Own (O.Func u ms)) t ls d = let a : u ≡ t = cc in let b : ms ≡ ls = cc in rw (a, b) refl
+func-is : (x : Source) (t : TypeUse) (ls : Code.List) → func_in x ≡ Some (t, ls) → x ≡ S.Own (O.Func t ls)
+func-is (S.Own (O.Func a b)) t ls d = let p : ◌≡◌ {A = TypeUse × Code.List} (a, b) (t, ls) = cc in ap (λ (z : TypeUse × Code.List). S.Own (O.Func z.0 z.1)) p
 func-is (S.Own (O.Table u)) t ls d = let z : ◌≡◌ {A = ℕ} 0 1 = cc in absurd (omega arith)
 func-is (S.Own (O.Mem l)) t ls d = let z : ◌≡◌ {A = ℕ} 0 1 = cc in absurd (omega arith)
 func-is (S.Own (O.Global u c)) t ls d = let z : ◌≡◌ {A = ℕ} 0 1 = cc in absurd (omega arith)
@@ -191,14 +162,14 @@ func-is (S.MemOf w b) t ls d = let z : ◌≡◌ {A = ℕ} 0 1 = cc in absurd (o
 
 -- ## An item's entries beside its exports
 
-module _ (x : Source) (seen : Seen) (here : ℕ) (q : FuncIn) (told : q ≡ func_in x) (t : TypeUse) (ls : Code.List) (d : q ≡ F.Func t ls) where
+module _ (x : Source) (seen : Seen) (here : ℕ) (t : TypeUse) (ls : Code.List) (d : Some (t, ls) ≡ func_in x) where
   second_is : second_of x seen ≡ E.Func t
   unfolding second_of
-  second_is = rw (func-is x t ls (sym told ∙ d)) refl
+  second_is = rw (func-is x t ls (sym d)) refl
 
   third-is : third_of x here ≡ E.Code t ls here
   unfolding third_of
-  third-is = rw (func-is x t ls (sym told ∙ d)) refl
+  third-is = rw (func-is x t ls (sym d)) refl
 
   module _ (s w : List ℕ) (r : ℕ) where
     pub func-second : Ready s w r (second_of x seen) → Ready s w r (E.Func t)
@@ -208,7 +179,23 @@ module _ (x : Source) (seen : Seen) (here : ℕ) (q : FuncIn) (told : q ≡ func
     func-third h = rw third-is at h
 
     -- a function
-    pub item-func : (y : Tally) (old : Bytes) (z : Checked) (w' : List ℕ) (new : Bytes)
+    pub item-func : (y : Tally) (old : Bytes) (z : Resolved Tally) (w' : List ℕ) (new : Bytes)
         → ChecksIn (both (entry_in (scope_in s w) s r (E.Func t)) (entry_in (scope_in s w) s r (E.Code t ls here))) y w old z w' new
         → ChecksIn (both (entry_in (scope_in s w) s r (second_of x seen)) (entry_in (scope_in s w) s r (third_of x here))) y w old z w' new
     item-func y old z w' new h = rw (second_is, third-is) h
+
+-- no other item is a function
+pub own-other : (x : Source) (o : Own) → x ≡ S.Own o → ((t : TypeUse) (ls : Code.List) → o ≡ O.Func t ls → ⊥) → None ≡ func_in x
+own-other x o d h = rw d (go o h)
+  where
+    go : (o : Own) → ((t : TypeUse) (ls : Code.List) → o ≡ O.Func t ls → ⊥) → None ≡ func_in (S.Own o)
+    go (O.Func t ls) h = absurd (h t ls refl)
+    go (O.Table t) h = refl
+    go (O.Mem l) h = refl
+    go (O.Global t c) h = refl
+
+pub source-other : (x : Source) → ((o : Own) → x ≡ S.Own o → ⊥) → None ≡ func_in x
+source-other (S.Own o) h = absurd (h o refl)
+source-other (S.Imported n e) h = refl
+source-other (S.TableOf w xs) h = refl
+source-other (S.MemOf w b) h = refl

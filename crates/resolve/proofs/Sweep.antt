@@ -1,10 +1,13 @@
 -- The pass over all fields: each field's entries are checked and tallied, in stream order.
+use Rattle.std.specs.Prelude.{Ok, Err, Some, None, IsErrAnd}
+use Rattle.std.specs.Result.{IsErr}
+use Rattle.syntax.specs.Refusals.{Resolved, refused_by}
+use Rattle.syntax.proofs.Ways.{handed}
 use Prim.Native.Nat.{ℕ, ◌*◌, ◌^◌, ◌≤◌, ◌<◌}
 use mathlib.Core.Path.{◌≡◌, refl, sym, ◌∙◌, ap}
 use mathlib.Core.List.{List, [], ◌++◌, append_assoc, append-nil}
 use lib.ListN.{length}
 use native.Mathlib.Omega.{arith}
-use Rattle.syntax.specs.Refusals.{refused_by}
 use Rattle.definition.specs.Basic.{Answer, ok, fails, ◌>>=◌, each, concat_map}
 use Rattle.definition.specs.Syntax.{Bytes, Identifier}
 use Rattle.definition.specs.Types.{uses}
@@ -19,7 +22,6 @@ use Rattle.type_table.specs.Table.{types_in, Recalled}
 use Rattle.walk.specs.Walk.{begin, ReadableMet, visit_in, visit_of, fields_here, fields_ahead, fields_in, Ahead}
 use Rattle.walk.specs.declared.Cursor.{Cursor}
 use Rattle.walk.specs.declared.Met.{Met}
-use Rattle.walk.specs.declared.What.TheVariants as W
 use Rattle.walk.proofs.Steps.{visit_done, visit_fields, visit_whole, visit_ahead, ahead-kept, visit_func_few, visit_readable}
 use Rattle.laws.proofs.Uses.{uses-append}
 use Rattle.scope.specs.Scope.{scope_in}
@@ -27,14 +29,11 @@ use Rattle.scope.proofs.Frames.{scope_kept, recalled-left, recalled_right, recal
 use Rattle.deinline.specs.Entry.{Entries, entries_of, both, three, three_in}
 use Rattle.deinline.proofs.Fields.{entries-append, entries-here}
 use Rattle.deinline.proofs.Uses.{recalled-here, head-here, whole_here}
-use Rattle.kept.specs.Tally.{tallies, no_tally, tally_of, Slots, Keeps, Tallied, ReadyThree, ChecksIn}
+use Rattle.kept.specs.Tally.{tallies, tallied, no_tally, Keeps, Tallied, ReadyThree, ChecksIn}
 use Rattle.kept.specs.declared.tally.Tally.{Tally}
-use Rattle.kept.specs.declared.tally.Verdict.{Verdict}
-use Rattle.kept.specs.declared.tally.Verdict.TheVariants as V'
-use Rattle.kept.specs.declared.tally.Checked.{Checked}
-use Rattle.kept.proofs.Tallies.{tallies-append, tallies_slots}
+use Rattle.kept.proofs.Tallies.{tallies-append}
 use Rattle.kept.proofs.Keeping.{keeps-none, keeps_then}
-use Rattle.resolve.proofs.Checking.{was_fine, fine-kept, was_not, area-long, kept-long, checks_fine, checks_not}
+use Rattle.resolve.proofs.Checking.{was_fine, was_not, area-long, kept-long, checks_fine, checks_not}
 
 -- some entries before an answer's
 onto : (xs ys : Entries) (a b : Answer Entries) → a ≡ ok ys → both (ok xs) (both a b) ≡ both (ok (xs ++ ys)) b
@@ -85,9 +84,6 @@ sweep_begin s w old c t e d f a h =
       recalled = rw e h;
     }
 
-none_slots : Slots no_tally
-none_slots = record { sizes = refl; counts = refl }
-
 module _ (s w₀ w : List ℕ) (old mid : Bytes) (c : Cursor) (t₀ t : Tally) (v : Sweeping s w₀ w old mid c t₀ t) where
   pub sweep_long : WORDS ≤ length w₀ → WORDS ≤ length w
   sweep_long h = rw v.kept.long h
@@ -95,16 +91,13 @@ module _ (s w₀ w : List ℕ) (old mid : Bytes) (c : Cursor) (t₀ t : Tally) (
   pub sweep_ahead : Ahead s w c
   sweep_ahead = v.ahead
 
-  pub sweep_slots : Slots t
-  sweep_slots = rw v.tally (tallies_slots no_tally v.done none_slots)
-
   module _ (m : Met) (told : visit_in c.left c s ≡ visit_of s m) where
     -- no field is left
-    pub sweep_done : m.what ≡ W.Done → Tallied (entries_of (scope_in s w₀) (fields_in s)) no_tally old t mid
+    pub sweep_done : m.what ≡ None → Tallied (entries_of (scope_in s w₀) (fields_in s)) no_tally old t mid
     sweep_done is =
         record { entries = v.done; is = v.same ∙ rw (visit_done s c m told is, entries_none (scope_in s w₀)) (onto_nothing v.done); tally = v.tally; keeps = v.keeps }
 
-    module _ (f : Code.Field) (here : ℕ) (is : m.what ≡ W.Field f here) where
+    module _ (f : Code.Field) (here : ℕ) (is : m.what ≡ Some (f, here)) where
       fields : entries_of (scope_in s w₀) (fields_ahead c s) ≡ both (three_in (scope_in s w) s c.rec (three f c.seen here)) (entries_of (scope_in s w₀) (fields_ahead m.next s))
       fields =
           let k : scope_in s w ≡ scope_in s w₀ = scope_kept s w₀ w v.kept in
@@ -131,11 +124,10 @@ module _ (s w₀ w : List ℕ) (old mid : Bytes) (c : Cursor) (t₀ t : Tally) (
           }
 
       -- one that is fine
-      pub sweep_again : (t' : Tally) (r : Verdict) (w' : List ℕ) (new : Bytes) → ChecksIn (three_in (scope_in s w) s c.rec (three f c.seen here)) t w mid (record { tally = t'; verdict = r }) w' new → r ≡ V'.Fine
-          → Sweeping s w₀ w' old new m.next t₀ t'
-      sweep_again t' r w' new h e =
-          let y = was_fine h e in
-          let k = fine-kept h e in
+      pub sweep_again : (t' : Tally) (w' : List ℕ) (new : Bytes) → ChecksIn (three_in (scope_in s w) s c.rec (three f c.seen here)) t w mid (Ok t') w' new → Sweeping s w₀ w' old new m.next t₀ t'
+      sweep_again t' w' new h =
+          let y = was_fine _ t w w' mid new t' h in
+          let k : Kept LOCALS w w' = h.area in
           record {
             start = v.start;
             done = v.done ++ y.entries;
@@ -152,30 +144,23 @@ module _ (s w₀ w : List ℕ) (old mid : Bytes) (c : Cursor) (t₀ t : Tally) (
       sweep_stops q e = v.same ∙ rw fields (onto_not v.done q (three_in (scope_in s w) s c.rec (three f c.seen here)) (entries_of (scope_in s w₀) (fields_ahead m.next s)) e)
 
   -- what was written is as long as it was
-  module _ (a : Answer Entries) (q : Checked) (w' : List ℕ) (new : Bytes) (h : ChecksIn a t w mid q w' new) where
+  module _ (a : Answer Entries) (q : Resolved Tally) (w' : List ℕ) (new : Bytes) (h : ChecksIn a t w mid q w' new) where
     pub sweep_length : length w' ≡ length w₀
-    sweep_length = area-long h ∙ v.kept.long
+    sweep_length = area-long a t w w' mid new q h ∙ v.kept.long
 
     pub sweep_bytes : length new ≡ length old
-    sweep_bytes = kept-long h ∙ v.keeps.long
-
--- the slices are as long as they were
-module _ (s w₀ w : List ℕ) (old mid : Bytes) (c : Cursor) (sizes₀ counts₀ sizes counts : List ℕ) (v : Sweeping s w₀ w old mid c (tally_of sizes₀ counts₀) (tally_of sizes counts)) (l : List ℕ) where
-  pub sweep_sizes : length l ≡ length sizes → length l ≡ length sizes₀
-  sweep_sizes d = d ∙ (sweep_slots s w₀ w old mid c (tally_of sizes₀ counts₀) (tally_of sizes counts) v).sizes ∙ sym (ap (λ (t : Tally). length t.sizes) v.start)
-
-  pub sweep_counts : length l ≡ length counts → length l ≡ length counts₀
-  sweep_counts d = d ∙ (sweep_slots s w₀ w old mid c (tally_of sizes₀ counts₀) (tally_of sizes counts) v).counts ∙ sym (ap (λ (t : Tally). length t.counts) v.start)
+    sweep_bytes = kept-long a t w w' mid new q h ∙ v.keeps.long
 
 -- ## What the code answers
 
 module _ (s w₀ w : List ℕ) (old mid : Bytes) (c : Cursor) (t₀ t : Tally) (v : Sweeping s w₀ w old mid c t₀ t) (m : Met) (told : visit_in c.left c s ≡ visit_of s m) where
-  pub swept : m.what ≡ W.Done → ChecksIn (entries_of (scope_in s w₀) (fields_in s)) no_tally w₀ old (record { tally = t; verdict = V'.Fine }) w mid
-  swept is = checks_fine _ no_tally t w₀ w old mid (sweep_done s w₀ w old mid c t₀ t v m told is) v.kept
+  pub swept : m.what ≡ None → ChecksIn (entries_of (scope_in s w₀) (fields_in s)) no_tally w₀ old (Ok t) w mid
+  swept is = checks_fine _ no_tally w₀ w old mid t (sweep_done s w₀ w old mid c t₀ t v m told is) v.kept
 
-  pub stopped : (a : Answer Entries) (q : Checked) (w' : List ℕ) (new : Bytes) (f : Code.Field) (here : ℕ) (k : Refusal) (t' : Tally) → ChecksIn a t w mid q w' new → m.what ≡ W.Field f here
-      → a ≡ three_in (scope_in s w) s c.rec (three f c.seen here) → q.verdict ≡ V'.Refused k
-      → ChecksIn (entries_of (scope_in s w₀) (fields_in s)) no_tally w₀ old (record { tally = t'; verdict = V'.Refused k }) w' new
-  stopped a q w' new f here k t' h is g e =
-      checks_not _ no_tally t' w₀ w' old new k (sweep_stops s w₀ w old mid c t₀ t v m told f here is k (sym g ∙ was_not h k e)) (sweep_length s w₀ w old mid c t₀ t v a q w' new h)
-      (sweep_bytes s w₀ w old mid c t₀ t v a q w' new h)
+  pub stopped : (a : Answer Entries) (q : Resolved (Unit {0})) (w' : List ℕ) (new : Bytes) (f : Code.Field) (here : ℕ) (k : Refusal) (t' : Tally) → ChecksIn a t w mid (Err k) w' new → m.what ≡ Some (f, here)
+      → a ≡ three_in (scope_in s w) s c.rec (three f c.seen here) → IsErr q → IsErrAnd q (λ e. e ≡ k)
+      → ChecksIn (entries_of (scope_in s w₀) (fields_in s)) no_tally w₀ old (tallied q t') w' new
+  stopped a q w' new f here k t' h is g i j =
+      rw (handed q k i j)
+      (checks_not _ no_tally w₀ w' old new k (sweep_stops s w₀ w old mid c t₀ t v m told f here is k (sym g ∙ (was_not a t w w' mid new k h).is))
+      (sweep_length s w₀ w old mid c t₀ t v a (Err k) w' new h) (sweep_bytes s w₀ w old mid c t₀ t v a (Err k) w' new h))

@@ -5,31 +5,23 @@ ghost use Rattle.syntax.specs.Resolved.{type_no_of};
 ghost use Rattle.scope.specs.Scope.{scope_in};
 ghost use Rattle.deinline.specs.Entry.{both, entry_in};
 ghost use Rattle.syntax.specs.declared.Entry.TheVariants as E;
-ghost use Rattle.kept.specs.Tally.{Slots, Ready, Tallied, ChecksIn, tally_of, checked_of};
+ghost use Rattle.kept.specs.Tally.{Ready, Tallied, ChecksIn, tallied};
 ghost use Rattle.resolve.specs.Func.{func_in, type_entry, code_entry, KeepsCode};
 
-use binary::Emitted;
 use deinline::section;
-use kept::Verdict;
-use scope::TypeAt;
-use syntax::{List, Own, Source, TypeNo, TypeUse};
+use kept::Tally;
+use syntax::{List, Own, Resolved, Source, TypeNo, TypeUse};
 
-// An own function, or any other item.
-#[derive(Clone, Copy)]
-pub enum FuncIn {
-    Func(TypeUse, List),
-    Other,
-}
-
-pub fn func_in(x: Source) -> FuncIn
+#[tactic(auto, unfolding(crate::specs::Func::func_in))]
+pub fn func_in(x: Source) -> Option<(TypeUse, List)>
     ensures { result ≡ func_in x }
 {
     match x {
         Source::Own(o) => match o {
-            Own::Func(t, ls) => FuncIn::Func(t, ls),
-            _ => FuncIn::Other,
+            Own::Func(t, ls) => Some((t, ls)),
+            _ => None,
         },
-        _ => FuncIn::Other,
+        _ => None,
     }
 }
 
@@ -43,15 +35,14 @@ pub struct Func {
 }
 
 // The number of its type, in the function section's part.
-fn keep_type_no(kept: &mut [u8], sizes: &mut [u64], counts: &mut [u64], n: TypeNo)
-    requires { Slots (tally_of sizes.old counts.old) }
-    ensures { Tallied (type_entry (type_no_of n)) (tally_of sizes.old counts.old) kept.old (tally_of sizes.new counts.new) kept.new }
+fn keep_type_no(kept: &mut [u8], tally: &mut Tally, n: TypeNo)
+    ensures { Tallied (type_entry (type_no_of n)) tally.old kept.old tally.new kept.new }
 {
-    let from = sizes[section::FUNC as usize] as usize;
+    let from = tally.sizes[section::FUNC as usize] as usize;
     let a = kept::start_of(kept.len(), section::FUNC);
     let b = kept::start_of(kept.len(), section::TABLE);
     let to = binary::put_type_no(&mut kept[a..b], from, n);
-    kept::reach_in(sizes, counts, section::FUNC, to, 1);
+    tally.reach(section::FUNC, to, 1);
 }
 
 // Its code, in the code section's part, after the bytes that are there; the number of its type is known.
@@ -62,7 +53,7 @@ fn keep_code(
     from: usize,
     n: TypeNo,
     f: Func,
-) -> Emitted
+) -> Resolved<usize>
     requires { At s.now work.old f.rec × Ready s.now work.old f.rec (E.Code f.ty f.locals f.body) }
     ensures { KeepsCode s.now work.old f.rec (type_no_of n) f.ty f.locals f.body kept.old from result work.new kept.new }
 {
@@ -78,22 +69,17 @@ fn check_code(
     s: &[u8],
     work: &mut [u32],
     kept: &mut [u8],
-    sizes: &mut [u64],
-    counts: &mut [u64],
+    tally: &mut Tally,
     n: TypeNo,
     f: Func,
-) -> Verdict
-    requires { At s.now work.old f.rec × Ready s.now work.old f.rec (E.Code f.ty f.locals f.body) × Slots (tally_of sizes.old counts.old) }
-    ensures { ChecksIn (code_entry s.now work.old f.rec (type_no_of n) f.ty f.locals f.body) (tally_of sizes.old counts.old) work.old kept.old (checked_of sizes.new counts.new result) work.new kept.new }
+) -> Resolved<()>
+    requires { At s.now work.old f.rec × Ready s.now work.old f.rec (E.Code f.ty f.locals f.body) }
+    ensures { ChecksIn (code_entry s.now work.old f.rec (type_no_of n) f.ty f.locals f.body) tally.old work.old kept.old (tallied result tally.new) work.new kept.new }
 {
-    let from = sizes[section::CODE as usize] as usize;
-    match keep_code(s, work, kept, from, n, f) {
-        Emitted::To(to) => {
-            kept::reach_in(sizes, counts, section::CODE, to, 1);
-            Verdict::Fine
-        }
-        Emitted::Refused(q) => Verdict::Refused(q),
-    }
+    let from = tally.sizes[section::CODE as usize] as usize;
+    let to = keep_code(s, work, kept, from, n, f)?;
+    tally.reach(section::CODE, to, 1);
+    Ok(())
 }
 
 // Both.
@@ -101,19 +87,14 @@ pub fn check_func(
     s: &[u8],
     work: &mut [u32],
     kept: &mut [u8],
-    sizes: &mut [u64],
-    counts: &mut [u64],
+    tally: &mut Tally,
     f: Func,
-) -> Verdict
-    requires { At s.now work.old f.rec × Ready s.now work.old f.rec (E.Func f.ty) × Ready s.now work.old f.rec (E.Code f.ty f.locals f.body) × Slots (tally_of sizes.old counts.old) }
-    ensures { ChecksIn (both (entry_in (scope_in s.now work.old) s.now f.rec (E.Func f.ty)) (entry_in (scope_in s.now work.old) s.now f.rec (E.Code f.ty f.locals f.body))) (tally_of sizes.old counts.old) work.old kept.old (checked_of sizes.new counts.new result) work.new kept.new }
+) -> Resolved<()>
+    requires { At s.now work.old f.rec × Ready s.now work.old f.rec (E.Func f.ty) × Ready s.now work.old f.rec (E.Code f.ty f.locals f.body) }
+    ensures { ChecksIn (both (entry_in (scope_in s.now work.old) s.now f.rec (E.Func f.ty)) (entry_in (scope_in s.now work.old) s.now f.rec (E.Code f.ty f.locals f.body))) tally.old work.old kept.old (tallied result tally.new) work.new kept.new }
 {
     let ty = f.ty;
-    match scope::type_no(s, work, ty, f.rec) {
-        TypeAt::To(n) => {
-            keep_type_no(kept, sizes, counts, n);
-            check_code(s, work, kept, sizes, counts, n, f)
-        }
-        TypeAt::Refused(q) => Verdict::Refused(q),
-    }
+    let n = scope::type_no(s, work, ty, f.rec)?;
+    keep_type_no(kept, tally, n);
+    check_code(s, work, kept, tally, n, f)
 }

@@ -1,4 +1,6 @@
 -- Runs of equal locals. The definition joins them from the right; the loops go from the left, with a run that is pending.
+use Rattle.std.specs.Prelude.{Ok, Err, Option, Some, None}
+use Rattle.syntax.specs.Reads.{Read}
 use Rattle.std.specs.Prelude.{if◌then◌else◌}
 use Prim.Native.Nat.{ℕ, zero, suc, ◌+◌, ◌-◌, ◌≤◌, ◌<◌}
 use mathlib.Core.Path.{◌≡◌, refl, sym, ◌∙◌, ap}
@@ -17,15 +19,12 @@ use Rattle.emit.specs.Put.{Put}
 use Rattle.laws.specs.Steps.{stops}
 use Rattle.token.specs.Known.{Gets}
 use Rattle.syntax.specs.TypeUses.{local_at, elements}
+use Rattle.syntax.specs.declared.Fault.{Fault}
 use Rattle.syntax.specs.declared.Local.{Local}
-use Rattle.syntax.specs.declared.LocalAt.{LocalAt}
-use Rattle.syntax.specs.declared.LocalAt.TheVariants as OA
 use Rattle.typeuse.proofs.Gets.{know_begin, know_local, know_again}
 use Rattle.binary.proofs.Putting.{Putting, putting_more, putting_done}
 use Rattle.runs.specs.Locals.{local_types, RunIs, FirstRun, RunAtIs}
 use Rattle.runs.specs.declared.Run.{Run}
-use Rattle.runs.specs.declared.RunAt.{RunAt}
-use Rattle.runs.specs.declared.RunAt.TheVariants as R
 
 -- ## A run that is pending
 
@@ -65,9 +64,9 @@ types-none : (s : Bytes) (at n : ℕ) → n ≡ 0 → local_types s at n ≡ []
 unfolding elements
 types-none s at n e = rw e
 
-module _ (s : Bytes) (at n : ℕ) (q : LocalAt) (told : param s at ≡ local_at s q) where
+module _ (s : Bytes) (at n : ℕ) (q : Read Local) (told : param s at ≡ local_at s q) where
   -- one, and the others
-  types_cons : (l : Local) (next : ℕ) → 0 < n → q ≡ OA.Got l next → local_types s at n ≡ l.value ∷ local_types s next (n - 1)
+  types_cons : (l : Local) (next : ℕ) → 0 < n → q ≡ Ok (l, next) → local_types s at n ≡ l.value ∷ local_types s next (n - 1)
   unfolding elements
   types_cons l next h d = go n h
     where
@@ -76,7 +75,7 @@ module _ (s : Bytes) (at n : ℕ) (q : LocalAt) (told : param s at ≡ local_at 
       go (suc k) h = let e : suc k - 1 ≡ k = omega arith in rw (e, told, d)
 
   -- none where none is read
-  types-fault : (k : ℕ) → q ≡ OA.Fault k → local_types s at n ≡ []
+  types-fault : (k : Fault) → q ≡ Err k → local_types s at n ≡ []
   unfolding elements
   types-fault k d = go n
     where
@@ -89,7 +88,7 @@ pub first-readable : (s : Bytes) (at n : ℕ) → Gets (many n param s at) → 0
 first-readable s at n g h = know_local n s at n at (know_begin param n s at g) h
 
 -- and those after it
-pub rest-readable : (s : Bytes) (at n : ℕ) → Gets (many n param s at) → (q : LocalAt) → param s at ≡ local_at s q → (l : Local) (next : ℕ) → 0 < n → q ≡ OA.Got l next
+pub rest-readable : (s : Bytes) (at n : ℕ) → Gets (many n param s at) → (q : Read Local) → param s at ≡ local_at s q → (l : Local) (next : ℕ) → 0 < n → q ≡ Ok (l, next)
     → Gets (many (n - 1) param s next)
 rest-readable s at n g q told l next h d = (know_again n s at n at param (know_begin param n s at g) h next (ap stops (told ∙ ap (local_at s) d))).gets
 
@@ -122,11 +121,11 @@ module _ {s : Bytes} {at count value n here left : ℕ} (v : Running s at count 
   pub run-done : left ≤ 0 → Ended
   run-done h = none_left (types-none s here left (omega arith))
 
-  module _ (q : LocalAt) (told : param s here ≡ local_at s q) where
-    pub run-fault : (k : ℕ) → q ≡ OA.Fault k → Ended
+  module _ (q : Read Local) (told : param s here ≡ local_at s q) where
+    pub run-fault : (k : Fault) → q ≡ Err k → Ended
     run-fault k d = none_left (types-fault s here left q told k d)
 
-    module _ (l : Local) (next : ℕ) (h : 0 < left) (d : q ≡ OA.Got l next) where
+    module _ (l : Local) (next : ℕ) (h : 0 < left) (d : q ≡ Ok (l, next)) where
       -- a local of another type
       pub run-other : (l.value ≡ value → ⊥) → Ended
       unfolding runs
@@ -141,7 +140,7 @@ module _ {s : Bytes} {at count value n here left : ℕ} (v : Running s at count 
 
 -- ## `run_at`
 
-pub no_locals_lem : (s : Bytes) (at count : ℕ) → count ≡ 0 → RunAtIs s at count R.Nothing
+pub no_locals_lem : (s : Bytes) (at count : ℕ) → count ≡ 0 → RunAtIs s at count None
 unfolding RunAtIs runs
 no_locals_lem s at count e = ap runs (types-none s at count e)
 
@@ -149,36 +148,36 @@ no_locals_lem s at count e = ap runs (types-none s at count e)
 pub run-one : (s : Bytes) (at count : ℕ) → (count ≡ 0 → ⊥) → Gets (many count param s at) → Gets (param s at)
 run-one s at count h g = first-readable s at count g (omega arith)
 
-module _ (s : Bytes) (at count : ℕ) (q : LocalAt) (told : param s at ≡ local_at s q) where
-  pub no_local : (k : ℕ) → q ≡ OA.Fault k → RunAtIs s at count R.Nothing
+module _ (s : Bytes) (at count : ℕ) (q : Read Local) (told : param s at ≡ local_at s q) where
+  pub no_local : (k : Fault) → q ≡ Err k → RunAtIs s at count None
   unfolding RunAtIs runs
   no_local k d = ap runs (types-fault s at count q told k d)
 
   -- and the others
-  pub run-after : (l : Local) (next : ℕ) → (count ≡ 0 → ⊥) → q ≡ OA.Got l next → Gets (many count param s at) → Gets (many (count - 1) param s next)
+  pub run-after : (l : Local) (next : ℕ) → (count ≡ 0 → ⊥) → q ≡ Ok (l, next) → Gets (many count param s at) → Gets (many (count - 1) param s next)
   run-after l next h d g = rest-readable s at count g q told l next (omega arith) d
 
-  pub first_run : (l : Local) (next : ℕ) (r : Run) → (count ≡ 0 → ⊥) → q ≡ OA.Got l next → RunIs s next (count - 1) l.value r → RunAtIs s at count (R.Got r)
+  pub first_run : (l : Local) (next : ℕ) (r : Run) → (count ≡ 0 → ⊥) → q ≡ Ok (l, next) → RunIs s next (count - 1) l.value r → RunAtIs s at count (Some r)
   unfolding RunAtIs
   first_run l next r h d v = record { first = ap runs (types_cons s at count q told l next (omega arith) d) ∙ v.first; fewer = omega (arith, v.fewer); readable = v.readable }
 
 pub ruleset run-ats = (no_locals_lem, no_local, first_run)
 
 -- fewer locals are left
-pub run-fewer : (s : Bytes) (at count : ℕ) (q : RunAt) (r : Run) → RunAtIs s at count q → q ≡ R.Got r → r.left < count
+pub run-fewer : (s : Bytes) (at count : ℕ) (q : Option Run) (r : Run) → RunAtIs s at count q → q ≡ Some r → r.left < count
 unfolding RunAtIs
 run-fewer s at count q r w d = (let v : FirstRun s at count r = rw d at w in v.fewer)
 
 -- what is left can be read
-run-left : (s : Bytes) (at count : ℕ) (q : RunAt) (r : Run) → RunAtIs s at count q → q ≡ R.Got r → Gets (many r.left param s r.next)
+run-left : (s : Bytes) (at count : ℕ) (q : Option Run) (r : Run) → RunAtIs s at count q → q ≡ Some r → Gets (many r.left param s r.next)
 unfolding RunAtIs
 run-left s at count q r w d = (let v : FirstRun s at count r = rw d at w in v.readable)
 
-run-first : (s : Bytes) (at count : ℕ) (q : RunAt) (r : Run) → RunAtIs s at count q → q ≡ R.Got r → runs (local_types s at count) ≡ (r.count, r.value) ∷ runs (local_types s r.next r.left)
+run-first : (s : Bytes) (at count : ℕ) (q : Option Run) (r : Run) → RunAtIs s at count q → q ≡ Some r → runs (local_types s at count) ≡ (r.count, r.value) ∷ runs (local_types s r.next r.left)
 unfolding RunAtIs
 run-first s at count q r w d = (let v : FirstRun s at count r = rw d at w in v.first)
 
-run-nothing : (s : Bytes) (at count : ℕ) (q : RunAt) → RunAtIs s at count q → q ≡ R.Nothing → runs (local_types s at count) ≡ []
+run-nothing : (s : Bytes) (at count : ℕ) (q : Option Run) → RunAtIs s at count q → q ≡ None → runs (local_types s at count) ≡ []
 unfolding RunAtIs
 run-nothing s at count q w d = rw d at w
 
@@ -198,7 +197,7 @@ pub count-begin : (s : Bytes) (at count : ℕ) → Gets (many count param s at) 
 count-begin s at count g = record { few = omega arith; same = omega arith; readable = g }
 
 module _ {s : Bytes} {at count n here left : ℕ} (v : Counting s at count n here left) where
-  pub count_again : (q : RunAt) (r : Run) → RunAtIs s here left q → q ≡ R.Got r → Counting s at count (n + 1) r.next r.left
+  pub count_again : (q : Option Run) (r : Run) → RunAtIs s here left q → q ≡ Some r → Counting s at count (n + 1) r.next r.left
   count_again q r w d = record {
     few = omega (arith, v.few, run-fewer s here left q r w d);
     same = v.same ∙ (let e : runs (local_types s here left) ≡ (r.count, r.value) ∷ runs (local_types s r.next r.left) = run-first s here left q r w d in rw e (omega arith));
@@ -211,7 +210,7 @@ module _ {s : Bytes} {at count n here left : ℕ} (v : Counting s at count n her
   pub count-few : n ≤ count
   count-few = omega (arith, v.few)
 
-  pub count-nothing : (q : RunAt) → RunAtIs s here left q → q ≡ R.Nothing → n ≡ length (runs (local_types s at count))
+  pub count-nothing : (q : Option Run) → RunAtIs s here left q → q ≡ None → n ≡ length (runs (local_types s at count))
   count-nothing q w d = (let e : runs (local_types s here left) ≡ [] = run-nothing s here left q w d in omega (arith, rw e at v.same))
 
   pub count-done : left ≤ 0 → n ≡ length (runs (local_types s at count))
@@ -221,7 +220,7 @@ module _ {s : Bytes} {at count n here left : ℕ} (v : Counting s at count n her
 
 -- some runs are put, and those of the locals that are left are not
 module _ (s : Bytes) (here left : ℕ) {old : Bytes} {place : ℕ} {all : Bytes} {o : ℕ} {out : Bytes} (v : Putting old place all (concat_map run (runs (local_types s here left))) o out) where
-  pub put_again_lem : (q : RunAt) (r : Run) (p : ℕ) (new : Bytes) → RunAtIs s here left q → q ≡ R.Got r → Put out o (run (r.count, r.value)) p new → Putting old place all (concat_map run (runs (local_types s r.next r.left))) p new
+  pub put_again_lem : (q : Option Run) (r : Run) (p : ℕ) (new : Bytes) → RunAtIs s here left q → q ≡ Some r → Put out o (run (r.count, r.value)) p new → Putting old place all (concat_map run (runs (local_types s r.next r.left))) p new
   unfolding concat_map
   put_again_lem q r p new w d x = putting_more v (run (r.count, r.value)) (concat_map run (runs (local_types s r.next r.left))) p new (ap (λ z. concat_map run z) (run-first s here left q r w d)) x
 
@@ -229,7 +228,7 @@ module _ (s : Bytes) (here left : ℕ) {old : Bytes} {place : ℕ} {all : Bytes}
   unfolding concat_map
   none_to_put e = putting_done v (ap (λ z. concat_map run z) e)
 
-  pub put-nothing : (q : RunAt) → RunAtIs s here left q → q ≡ R.Nothing → Put old place all o out
+  pub put-nothing : (q : Option Run) → RunAtIs s here left q → q ≡ None → Put old place all o out
   put-nothing q w d = none_to_put (run-nothing s here left q w d)
 
   pub put-done : left ≤ 0 → Put old place all o out

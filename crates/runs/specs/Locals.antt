@@ -1,5 +1,5 @@
 -- The locals of a function, as the stream has them, and their first run.
-use Rattle.std.specs.Prelude.{ℕ, ◌<◌, ◌≤◌, ◌≡◌, List, [], ◌∷◌, map}
+use Rattle.std.specs.Prelude.{Option, Some, None, ℕ, ◌<◌, ◌≤◌, ◌≡◌, List, [], ◌∷◌, map}
 use Rattle.definition.specs.Syntax.{Bytes, ValType}
 use Rattle.definition.specs.Reader.{many}
 use Rattle.definition.specs.Token.{param}
@@ -7,8 +7,6 @@ use Rattle.definition.specs.Binary.{runs}
 use Rattle.token.specs.Known.{Gets}
 use Rattle.syntax.specs.TypeUses.{elements}
 use Rattle.runs.specs.declared.Run.{Run}
-use Rattle.runs.specs.declared.RunAt.{RunAt}
-use Rattle.runs.specs.declared.RunAt.TheVariants as R
 
 -- the types of so many locals
 abbrev pub local_types : Bytes → ℕ → ℕ → List ValType
@@ -26,6 +24,6 @@ pub record FirstRun (s : Bytes) (at count : ℕ) (r : Run) : Type 0 where
   pub fewer : r.left < count
   pub readable : Gets (many r.left param s r.next)
 
-unfoldable pub RunAtIs : Bytes → ℕ → ℕ → RunAt → Type 0
-RunAtIs s at count (R.Got r) = FirstRun s at count r
-RunAtIs s at count R.Nothing = runs (local_types s at count) ≡ []
+unfoldable pub RunAtIs : Bytes → ℕ → ℕ → Option Run → Type 0
+RunAtIs s at count (Some r) = FirstRun s at count r
+RunAtIs s at count None = runs (local_types s at count) ≡ []

@@ -11,7 +11,7 @@ ghost use Rattle.token.specs.Known.{Gets};
 ghost use Rattle.typeuse.specs.Known.{Readable};
 ghost use Rattle.runs.specs.Locals.{local_types, RunIs, RunAtIs};
 
-use syntax::{List, LocalAt};
+use syntax::List;
 
 // So many locals of one type, the place after them, and how many locals there still are.
 #[derive(Clone, Copy)]
@@ -20,12 +20,6 @@ pub struct Run {
     pub value: u8,
     pub next: usize,
     pub left: u32,
-}
-
-#[derive(Clone, Copy)]
-pub enum RunAt {
-    Got(Run),
-    Nothing,
 }
 
 // The run of a local of type `value`, which stands before the locals here.
@@ -38,7 +32,7 @@ fn run_from(s: &[u8], at: usize, count: u32, value: u8) -> Run
     let mut left = count;
     while 0 < left {
         match typeuse::known_local(s, here) {
-            LocalAt::Got(l, next) => {
+            Ok((l, next)) => {
                 if l.value != value {
                     return Run {
                         count: n,
@@ -49,7 +43,7 @@ fn run_from(s: &[u8], at: usize, count: u32, value: u8) -> Run
                 }
                 here = next;
             }
-            LocalAt::Fault(_) => {
+            Err(_) => {
                 return Run {
                     count: n,
                     value,
@@ -70,16 +64,16 @@ fn run_from(s: &[u8], at: usize, count: u32, value: u8) -> Run
 }
 
 // The first run of the locals here.
-fn run_at(s: &[u8], at: usize, count: u32) -> RunAt
+fn run_at(s: &[u8], at: usize, count: u32) -> Option<Run>
     requires { Gets (many count Token.param s.now at) }
     ensures { RunAtIs s.now at count result }
 {
     if count == 0 {
-        return RunAt::Nothing;
+        return None;
     }
     match typeuse::known_local(s, at) {
-        LocalAt::Got(l, next) => RunAt::Got(run_from(s, next, count - 1, l.value)),
-        LocalAt::Fault(_) => RunAt::Nothing,
+        Ok((l, next)) => Some(run_from(s, next, count - 1, l.value)),
+        Err(_) => None,
     }
 }
 
@@ -92,12 +86,12 @@ pub fn count_runs(s: &[u8], ls: List) -> u64
     let mut left = ls.count;
     while 0 < left {
         match run_at(s, here, left) {
-            RunAt::Got(r) => {
+            Some(r) => {
                 n += 1;
                 here = r.next;
                 left = r.left;
             }
-            RunAt::Nothing => {
+            None => {
                 return n;
             }
         }
@@ -130,13 +124,13 @@ fn put_each_run(s: &[u8], out: &mut [u8], at: usize, ls: List) -> Runs
     let mut left = ls.count;
     while 0 < left {
         match run_at(s, here, left) {
-            RunAt::Got(r) => {
+            Some(r) => {
                 o = put_run(out, o, r);
                 n += 1;
                 here = r.next;
                 left = r.left;
             }
-            RunAt::Nothing => {
+            None => {
                 return Runs { count: n, next: o };
             }
         }

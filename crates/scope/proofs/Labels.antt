@@ -6,17 +6,17 @@ use mathlib.Core.List.{List, ◌∷◌}
 use lib.ListN.{length}
 use borrow.Author.Tests.{eq-eqb, ne_eqb}
 use native.Mathlib.Omega.{arith}
-use Rattle.definition.specs.Basic.{ok, ◌>>=◌, same_bytes}
-use Rattle.definition.specs.Syntax.{Identifier, Index}
+use Rattle.definition.specs.Basic.{Answer, ok, ◌>>=◌, same_bytes}
+use Rattle.definition.specs.Syntax.{Identifier, Index, Depth}
 use Rattle.definition.specs.Names.{carries, number_in, depth_of, closes}
 use Rattle.syntax.specs.Refusals.{refusal, refused_by}
 use Rattle.syntax.specs.declared.Refusal.{Refusal}
+use Rattle.syntax.specs.declared.Fault.TheVariants as F
+use Rattle.syntax.proofs.Ways.{refusal_handed}
 use Rattle.area.specs.Layout.{LABELS, WORDS}
 use Rattle.syntax.specs.Tokens.{part_of, id_of}
 use Rattle.syntax.specs.declared.Part.{Part}
-use Rattle.name_table.specs.Area.{entry, labels, resolved}
-use Rattle.name_table.specs.declared.table.Resolved.{Resolved}
-use Rattle.name_table.specs.declared.table.Resolved.TheVariants as R
+use Rattle.name_table.specs.Area.{entry, labels}
 use Rattle.scope.specs.Scope.{scope_in, labels_in}
 use Rattle.area.specs.Flags.{strict_in}
 use Rattle.name_table.proofs.Walk.{labels_length}
@@ -30,16 +30,16 @@ label-entry w k h l = omega arith
 
 -- ## Depths
 
-module _ (s w : List ℕ) (k r : ℕ) (x : Index Identifier) (q : Resolved) (told : number_in (strict_in w) same_bytes (labels k s w LABELS) (k + 1) r x ≡ resolved q) where
-  pub depth_to : (n : ℕ) → q ≡ R.To n → depth_of (scope_in s w) (labels_in s w k) r x ≡ ok (record { depth = n })
+module _ (s w : List ℕ) (k r : ℕ) (x : Index Identifier) where
+  pub depth_to : (n : ℕ) → number_in (strict_in w) same_bytes (labels k s w LABELS) (k + 1) r x ≡ ok n → depth_of (scope_in s w) (labels_in s w k) r x ≡ ok (record { depth = n })
   unfolding depth_of scope_in labels_in ◌>>=◌
-  depth_to n e = rw (labels_length k s w LABELS, told, e)
+  depth_to n e = rw (labels_length k s w LABELS, e)
 
-  pub depth-refused : (z : Refusal) → q ≡ R.Refused z → depth_of (scope_in s w) (labels_in s w k) r x ≡ refused_by z
+  pub depth-refused : (z : Refusal) (a : Answer Depth) → number_in (strict_in w) same_bytes (labels k s w LABELS) (k + 1) r x ≡ refused_by z → refused_by z ≡ a → depth_of (scope_in s w) (labels_in s w k) r x ≡ a
   unfolding depth_of scope_in labels_in ◌>>=◌
-  depth-refused z e = rw (labels_length k s w LABELS, told, e)
+  depth-refused z a e h = rw (labels_length k s w LABELS, e) h
 
-pub ruleset depths = (depth_to, depth-refused)
+pub ruleset depths = (depth_to, depth-refused, refusal_handed)
 
 -- ## The label on an else or an end
 
@@ -70,7 +70,7 @@ module _ (s w : List ℕ) (k r : ℕ) (p : Part) where
     closes_inner e = rw (ne_eqb _ _ h, inner g, ← b, ← told, e)
 
     -- it does not
-    pub closes-other : (z : Refusal) → t ≡ false → z ≡ refusal 17 r → closes (scope_in s w) r (id_of s p) (labels_in s w k) ≡ refused_by z
+    pub closes-other : (z : Refusal) → t ≡ false → z ≡ refusal F.OtherLabel r → closes (scope_in s w) r (id_of s p) (labels_in s w k) ≡ refused_by z
     unfolding closes scope_in labels_in
     closes-other z e f = rw (ne_eqb _ _ h, inner g, ← b, ← told, e, f)
 

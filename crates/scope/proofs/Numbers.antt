@@ -3,11 +3,12 @@ use Rattle.std.specs.Prelude.{if◌then◌else◌}
 use Prim.Native.Nat.{ℕ, zero, suc, ◌+◌, ◌<◌}
 use mathlib.Core.Path.{◌≡◌, refl, sym, ◌∙◌}
 use mathlib.Core.Bool.{Bool, true, false, ◌&&◌}
-use mathlib.Core.List.{List, [], ◌∷◌}
+use mathlib.Core.List.{List, []}
 use mathlib.Core.Option.{Option, none, some}
 use lib.ListN.{get_or}
 use native.Mathlib.Omega.{arith}
 use Rattle.definition.specs.Basic.{Answer, ok, refused, ◌>>=◌, at}
+use Rattle.definition.specs.Reader.{got, fault}
 use Rattle.definition.specs.Syntax as Syntax
 use Rattle.definition.specs.Syntax.{FuncType, types, empty, single, typed}
 use Rattle.definition.specs.Token.{val_type}
@@ -17,30 +18,24 @@ use Rattle.definition.specs.Names as Names
 use Rattle.definition.specs.Names.{item_no, type_no, block_type, is_absent, short_type}
 use Rattle.syntax.specs.Refusals.{refusal, refused_by}
 use Rattle.syntax.specs.declared.Refusal.{Refusal}
+use Rattle.syntax.specs.declared.Fault.TheVariants as F
+use Rattle.syntax.proofs.Ways.{refusal_handed}
 use Rattle.area.specs.Layout.{USES}
 use Rattle.syntax.specs.Resolved.{type_no_of, block_type_of}
 use Rattle.syntax.specs.declared.TypeNo.{TypeNo}
 use Rattle.syntax.specs.declared.BlockType.{BlockType}
-use Rattle.syntax.specs.Tokens.{byte_at, index_of}
-use Rattle.syntax.specs.declared.ByteAt.{ByteAt}
-use Rattle.syntax.specs.declared.ByteAt.TheVariants as B
+use Rattle.syntax.specs.Tokens.{index_of}
 use Rattle.syntax.specs.declared.Part.{Part}
 use Rattle.syntax.specs.declared.Index.{Index}
 use Rattle.syntax.specs.declared.Index.TheVariants as X
-use Rattle.syntax.specs.TypeUses.{on_step, elements, list_of, use_of}
+use Rattle.syntax.specs.TypeUses.{elements, list_of, use_of}
 use Rattle.syntax.specs.declared.List as Code
 use Rattle.syntax.specs.declared.TypeUse.{TypeUse}
-use Rattle.name_table.specs.Area.{resolved}
-use Rattle.name_table.specs.declared.table.Resolved.{Resolved}
-use Rattle.name_table.specs.declared.table.Resolved.TheVariants as R
 use Rattle.type_table.specs.Table.{types_in, agreeing, Recalled}
 use Rattle.type_table.specs.declared.table.Agreement.{Agreement}
 use Rattle.type_table.specs.declared.table.Agreement.TheVariants as A
 use Rattle.scope.specs.Scope.{scope_in, indexed_type}
 use Rattle.type_table.specs.Uses.{block_uses}
-use Rattle.scope.specs.Answers.{type_answer}
-use Rattle.scope.specs.declared.types.TypeAt.{TypeAt}
-use Rattle.scope.specs.declared.types.TypeAt.TheVariants as T
 
 -- ## A number that a use says
 
@@ -72,10 +67,10 @@ module _ (s w : List ℕ) (r n : ℕ) (t : TypeUse) (i : Bool) (is : i ≡ is_in
     pub checked-same : q ≡ A.Same → Names.checked (scope_in s w) r (is_inline (use_of s t)) (signature (use_of s t)) n ≡ ok (record { type_no = n })
     checked-same d = rw d at checked-is
 
-    pub checked_differs : (z : Refusal) → q ≡ A.Differs → z ≡ refusal 16 r → Names.checked (scope_in s w) r (is_inline (use_of s t)) (signature (use_of s t)) n ≡ refused_by z
+    pub checked_differs : (z : Refusal) → q ≡ A.Differs → z ≡ refusal F.TypeDiffers r → Names.checked (scope_in s w) r (is_inline (use_of s t)) (signature (use_of s t)) n ≡ refused_by z
     checked_differs z d f = rw f (rw d at checked-is)
 
-    pub checked-nothing : (z : Refusal) → q ≡ A.NoType → z ≡ refusal 15 r → Names.checked (scope_in s w) r (is_inline (use_of s t)) (signature (use_of s t)) n ≡ refused_by z
+    pub checked-nothing : (z : Refusal) → q ≡ A.NoType → z ≡ refusal F.NoSuchType r → Names.checked (scope_in s w) r (is_inline (use_of s t)) (signature (use_of s t)) n ≡ refused_by z
     checked-nothing z d f = rw f (rw d at checked-is)
 
 pub ruleset checks = (checked-plain, checked-same, checked_differs, checked-nothing)
@@ -97,46 +92,42 @@ module _ (s w : List ℕ) (r : ℕ) (t : TypeUse) where
   unfolding type_no Names.type_no_of indexed_type is_inline signature
   use_named p a d h = rw d h
 
-  module _ (x : Index) (q : Resolved) (told : item_no (scope_in s w) types r (index_of s x) ≡ resolved q) where
-    pub indexed_to : (n : ℕ) (a : Answer Syntax.TypeNo) → q ≡ R.To n → Names.checked (scope_in s w) r (is_inline (use_of s t)) (signature (use_of s t)) n ≡ a → indexed_type (scope_in s w) r (use_of s t) (index_of s x) ≡ a
+  module _ (x : Index) (a : Answer Syntax.TypeNo) where
+    pub indexed_to : (n : ℕ) → item_no (scope_in s w) types r (index_of s x) ≡ ok n → Names.checked (scope_in s w) r (is_inline (use_of s t)) (signature (use_of s t)) n ≡ a → indexed_type (scope_in s w) r (use_of s t) (index_of s x) ≡ a
     unfolding indexed_type ◌>>=◌
-    indexed_to n a e h = rw (told, e) h
+    indexed_to n e h = rw e h
 
-    pub indexed_not : (z : Refusal) → q ≡ R.Refused z → indexed_type (scope_in s w) r (use_of s t) (index_of s x) ≡ refused_by z
+    pub indexed_not : (z : Refusal) → item_no (scope_in s w) types r (index_of s x) ≡ refused_by z → refused_by z ≡ a → indexed_type (scope_in s w) r (use_of s t) (index_of s x) ≡ a
     unfolding indexed_type ◌>>=◌
-    indexed_not z e = rw (told, e)
+    indexed_not z e h = rw e h
 
 pub ruleset uses = (use_absent, use_number, use_named)
 
-pub ruleset indexes = (indexed_to, indexed_not)
+pub ruleset indexes = (indexed_to, indexed_not, refusal_handed)
 
 -- ## The type of a block
-
--- the short form, as the first result is read
-abbrev one_of : ByteAt → Syntax.BlockType
-one_of (B.Got v next) = single v
-one_of (B.Fault n) = empty
 
 module _ (s : List ℕ) (l : Code.List) where
   pub short_none : l.count ≡ 0 → short_type (list_of val_type s l) ≡ empty
   unfolding elements
   short_none e = rw e
 
-  module _ (h : l.count ≡ 0 → ⊥) (q : ByteAt) (told : val_type s l.at ≡ byte_at q) where
-    first : (n : ℕ) → (n ≡ 0 → ⊥) → short_type (elements val_type s l.at n) ≡ one_of q
+  module _ (h : l.count ≡ 0 → ⊥) where
+    pub short-one : (v next : ℕ) → val_type s l.at ≡ got v next → short_type (list_of val_type s l) ≡ single v
     unfolding elements
-    first zero g = absurd (g refl)
-    first (suc n) g = rw told (go q)
+    short-one v next e = go l.count h
       where
-        go : (b : ByteAt) → short_type (on_step (byte_at b) (λ x next. x ∷ elements val_type s next n) []) ≡ one_of b
-        go (B.Got v next) = refl
-        go (B.Fault k) = refl
+        go : (n : ℕ) → (n ≡ 0 → ⊥) → short_type (elements val_type s l.at n) ≡ single v
+        go zero g = absurd (g refl)
+        go (suc n) g = rw e
 
-    pub short-one : (v n : ℕ) → q ≡ B.Got v n → short_type (list_of val_type s l) ≡ single v
-    short-one v n e = rw e at (first l.count h)
-
-    pub short-fault : (n : ℕ) → q ≡ B.Fault n → short_type (list_of val_type s l) ≡ empty
-    short-fault n e = rw e at (first l.count h)
+    pub short-fault : (k : ℕ) → val_type s l.at ≡ fault k → short_type (list_of val_type s l) ≡ empty
+    unfolding elements
+    short-fault k e = go l.count h
+      where
+        go : (n : ℕ) → (n ≡ 0 → ⊥) → short_type (elements val_type s l.at n) ≡ empty
+        go zero g = absurd (g refl)
+        go (suc n) g = rw e
 
 pub ruleset shorts = (short_none, short-one, short-fault)
 
@@ -175,13 +166,13 @@ module _ (s w : List ℕ) (r : ℕ) (t : TypeUse) (b : Bool) (is : b ≡ (is_abs
       go (X.Number n) true e h = h
       go (X.Named p) true e h = h
 
-  module _ (e : b ≡ false) (q : TypeAt) (told : type_no (scope_in s w) r (use_of s t) ≡ type_answer q) where
-    pub block_typed : (n : TypeNo) → q ≡ T.To n → block_type (scope_in s w) r (use_of s t) ≡ ok (typed (type_no_of n))
+  module _ (e : b ≡ false) where
+    pub block_typed : (n : TypeNo) → type_no (scope_in s w) r (use_of s t) ≡ ok (type_no_of n) → block_type (scope_in s w) r (use_of s t) ≡ ok (typed (type_no_of n))
     unfolding block_type ◌>>=◌
-    block_typed n d = rw (← is, e, told, d)
+    block_typed n d = rw (← is, e, d)
 
-    pub block_refused : (z : Refusal) → q ≡ T.Refused z → block_type (scope_in s w) r (use_of s t) ≡ refused_by z
+    pub block_refused : (z : Refusal) (a : Answer Syntax.BlockType) → type_no (scope_in s w) r (use_of s t) ≡ refused_by z → refused_by z ≡ a → block_type (scope_in s w) r (use_of s t) ≡ a
     unfolding block_type ◌>>=◌
-    block_refused z d = rw (← is, e, told, d)
+    block_refused z a d h = rw (← is, e, d) h
 
-pub ruleset blocks = (block_short, block_typed, block_refused)
+pub ruleset blocks = (block_short, block_typed, block_refused, refusal_handed)

@@ -12,22 +12,19 @@ use native.Mathlib.Omega.{arith}
 use Rattle.definition.specs.Basic.{ok, ◌>>=◌, same_bytes, first_at, later, Answer}
 use Rattle.definition.specs.Syntax.{Identifier, LocalNo}
 use Rattle.definition.specs.Names.{Namespace, carries, find, number_in, local_no, below}
+use Rattle.area.specs.Flags.{strict_in}
 use Rattle.area.specs.Layout.{LOCALS, WORDS}
 use Rattle.syntax.specs.Refusals.{refusal, refused_by}
 use Rattle.syntax.specs.Tokens.{part_of, index_of}
 use Rattle.syntax.specs.declared.Refusal.{Refusal}
+use Rattle.syntax.specs.declared.Fault.TheVariants as F
 use Rattle.syntax.specs.declared.Part.{Part}
 use Rattle.syntax.specs.declared.Index.{Index}
 use Rattle.syntax.specs.declared.Index.TheVariants as X
-use Rattle.name_table.specs.Area.{entry, names, found, resolved}
-use Rattle.name_table.specs.declared.table.Found.{Found}
-use Rattle.name_table.specs.declared.table.Found.TheVariants as F
+use Rattle.name_table.specs.Area.{entry, names}
 use Rattle.name_table.proofs.Walk.{shifted, names-length}
 use Rattle.scope.specs.Scope.{scope_in, locals_in, FewLocals, told_local}
 use Rattle.scope.specs.declared.Locals.{Locals}
-use Rattle.area.specs.Flags.{strict_in}
-use Rattle.name_table.specs.declared.table.Resolved.{Resolved}
-use Rattle.name_table.specs.declared.table.Resolved.TheVariants as R
 
 -- ## Nameless places carry no name
 
@@ -69,9 +66,9 @@ module _ (s w : List ℕ) (l : Locals) (few : FewLocals l) where
   pub local-table : WORDS ≤ length w → LOCALS + 3 * l.count ≤ length w
   local-table h = omega (arith, few.named)
 
-  module _ (name : List ℕ) (q : Found) (k : ℕ) (told : find same_bytes name (names l.count s w LOCALS) ≡ found q) (e : q ≡ F.At k) where
+  module _ (name : List ℕ) (k : ℕ) (told : find same_bytes name (names l.count s w LOCALS) ≡ some k) where
     entry-low : k < l.count
-    entry-low = rw (told, e) at (entries-low name s w l.count LOCALS)
+    entry-low = rw told at (entries-low name s w l.count LOCALS)
 
     -- a place among the entries is a u32
     pub local-entry : Fits w32 k
@@ -99,30 +96,23 @@ module _ (s w : List ℕ) (l : Locals) (r : ℕ) (x : Index) where
   unfolding local_no number_in scope_in told_local
   local-number n a d h = rw (limit_is, d) h
 
-  module _ (p : Part) (d : x ≡ X.Named p) (name : List ℕ) (b : name ≡ part_of s p) (q : Found) (told : find same_bytes name (names l.count s w LOCALS) ≡ found q) where
+  module _ (p : Part) (d : x ≡ X.Named p) (name : List ℕ) (b : name ≡ part_of s p) where
     -- a name that is there
-    pub local-found : (k : ℕ) → q ≡ F.At k → local_no (scope_in s w) (locals_in s w l) r (index_of s x) ≡ ok (record { local_no = l.nameless + k })
+    pub local-found : (k : ℕ) → find same_bytes name (names l.count s w LOCALS) ≡ some k → local_no (scope_in s w) (locals_in s w l) r (index_of s x) ≡ ok (record { local_no = l.nameless + k })
     unfolding local_no scope_in locals_in number_in ◌>>=◌ shifted
-    local-found k e = rw (d, ← b, find-after l.nameless name (names l.count s w LOCALS), told, e)
+    local-found k e = rw (d, ← b, find-after l.nameless name (names l.count s w LOCALS), e)
 
     -- a name that is not
-    pub local-none : (z : Refusal) → q ≡ F.Nothing → z ≡ refusal 14 r → local_no (scope_in s w) (locals_in s w l) r (index_of s x) ≡ refused_by z
+    pub local-none : (z : Refusal) → find same_bytes name (names l.count s w LOCALS) ≡ none → z ≡ refusal F.NoSuchName r → local_no (scope_in s w) (locals_in s w l) r (index_of s x) ≡ refused_by z
     unfolding local_no scope_in locals_in number_in ◌>>=◌ shifted
-    local-none z e f = rw (d, ← b, find-after l.nameless name (names l.count s w LOCALS), told, e, f)
+    local-none z e f = rw (d, ← b, find-after l.nameless name (names l.count s w LOCALS), e, f)
 
 pub ruleset locals = (local-absent, local-number, local-found, local-none)
 
 -- a number that was told
-module _ (w : List ℕ) (l : Locals) (r n : ℕ) (q : Resolved) (is : below (strict_in w) (l.nameless + l.count) r n ≡ resolved q) where
-  pub told_to : (m : ℕ) → q ≡ R.To m → told_local w l r n ≡ ok (record { local_no = m })
-  unfolding told_local ◌>>=◌
-  told_to m e = rw (is, e)
-
-  pub told_not : (z : Refusal) → q ≡ R.Refused z → told_local w l r n ≡ refused_by z
-  unfolding told_local ◌>>=◌
-  told_not z e = rw (is, e)
-
-pub ruleset tolds = (told_to, told_not)
+pub told_to : (w : List ℕ) (l : Locals) (r n m : ℕ) → below (strict_in w) (l.nameless + l.count) r n ≡ ok m → told_local w l r n ≡ ok (record { local_no = m })
+unfolding told_local ◌>>=◌
+told_to w l r n m e = rw e
 
 -- how many locals there are goes into a word
 pub limit-fits : (l : Locals) → FewLocals l → Fits w32 (l.nameless + l.count)

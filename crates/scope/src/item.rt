@@ -6,8 +6,8 @@ ghost use Rattle.syntax.specs.Tokens.{space_of, index_of};
 ghost use Rattle.name_table.specs.Area.{resolved};
 ghost use Rattle.scope.specs.Scope.{scope_in, limit_in};
 
-use name_table::{Resolved, Table};
-use syntax::{Index, Space};
+use name_table::Table;
+use syntax::{Index, Resolved, Space};
 
 // How many items a space has: the types with those that uses add.
 fn limit_of(work: &[u32], k: Space) -> u32
@@ -21,7 +21,7 @@ fn limit_of(work: &[u32], k: Space) -> u32
 }
 
 // The number that an index means in a space.
-pub fn item_no(s: &[u8], work: &[u32], k: Space, x: Index, rec: u32) -> Resolved
+pub fn item_no(s: &[u8], work: &[u32], k: Space, x: Index, rec: u32) -> Resolved<u32>
     requires { WORDS ≤ length work.now }
     ensures { Names.item_no (scope_in s.now work.now) (space_of k) rec (index_of s.now x) ≡ resolved result }
 {

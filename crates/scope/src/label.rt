@@ -6,49 +6,33 @@ ghost use Rattle.syntax.specs.Tokens.{id_of, index_of};
 ghost use Rattle.scope.specs.Scope.{scope_in, labels_in};
 ghost use Rattle.scope.specs.Answers.{depth_answer, closed_answer};
 
-use name_table::Resolved;
-use syntax::{Depth, Index, Part, Refusal};
-
-// A block's depth, or a refusal's number and record.
-#[derive(Clone, Copy)]
-pub enum DepthAt {
-    To(Depth),
-    Refused(Refusal),
-}
+use syntax::{Depth, Fault, Index, Part, Resolved};
 
 // The depth that an index means, k blocks being open.
-pub fn depth_no(s: &[u8], work: &[u32], k: u32, x: Index, rec: u32) -> DepthAt
+pub fn depth_no(s: &[u8], work: &[u32], k: u32, x: Index, rec: u32) -> Resolved<Depth>
     requires { (WORDS ≤ length work.now) × (k ≤ 128) }
     ensures { Names.depth_of (scope_in s.now work.now) (labels_in s.now work.now k) rec (index_of s.now x) ≡ depth_answer result }
 {
-    match name_table::depth_of(s, work, area::LABELS, k as usize, x, rec) {
-        Resolved::To(n) => DepthAt::To(Depth(n)),
-        Resolved::Refused(r) => DepthAt::Refused(r),
-    }
-}
-
-#[derive(Clone, Copy)]
-pub enum Closed {
-    Yes,
-    Refused(Refusal),
+    let n = name_table::depth_of(s, work, area::LABELS, k as usize, x, rec)?;
+    Ok(Depth(n))
 }
 
 // May an else or an end have this label, k blocks being open? The innermost must carry it.
-pub fn closes(s: &[u8], work: &[u32], k: u32, label: Part, rec: u32) -> Closed
+pub fn closes(s: &[u8], work: &[u32], k: u32, label: Part, rec: u32) -> Resolved<()>
     requires { (WORDS ≤ length work.now) × (k ≤ 128) }
     ensures { Names.closes (scope_in s.now work.now) rec (id_of s.now label) (labels_in s.now work.now k) ≡ closed_answer result }
 {
     if label.len == 0 {
-        return Closed::Yes;
+        return Ok(());
     }
     if k == 0 {
-        return Closed::Yes;
+        return Ok(());
     }
     let name = token::bytes_of(s, label);
     let tag = name_table::tag_of(name);
     let outer = k - 1;
     if name_table::carries(s, work, area::LABELS + 3 * (outer as usize), tag, name) {
-        return Closed::Yes;
+        return Ok(());
     }
-    Closed::Refused(syntax::refusal_at(17, rec))
+    Err(syntax::refusal_at(Fault::OtherLabel, rec))
 }

@@ -7,9 +7,9 @@ pub mod local;
 pub mod types;
 
 pub use item::item_no;
-pub use label::{Closed, DepthAt, closes, depth_no};
-pub use local::{LocalAt, local_no};
-pub use types::{BlockAt, TypeAt, block_type, type_no};
+pub use label::{closes, depth_no};
+pub use local::local_no;
+pub use types::{block_type, type_no};
 
 // The locals of a function: how many nameless places come first, and how many entries follow.
 #[derive(Clone, Copy)]

@@ -12,61 +12,44 @@ ghost use Rattle.scope.specs.Scope.{scope_in, indexed_type};
 ghost use Rattle.type_table.specs.Uses.{block_uses};
 ghost use Rattle.scope.specs.Answers.{type_answer, block_answer};
 
-use name_table::Resolved;
-use syntax::{BlockType, ByteAt, Index, List, Refusal, Space, TypeNo, TypeUse};
+use syntax::{BlockType, Fault, Index, List, Resolved, Space, TypeNo, TypeUse};
 use type_table::Agreement;
 
-// A type's number, or a refusal's number and record.
-#[derive(Clone, Copy)]
-pub enum TypeAt {
-    To(TypeNo),
-    Refused(Refusal),
-}
-
 // A type's number as a use says it: an inline type must be that type.
-fn checked(s: &[u8], work: &[u32], n: u32, t: TypeUse, rec: u32) -> TypeAt
+fn checked(s: &[u8], work: &[u32], n: u32, t: TypeUse, rec: u32) -> Resolved<TypeNo>
     requires { WORDS ≤ length work.now }
     ensures { Names.checked (scope_in s.now work.now) rec (Types.is_inline (use_of s.now t)) (Types.signature (use_of s.now t)) n ≡ type_answer result }
 {
     if type_table::is_inline(s, t) {
         return match type_table::agrees(s, work, n, t) {
-            Agreement::Same => TypeAt::To(TypeNo(n)),
-            Agreement::Differs => TypeAt::Refused(syntax::refusal_at(16, rec)),
-            Agreement::NoType => TypeAt::Refused(syntax::refusal_at(15, rec)),
+            Agreement::Same => Ok(TypeNo(n)),
+            Agreement::Differs => Err(syntax::refusal_at(Fault::TypeDiffers, rec)),
+            Agreement::NoType => Err(syntax::refusal_at(Fault::NoSuchType, rec)),
         };
     }
-    TypeAt::To(TypeNo(n))
+    Ok(TypeNo(n))
 }
 
 // The number of the type that an index says.
-fn indexed(s: &[u8], work: &[u32], x: Index, t: TypeUse, rec: u32) -> TypeAt
+fn indexed(s: &[u8], work: &[u32], x: Index, t: TypeUse, rec: u32) -> Resolved<TypeNo>
     requires { WORDS ≤ length work.now }
     ensures { indexed_type (scope_in s.now work.now) rec (use_of s.now t) (index_of s.now x) ≡ type_answer result }
 {
-    match crate::item::item_no(s, work, Space::Types, x, rec) {
-        Resolved::To(n) => checked(s, work, n, t, rec),
-        Resolved::Refused(r) => TypeAt::Refused(r),
-    }
+    let n = crate::item::item_no(s, work, Space::Types, x, rec)?;
+    checked(s, work, n, t, rec)
 }
 
 // The number of the type of a use. Without an index it is the one that interning gave it.
-pub fn type_no(s: &[u8], work: &[u32], t: TypeUse, rec: u32) -> TypeAt
+pub fn type_no(s: &[u8], work: &[u32], t: TypeUse, rec: u32) -> Resolved<TypeNo>
     requires { (WORDS ≤ length work.now) × Recalled work.now (types_in s.now work.now) (Types.used_at rec (Types.use_of (use_of s.now t))) }
     ensures { Names.type_no (scope_in s.now work.now) rec (use_of s.now t) ≡ type_answer result }
 {
     let index = t.index;
     match index {
-        Index::Absent => TypeAt::To(TypeNo(area::word(work, area::USES + (rec as usize)))),
+        Index::Absent => Ok(TypeNo(area::word(work, area::USES + (rec as usize)))),
         Index::Number(n) => indexed(s, work, Index::Number(n), t, rec),
         Index::Named(p) => indexed(s, work, Index::Named(p), t, rec),
     }
-}
-
-// A block's type, or a refusal's number and record.
-#[derive(Clone, Copy)]
-pub enum BlockAt {
-    To(BlockType),
-    Refused(Refusal),
 }
 
 // The short form of a block with these results.
@@ -77,8 +60,8 @@ fn short_type(s: &[u8], l: List) -> BlockType
         return BlockType::Empty;
     }
     match coretypes::val_type(s, l.at) {
-        ByteAt::Got(value, _) => BlockType::Single(value),
-        ByteAt::Fault(_) => BlockType::Empty,
+        Ok((value, _)) => BlockType::Single(value),
+        Err(_) => BlockType::Empty,
     }
 }
 
@@ -95,15 +78,13 @@ fn goes_short(s: &[u8], t: TypeUse) -> bool
 }
 
 // The type of a block.
-pub fn block_type(s: &[u8], work: &[u32], t: TypeUse, rec: u32) -> BlockAt
+pub fn block_type(s: &[u8], work: &[u32], t: TypeUse, rec: u32) -> Resolved<BlockType>
     requires { (WORDS ≤ length work.now) × Recalled work.now (types_in s.now work.now) (Types.used_at rec (block_uses (use_of s.now t))) }
     ensures { Names.block_type (scope_in s.now work.now) rec (use_of s.now t) ≡ block_answer result }
 {
     if goes_short(s, t) {
-        return BlockAt::To(short_type(s, t.results));
+        return Ok(short_type(s, t.results));
     }
-    match type_no(s, work, t, rec) {
-        TypeAt::To(n) => BlockAt::To(BlockType::Typed(n)),
-        TypeAt::Refused(r) => BlockAt::Refused(r),
-    }
+    let n = type_no(s, work, t, rec)?;
+    Ok(BlockType::Typed(n))
 }

@@ -1,4 +1,6 @@
 -- The entries of one section: of an entry, of a field, of all fields.
+use Rattle.std.specs.Prelude.{Option, Ok, Err, Some, None}
+use Rattle.syntax.specs.Refusals.{Resolved}
 use Prim.Native.Nat.{ℕ, ◌+◌, ◌*◌, ◌^◌, ◌<◌}
 use mathlib.Core.Path.{◌≡◌, refl, sym, ◌∙◌, ap}
 use mathlib.Core.List.{List, [], ◌++◌}
@@ -17,21 +19,18 @@ use Rattle.area.proofs.Kept.{kept_same, kept_then}
 use Rattle.type_table.specs.Table.{types_in, Recalled}
 use Rattle.scope.specs.Scope.{scope_in}
 use Rattle.scope.proofs.Frames.{types-kept, scope_kept, recalled-scope}
+use Rattle.import_export.specs.declared.export.Ends.{Ends}
 use Rattle.deinline.specs.Entry.{Entries, section_no, answer_of, uses_of, tagged, both, entry_in, first_of, second_of, third_of, item_in, three, three_in}
 use Rattle.syntax.specs.declared.Seen.{Seen}
 use Rattle.syntax.specs.declared.Source.{Source}
 use Rattle.syntax.specs.declared.Field.{Field}
 use Rattle.syntax.specs.declared.Entry.{Entry}
-use Rattle.deinline.specs.declared.entry.ItemIn.{ItemIn}
-use Rattle.deinline.specs.declared.entry.ItemIn.TheVariants as I
 use Rattle.kept.specs.Content.{Fine, bytes_in}
 use Rattle.sections.specs.Write.{Writes, Emittable, EmittableThree}
-use Rattle.entries.specs.Listed.{Answers}
-use Rattle.kept.specs.Emit.{AreaOf, EmitsEntry}
+use Rattle.entries.specs.Listed.{Listed, Answers}
+use Rattle.kept.specs.Emit.{EmitsEntry}
 use Rattle.laws.proofs.TypeSection.{section-append}
 use Rattle.kept.proofs.Keeping.{section-own, section-other, joined-append}
-use Rattle.entries.specs.declared.EndsAt.{EndsAt}
-use Rattle.entries.specs.declared.EndsAt.TheVariants as A
 
 -- ## Entries of one section
 
@@ -53,28 +52,23 @@ module _ (s w : List ℕ) (k r j : ℕ) (e : Entry) (sec : j ≡ section_no e) (
     area = kept_same LOCALS w;
   }
 
-  module _ (q : EndsAt) (w' new : List ℕ) (told : EmitsEntry s w r e old at q w' new) (same : j ≡ k) where
-    pub entry-put : (to n : ℕ) → q ≡ A.Ends to n → Writes (bytes_in k (entry_in (scope_in s w) s r e)) old at to new w w'
+  module _ (q : Resolved Ends) (w' new : List ℕ) (told : EmitsEntry s w r e old at q w' new) (same : j ≡ k) where
+    pub entry-put : (x : Ends) → q ≡ Ok x → Writes (bytes_in k (entry_in (scope_in s w) s r e)) old at x.to new w w'
     unfolding entry_in Answers
-    entry-put to n d = go q d told.answers told.area
-      where
-        go : (q : EndsAt) → q ≡ A.Ends to n → Answers (answer_of (scope_in s w) s r e) old at q new → AreaOf q w w' → Writes (bytes_in k (tagged (section_no e) (answer_of (scope_in s w) s r e))) old at to new w w'
-        go (A.Refused y) d a b = let z : ◌≡◌ {A = ℕ} 0 1 = cc in absurd (omega arith)
-        go (A.Ends x y) d a b =
-            let z : ◌≡◌ {A = ℕ} x to = cc in
-            rw (← z) (record { put = put_is a.put (bytes_same k (section_no e) (answer_of (scope_in s w) s r e) a.entries (sym sec ∙ same) a.is); area = b })
+    entry-put x d =
+        let t : EmitsEntry s w r e old at (Ok x) w' new = rw d at told in
+        let a : Listed (answer_of (scope_in s w) s r e) old at x.to x.count new = t.answers in
+        record { put = put_is a.put (bytes_same k (section_no e) (answer_of (scope_in s w) s r e) a.entries (sym sec ∙ same) a.is); area = t.area }
 
     -- an entry that is not refused
-    pub entry-refused : (p : Refusal) → q ≡ A.Refused p → Emittable s w r e → Writes (bytes_in k (entry_in (scope_in s w) s r e)) old at at new w w'
+    pub entry-refused : (p : Refusal) → q ≡ Err p → Emittable s w r e → Writes (bytes_in k (entry_in (scope_in s w) s r e)) old at at new w w'
     unfolding entry_in Answers tagged
-    entry-refused p d v = go q d told.answers v.fine
-      where
-        go : (q : EndsAt) → q ≡ A.Refused p → Answers (answer_of (scope_in s w) s r e) old at q new → Fine (tagged (section_no e) (answer_of (scope_in s w) s r e))
-            → Writes (bytes_in k (tagged (section_no e) (answer_of (scope_in s w) s r e))) old at at new w w'
-        go (A.Ends x y) d a f = let z : ◌≡◌ {A = ℕ} 0 1 = cc in absurd (omega arith)
-        go (A.Refused y) d a f =
-            let g : refused_by y ≡ ok f.entries = sym (ap (tagged (section_no e)) a) ∙ f.is in
-            let z : ◌≡◌ {A = ℕ} 0 1 = cc in absurd (omega arith)
+    entry-refused p d v =
+        let t : EmitsEntry s w r e old at (Err p) w' new = rw d at told in
+        let f : Fine (tagged (section_no e) (answer_of (scope_in s w) s r e)) = v.fine in
+        let a : answer_of (scope_in s w) s r e ≡ refused_by p = t.answers in
+        let g : refused_by p ≡ ok f.entries = sym (ap (tagged (section_no e)) a) ∙ f.is in
+        let z : ◌≡◌ {A = ℕ} 0 1 = cc in absurd (omega arith)
 
 -- ## The entries of a field
 
@@ -145,8 +139,8 @@ module _ (s w : List ℕ) (k r : ℕ) (e : Entry) (w₁ old : List ℕ) (at a : 
   two_put f f' d g q = then_put (entry_in (scope_in s w) s r f') g.fine (rw (scope-same s w w₁ first.area, d) at q)
 
 -- what an item has beside its exports; any other field has nothing more
-module _ (s w : List ℕ) (r : ℕ) (f : Field) (seen : Seen) (here : ℕ) (i : ItemIn) (in_f : i ≡ item_in f) where
-  module _ (x : Source) (is : i ≡ I.Item x) where
+module _ (s w : List ℕ) (r : ℕ) (f : Field) (seen : Seen) (here : ℕ) (i : Option Source) (in_f : i ≡ item_in f) where
+  module _ (x : Source) (is : i ≡ Some x) where
     second_is : (three f seen here).second ≡ second_of x seen
     unfolding three
     second_is = rw (sym in_f ∙ is) refl
@@ -166,7 +160,7 @@ module _ (s w : List ℕ) (r : ℕ) (f : Field) (seen : Seen) (here : ℕ) (i : 
         → Writes (bytes_in k (both (entry_in (scope_in s w) s r (three f seen here).second) (entry_in (scope_in s w) s r (three f seen here).third))) old at q new w w'
     rest-item k old at q new w' h = rw (second_is, third-is) h
 
-  pub rest-none : (k : ℕ) (old : List ℕ) (at : ℕ) → i ≡ I.Other → length old * 1 < 2 ^ 63
+  pub rest-none : (k : ℕ) (old : List ℕ) (at : ℕ) → i ≡ None → length old * 1 < 2 ^ 63
       → Writes (bytes_in k (both (entry_in (scope_in s w) s r (three f seen here).second) (entry_in (scope_in s w) s r (three f seen here).third))) old at at old w w
   unfolding three both entry_in tagged answer_of bytes_in in_section joined concat_map
   rest-none k old at is h = record { put = put-skip h (rw (sym in_f ∙ is) refl); area = kept_same LOCALS w }

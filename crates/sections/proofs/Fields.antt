@@ -1,4 +1,5 @@
 -- The loop over all fields.
+use Rattle.std.specs.Prelude.{Some, None}
 use Prim.Native.Nat.{ℕ, ◌+◌, ◌*◌, ◌^◌, ◌≤◌, ◌<◌}
 use mathlib.Core.Path.{◌≡◌, refl, sym, ◌∙◌, ap, subst}
 use mathlib.Core.List.{List, [], ◌∷◌, ◌++◌, append_assoc, append-nil}
@@ -21,7 +22,6 @@ use Rattle.syntax.specs.declared.Field.{Field}
 use Rattle.walk.specs.Walk.{Ahead, begin, fields_in, fields_ahead, fields_here, Visited, ReadableMet, visit_in, visit_of}
 use Rattle.walk.specs.declared.Cursor.{Cursor}
 use Rattle.walk.specs.declared.Met.{Met}
-use Rattle.walk.specs.declared.What.TheVariants as W
 use Rattle.walk.proofs.Steps.{visit_done, visit_few, visit_func_few, visit_readable, visit_fields, visit_whole, visit_ahead, ahead-kept}
 use Rattle.scope.specs.Scope.{scope_in}
 use Rattle.scope.proofs.Frames.{recalled-left, recalled_right}
@@ -117,12 +117,12 @@ module _ (k : ℕ) (s w₀ old : List ℕ) (at : ℕ) (c : Cursor) (o : ℕ) (ou
 
   module _ (m : Met) (told : visit_in c.left c s ≡ visit_of s m) where
     -- no field is left
-    pub emitting_done : m.what ≡ W.Done → Writes (bytes_in k (entries_of (scope_in s w₀) (fields_in s))) old at o out w₀ w
+    pub emitting_done : m.what ≡ None → Writes (bytes_in k (entries_of (scope_in s w₀) (fields_in s))) old at o out w₀ w
     emitting_done is =
         let e = visit_done s c m told is in
         record { put = putting_done v.put (ap (λ z. bytes_in k (entries_of (scope_in s w) z)) e ∙ none_in k (scope_in s w)); area = v.area }
 
-    module _ (f : Field) (here : ℕ) (is : m.what ≡ W.Field f here) where
+    module _ (f : Field) (here : ℕ) (is : m.what ≡ Some (f, here)) where
       abbrev met : Visited
       met = record { field = field_of s f; head_end = here; next = m.next }
 

@@ -38,30 +38,30 @@ typing_begin {s} {w} {old} {at} {n} e h = record {
   put = putting_begin old at (type_bytes (types_in s w)) (type_bytes (type_table n s w TYPES)) h (ap (λ m. type_bytes (type_table m s w TYPES)) e);
 }
 
-module _ {s : Bytes} {w : List ℕ} {old : Bytes} {at left place o : ℕ} {out : Bytes} (v : Typing s w old at left place o out) where
-  pub typing_again : {r : ℕ} {new : Bytes} → 0 < left → Put out o (func_type (signature_of s (entry_in w place))) r new → Typing s w old at (left - 1) (place + 5) r new
-  unfolding type_table joined concat_map
-  typing_again {r} {new} h p = go left h v.low v.put
-    where
-      go : (n : ℕ) → 0 < n → place + 5 * n ≤ USES → Putting old at (type_bytes (types_in s w)) (type_bytes (type_table n s w place)) o out → Typing s w old at (n - 1) (place + 5) r new
-      go zero h l q = absurd (omega arith)
-      go (suc n) h l q =
-          let z : suc n - 1 ≡ n = omega arith in
-          rw z (record { low = omega arith; put = putting_more q (func_type (signature_of s (entry_in w place))) (type_bytes (type_table n s w (place + 5))) r new refl p })
+pub typing_long : {s : Bytes} {w : List ℕ} {old : Bytes} {at left place o : ℕ} {out : Bytes} → Typing s w old at left place o out → length out ≡ length old
+typing_long v = putting_long v.put
 
-  pub typing_done : left ≤ 0 → Put old at (joined (map func_type (types_in s w))) o out
+module _ {s : Bytes} {w : List ℕ} {old : Bytes} {at n i place o : ℕ} {out : Bytes} (v : Typing s w old at (n - i) place o out) where
+  pub typing_again : {r : ℕ} {new : Bytes} → i < n → Put out o (func_type (signature_of s (entry_in w place))) r new → Typing s w old at (n - (i + 1)) (place + 5) r new
   unfolding type_table joined concat_map
-  typing_done h = go left h v.put
+  typing_again {r} {new} h p = go (n - i) (n - (i + 1)) (omega arith) v.low v.put
     where
-      go : (n : ℕ) → n ≤ 0 → Putting old at (type_bytes (types_in s w)) (type_bytes (type_table n s w place)) o out → Put old at (type_bytes (types_in s w)) o out
+      go : (m k : ℕ) → m ≡ suc k → place + 5 * m ≤ USES → Putting old at (type_bytes (types_in s w)) (type_bytes (type_table m s w place)) o out → Typing s w old at k (place + 5) r new
+      go zero k e l q = absurd (omega arith)
+      go (suc m) k e l q =
+          let z : m ≡ k = omega arith in
+          rw (← z) (record { low = omega arith; put = putting_more q (func_type (signature_of s (entry_in w place))) (type_bytes (type_table m s w (place + 5))) r new refl p })
+
+  pub typing_done : n ≤ i → Put old at (joined (map func_type (types_in s w))) o out
+  unfolding type_table joined concat_map
+  typing_done h = go (n - i) (omega arith) v.put
+    where
+      go : (m : ℕ) → m ≤ 0 → Putting old at (type_bytes (types_in s w)) (type_bytes (type_table m s w place)) o out → Put old at (type_bytes (types_in s w)) o out
       go zero h q = putting_done q refl
-      go (suc n) h q = absurd (omega arith)
+      go (suc m) h q = absurd (omega arith)
 
-  pub typing_long : length out ≡ length old
-  typing_long = putting_long v.put
-
-  pub typing_room : 0 < left → WORDS ≤ length w → place + 4 < length w
+  pub typing_room : i < n → WORDS ≤ length w → place + 4 < length w
   typing_room h g = omega (arith, v.low)
 
-  pub typing_next : 0 < left → Fits w64 (place + 5)
+  pub typing_next : i < n → Fits w64 (place + 5)
   typing_next h = let l = v.low in record { fits = omega arith }

@@ -7,10 +7,8 @@ ghost use Rattle.deinline.specs.Entry.{both, entry_in, second_of, third_of, thre
 ghost use Rattle.kept.specs.Content.{bytes_in};
 ghost use Rattle.sections.specs.Write.{Writes, Emittable, EmittableThree, Writable};
 
-use deinline::{ItemIn, Spot};
-use entries::EndsAt;
+use deinline::Spot;
 use syntax::{Entry, Field, Source};
-use walk::What;
 
 // An entry, if it is one of the section.
 fn emit_in(
@@ -29,8 +27,8 @@ fn emit_in(
         return at;
     }
     match kept::emit_entry(s, work, out, at, e, rec) {
-        EndsAt::Ends(to, _) => to,
-        EndsAt::Refused(_) => at,
+        Ok(ends) => ends.to,
+        Err(_) => at,
     }
 }
 
@@ -68,8 +66,8 @@ fn emit_rest(
     ensures { Writes (bytes_in k (both (entry_in (scope_in s.now work.old) s.now p.rec (three f p.seen p.here).second) (entry_in (scope_in s.now work.old) s.now p.rec (three f p.seen p.here).third))) out.old at result out.new work.old work.new }
 {
     match deinline::item_in(f) {
-        ItemIn::Item(x) => emit_item(s, work, out, at, k, x, p),
-        ItemIn::Other => at,
+        Some(x) => emit_item(s, work, out, at, k, x, p),
+        None => at,
     }
 }
 
@@ -113,7 +111,7 @@ pub fn emit_fields(
         let m = walk::visit(s, work, c);
         let what = m.what;
         match what {
-            What::Field(f, here) => {
+            Some((f, here)) => {
                 let seen = c.seen;
                 let p = Spot {
                     seen,
@@ -123,7 +121,7 @@ pub fn emit_fields(
                 o = emit_field(s, work, out, o, k, f, p);
                 c = m.next;
             }
-            What::Done => {
+            None => {
                 return o;
             }
         }

@@ -19,13 +19,12 @@ pub fn put_types(s: &[u8], work: &[u32], out: &mut [u8], at: usize) -> usize
     requires { WORDS ≤ length work.now }
     ensures { Put out.old at (Binary.joined (map Binary.func_type (types_in s.now work.now))) result out.new }
 {
-    let mut left = type_table::total(work);
+    let n = type_table::total(work);
     let mut place = area::TYPES;
     let mut o = at;
-    while 0 < left {
+    for _ in 0..n {
         o = put_type(s, work, out, o, place);
         place += 5;
-        left -= 1;
     }
     o
 }

@@ -1,7 +1,9 @@
 -- Laws of element and data segments.
+use Rattle.std.specs.Prelude.{Ok, Err, Option as Optional, Some, None}
+use Rattle.syntax.specs.Refusals.{Resolved}
 use Rattle.std.specs.Prelude.{if◌then◌else◌}
 use Prim.Native.Nat.{ℕ}
-use mathlib.Core.Path.{◌≡◌, refl, ◌∙◌, ap}
+use mathlib.Core.Path.{◌≡◌, refl, ◌∙◌}
 use mathlib.Core.Bool.{Bool, true, false}
 use mathlib.Core.List.{List, [], ◌∷◌, ◌++◌, append_assoc}
 use mathlib.Core.Option.{Option, none, some}
@@ -14,6 +16,7 @@ use Rattle.definition.specs.Deinline.{zero_offset}
 use Rattle.definition.specs.Names.{Scope, item_no, const_op, table_no, resolve, is_absent}
 use Rattle.definition.specs.Names as Names
 use Rattle.definition.specs.Binary.{u, vec, sized, expr, elem, data', entries}
+use Rattle.syntax.specs.Reads.{same, maybe}
 use Rattle.syntax.specs.Refusals.{refused_by}
 use Rattle.syntax.specs.declared.Refusal.{Refusal}
 use Rattle.emit.specs.Put.{Put}
@@ -26,30 +29,23 @@ use Rattle.syntax.specs.Plain.{constant_at}
 use Rattle.syntax.specs.Fields.{mode_of}
 use Rattle.syntax.specs.declared.Mode as Code
 use Rattle.syntax.specs.declared.Mode.TheVariants as M
-use Rattle.name_table.specs.Area.{resolved}
-use Rattle.name_table.specs.declared.table.Resolved.{Resolved}
-use Rattle.name_table.specs.declared.table.Resolved.TheVariants as R
 use Rattle.binary.specs.Emits.{Wrote, Emits}
-use Rattle.binary.specs.declared.Emitted.{Emitted}
-use Rattle.binary.specs.declared.Emitted.TheVariants as E
 use Rattle.binary.proofs.Emitting.{wrote, halts, was_wrote, has_halted, emits-is, emits-map, emits_not, emits_then, emits-put}
 use Rattle.import_export.specs.Entry.{entry_of}
-use Rattle.segments.specs.Segments.{table_at, at_table, elem_mode, at_memory, data_mode}
+use Rattle.segments.specs.Segments.{at_table, elem_mode, at_memory, data_mode}
 use Rattle.operands.specs.Operands.{const_bytes, zero_op}
-use Rattle.segments.specs.declared.elem_segment.TableAt.{TableAt}
-use Rattle.segments.specs.declared.elem_segment.TableAt.TheVariants as T
 
 -- ## Bytes around a value's
 
 module _ {A : Type 0} (f g : A → Bytes) (a : Answer A) (old : List ℕ) (at : ℕ) where
   -- before them
-  before : (bs : Bytes) (o : ℕ) (mid : List ℕ) (q : Emitted) (new : List ℕ) → ((x : A) → bs ++ f x ≡ g x) → Put old at bs o mid → Emits f a mid o q new → Emits g a old at q new
+  before : (bs : Bytes) (o : ℕ) (mid : List ℕ) (q : Resolved ℕ) (new : List ℕ) → ((x : A) → bs ++ f x ≡ g x) → Put old at bs o mid → Emits f a mid o q new → Emits g a old at q new
   unfolding Emits
-  before bs o mid (E.To q) new s p w = record { value = w.value; is = w.is; put = put_is (put_then p w.put) (s w.value) }
-  before bs o mid (E.Refused r) new s p w = w
+  before bs o mid (Ok q) new s p w = record { value = w.value; is = w.is; put = put_is (put_then p w.put) (s w.value) }
+  before bs o mid (Err r) new s p w = w
 
   -- after them
-  behind : (bs : Bytes) (q : Emitted) (o : ℕ) (mid : List ℕ) (r : ℕ) (new : List ℕ) → ((x : A) → f x ++ bs ≡ g x) → Emits f a old at q mid → q ≡ E.To o → Put mid o bs r new → Emits g a old at (E.To r) new
+  behind : (bs : Bytes) (q : Resolved ℕ) (o : ℕ) (mid : List ℕ) (r : ℕ) (new : List ℕ) → ((x : A) → f x ++ bs ≡ g x) → Emits f a old at q mid → q ≡ Ok o → Put mid o bs r new → Emits g a old at (Ok r) new
   unfolding Emits
   behind bs q o mid r new s w d p =
       let v : Wrote f a old at o mid = was_wrote f a old at mid q o w d in
@@ -58,47 +54,47 @@ module _ {A : Type 0} (f g : A → Bytes) (a : Answer A) (old : List ℕ) (at : 
 -- ## The table
 
 module _ (Γ : Scope Identifier) (s : Bytes) (rec : ℕ) (x : Index) where
-  module _ (y : Resolved) (told : item_no Γ tables rec (index_of s x) ≡ resolved y) where
-    table_is : (n : ℕ) → y ≡ R.To n → table_no Γ rec (index_of s x) ≡ ok (if is_absent (index_of s x) then none else some n)
+  module _ (n : ℕ) (told : item_no Γ tables rec (index_of s x) ≡ ok n) where
+    table_is : table_no Γ rec (index_of s x) ≡ ok (if is_absent (index_of s x) then none else some n)
     unfolding table_no ◌>>=◌
-    table_is n e = rw (told, e)
+    table_is = rw told
 
-    pub table-absent : (n : ℕ) → y ≡ R.To n → x ≡ X.Absent → table_no Γ rec (index_of s x) ≡ ok none
+    pub table-absent : x ≡ X.Absent → table_no Γ rec (index_of s x) ≡ ok none
     unfolding is_absent
-    table-absent n e d = table_is n e ∙ rw d
+    table-absent d = table_is ∙ rw d
 
-    pub table-number : (n m : ℕ) → y ≡ R.To n → x ≡ X.Number m → table_no Γ rec (index_of s x) ≡ ok (some n)
+    pub table-number : (m : ℕ) → x ≡ X.Number m → table_no Γ rec (index_of s x) ≡ ok (some n)
     unfolding is_absent
-    table-number n m e d = table_is n e ∙ rw d
+    table-number m d = table_is ∙ rw d
 
-    pub table-named : (n : ℕ) (p : Part) → y ≡ R.To n → x ≡ X.Named p → table_no Γ rec (index_of s x) ≡ ok (some n)
+    pub table-named : (p : Part) → x ≡ X.Named p → table_no Γ rec (index_of s x) ≡ ok (some n)
     unfolding is_absent
-    table-named n p e d = table_is n e ∙ rw d
+    table-named p d = table_is ∙ rw d
 
-    pub table_not : (r : Refusal) → y ≡ R.Refused r → table_no Γ rec (index_of s x) ≡ refused_by r
-    unfolding table_no ◌>>=◌
-    table_not r e = rw (told, e)
+  pub table_not : (r : Refusal) → item_no Γ tables rec (index_of s x) ≡ refused_by r → table_no Γ rec (index_of s x) ≡ refused_by r
+  unfolding table_no ◌>>=◌
+  table_not r e = rw e
 
 pub ruleset table-nos = (table-absent, table-number, table-named, table_not)
 
 -- ## The mode of a segment: the table or the memory, and the offset
 
 module _ (a : Answer Op) (old : List ℕ) (at o : ℕ) (mid : List ℕ) where
-  pub no_table : (q : Emitted) (new : List ℕ) → Put old at (0 ∷ []) o mid → Emits const_bytes a mid o q new → Emits (at_table none) a old at q new
+  pub no_table : (q : Resolved ℕ) (new : List ℕ) → Put old at (0 ∷ []) o mid → Emits const_bytes a mid o q new → Emits (at_table none) a old at q new
   unfolding at_table const_bytes
   no_table q new p w = before const_bytes (at_table none) a old at (0 ∷ []) o mid q new (λ x. refl) p w
 
-  module _ (n : ℕ) (p : Put old at (2 ∷ u n) o mid) (q : Emitted) (b : List ℕ) (w : Emits const_bytes a mid o q b) where
-    pub with_table : (e r : ℕ) (new : List ℕ) → q ≡ E.To e → Put b e (0 ∷ []) r new → Emits (at_table (some n)) a old at (E.To r) new
+  module _ (n : ℕ) (p : Put old at (2 ∷ u n) o mid) (q : Resolved ℕ) (b : List ℕ) (w : Emits const_bytes a mid o q b) where
+    pub with_table : (e r : ℕ) (new : List ℕ) → q ≡ Ok e → Put b e (0 ∷ []) r new → Emits (at_table (some n)) a old at (Ok r) new
     unfolding at_table const_bytes
     with_table e r new d z =
         behind (λ x. 2 ∷ u n ++ expr (x ∷ [])) (at_table (some n)) a old at (0 ∷ []) q e b r new (λ x. refl)
         (before const_bytes (λ x. 2 ∷ u n ++ expr (x ∷ [])) a old at (2 ∷ u n) o mid q b (λ x. refl) p w) d z
 
-    pub with_table_not : (r : Refusal) → q ≡ E.Refused r → Emits (at_table (some n)) a old at (E.Refused r) b
+    pub with_table_not : (r : Refusal) → q ≡ Err r → Emits (at_table (some n)) a old at (Err r) b
     with_table_not r d = halts (at_table (some n)) a old at b r (has_halted const_bytes a mid o b q r w d)
 
-  pub with_memory : (m : ℕ) (q : Emitted) (new : List ℕ) → Put old at (if eqb m 0 then 0 ∷ [] else 2 ∷ u m) o mid → Emits const_bytes a mid o q new → Emits (at_memory m) a old at q new
+  pub with_memory : (m : ℕ) (q : Resolved ℕ) (new : List ℕ) → Put old at (if eqb m 0 then 0 ∷ [] else 2 ∷ u m) o mid → Emits const_bytes a mid o q new → Emits (at_memory m) a old at q new
   unfolding at_memory const_bytes
   with_memory m q new p w = before const_bytes (at_memory m) a old at (if eqb m 0 then 0 ∷ [] else 2 ∷ u m) o mid q new (λ x. refl) p w
 
@@ -106,51 +102,50 @@ module _ {X : Type 0} (Γ : Scope Identifier) (f : ℕ → Syntax.Index Identifi
   abbrev Active : Answer (Mode X Op)
   Active = Names.mode_of Γ f rec (active x c)
 
-  mode_on : (t : X) (g : Op → Bytes) (q : Emitted) (new : List ℕ) → ((o : Op) → g o ≡ bytes (active t o)) → f rec x ≡ ok t → Emits g (const_op Γ rec c) old at q new → Emits bytes Active old at q new
+  mode_on : (t : X) (g : Op → Bytes) (q : Resolved ℕ) (new : List ℕ) → ((o : Op) → g o ≡ bytes (active t o)) → f rec x ≡ ok t → Emits g (const_op Γ rec c) old at q new → Emits bytes Active old at q new
   unfolding Names.mode_of ◌>>=◌
   mode_on t g q new s e w =
       emits-is bytes (const_op Γ rec c >>= λ o. ok (active t o)) Active old at q new (rw e)
       (emits-map g bytes (λ o. active t o) (const_op Γ rec c) old at q new s w)
 
-  mode_not : (r : Refusal) (new : List ℕ) → f rec x ≡ refused_by r → Emits bytes Active old at (E.Refused r) new
+  mode_not : (r : Refusal) (new : List ℕ) → f rec x ≡ refused_by r → Emits bytes Active old at (Err r) new
   unfolding Names.mode_of ◌>>=◌
   mode_not r new e = halts bytes Active old at new r (rw e)
 
 module _ (Γ : Scope Identifier) (rec : ℕ) (x : Syntax.Index Identifier) (c : Syntax.Plain Identifier) (old : List ℕ) (at : ℕ) (new : List ℕ) where
-  module _ (y : TableAt) (told : table_no Γ rec x ≡ table_at y) where
-    pub at_no_table : (q : Emitted) → y ≡ T.Absent → Emits (at_table none) (const_op Γ rec c) old at q new → Emits elem_mode (Names.mode_of Γ (table_no Γ) rec (active x c)) old at q new
+  module _ (y : Optional ℕ) (told : table_no Γ rec x ≡ ok (maybe same y)) where
+    pub at_no_table : (q : Resolved ℕ) → y ≡ None → Emits (at_table none) (const_op Γ rec c) old at q new → Emits elem_mode (Names.mode_of Γ (table_no Γ) rec (active x c)) old at q new
     unfolding elem_mode
-    at_no_table q d w = mode_on Γ (table_no Γ) elem_mode rec x c old at none (at_table none) q new (λ o. refl) (told ∙ ap table_at d) w
+    at_no_table q d w = mode_on Γ (table_no Γ) elem_mode rec x c old at none (at_table none) q new (λ o. refl) (rw d at told) w
 
-    pub at_table_lem : (n : ℕ) (q : Emitted) → y ≡ T.To n → Emits (at_table (some n)) (const_op Γ rec c) old at q new → Emits elem_mode (Names.mode_of Γ (table_no Γ) rec (active x c)) old at q new
+    pub at_table_lem : (n : ℕ) (q : Resolved ℕ) → y ≡ Some n → Emits (at_table (some n)) (const_op Γ rec c) old at q new → Emits elem_mode (Names.mode_of Γ (table_no Γ) rec (active x c)) old at q new
     unfolding elem_mode
-    at_table_lem n q d w = mode_on Γ (table_no Γ) elem_mode rec x c old at (some n) (at_table (some n)) q new (λ o. refl) (told ∙ ap table_at d) w
+    at_table_lem n q d w = mode_on Γ (table_no Γ) elem_mode rec x c old at (some n) (at_table (some n)) q new (λ o. refl) (rw d at told) w
 
-    pub at-table_not : (r : Refusal) → y ≡ T.Refused r → Emits elem_mode (Names.mode_of Γ (table_no Γ) rec (active x c)) old at (E.Refused r) new
-    at-table_not r d = mode_not Γ (table_no Γ) elem_mode rec x c old at r new (told ∙ ap table_at d)
+  pub at-table_not : (r : Refusal) → table_no Γ rec x ≡ refused_by r → Emits elem_mode (Names.mode_of Γ (table_no Γ) rec (active x c)) old at (Err r) new
+  at-table_not r d = mode_not Γ (table_no Γ) elem_mode rec x c old at r new d
 
-  module _ (y : Resolved) (told : item_no Γ mems rec x ≡ resolved y) where
-    pub at_memory_lem : (m : ℕ) (q : Emitted) → y ≡ R.To m → Emits (at_memory m) (const_op Γ rec c) old at q new → Emits data_mode (Names.mode_of Γ (item_no Γ mems) rec (active x c)) old at q new
-    unfolding data_mode
-    at_memory_lem m q d w = mode_on Γ (item_no Γ mems) data_mode rec x c old at m (at_memory m) q new (λ o. refl) (told ∙ ap resolved d) w
+  pub at_memory_lem : (m : ℕ) (q : Resolved ℕ) → item_no Γ mems rec x ≡ ok m → Emits (at_memory m) (const_op Γ rec c) old at q new → Emits data_mode (Names.mode_of Γ (item_no Γ mems) rec (active x c)) old at q new
+  unfolding data_mode
+  at_memory_lem m q d w = mode_on Γ (item_no Γ mems) data_mode rec x c old at m (at_memory m) q new (λ o. refl) d w
 
-    pub at_memory_not : (r : Refusal) → y ≡ R.Refused r → Emits data_mode (Names.mode_of Γ (item_no Γ mems) rec (active x c)) old at (E.Refused r) new
-    at_memory_not r d = mode_not Γ (item_no Γ mems) data_mode rec x c old at r new (told ∙ ap resolved d)
+  pub at_memory_not : (r : Refusal) → item_no Γ mems rec x ≡ refused_by r → Emits data_mode (Names.mode_of Γ (item_no Γ mems) rec (active x c)) old at (Err r) new
+  at_memory_not r d = mode_not Γ (item_no Γ mems) data_mode rec x c old at r new d
 
 -- passive or active
 module _ (Γ : Scope Identifier) (s : Bytes) (rec : ℕ) (m : Code.Mode) (old : List ℕ) (at : ℕ) (new : List ℕ) where
-  pub elem-passive : (r : ℕ) → m ≡ M.Passive → Put old at (1 ∷ 0 ∷ []) r new → Emits elem_mode (Names.mode_of Γ (table_no Γ) rec (mode_of s m)) old at (E.To r) new
+  pub elem-passive : (r : ℕ) → m ≡ M.Passive → Put old at (1 ∷ 0 ∷ []) r new → Emits elem_mode (Names.mode_of Γ (table_no Γ) rec (mode_of s m)) old at (Ok r) new
   unfolding elem_mode Names.mode_of
   elem-passive r d p = wrote elem_mode (Names.mode_of Γ (table_no Γ) rec (mode_of s m)) old at new passive r p (rw d)
 
-  pub elem-active : (x : Index) (c : ℕ) (q : Emitted) → m ≡ M.Active x c → Emits elem_mode (Names.mode_of Γ (table_no Γ) rec (active (index_of s x) (constant_at s c))) old at q new → Emits elem_mode (Names.mode_of Γ (table_no Γ) rec (mode_of s m)) old at q new
+  pub elem-active : (x : Index) (c : ℕ) (q : Resolved ℕ) → m ≡ M.Active x c → Emits elem_mode (Names.mode_of Γ (table_no Γ) rec (active (index_of s x) (constant_at s c))) old at q new → Emits elem_mode (Names.mode_of Γ (table_no Γ) rec (mode_of s m)) old at q new
   elem-active x c q d w = rw d w
 
-  pub data_passive : (r : ℕ) → m ≡ M.Passive → Put old at (1 ∷ []) r new → Emits data_mode (Names.mode_of Γ (item_no Γ mems) rec (mode_of s m)) old at (E.To r) new
+  pub data_passive : (r : ℕ) → m ≡ M.Passive → Put old at (1 ∷ []) r new → Emits data_mode (Names.mode_of Γ (item_no Γ mems) rec (mode_of s m)) old at (Ok r) new
   unfolding data_mode Names.mode_of
   data_passive r d p = wrote data_mode (Names.mode_of Γ (item_no Γ mems) rec (mode_of s m)) old at new passive r p (rw d)
 
-  pub data_active : (x : Index) (c : ℕ) (q : Emitted) → m ≡ M.Active x c → Emits data_mode (Names.mode_of Γ (item_no Γ mems) rec (active (index_of s x) (constant_at s c))) old at q new → Emits data_mode (Names.mode_of Γ (item_no Γ mems) rec (mode_of s m)) old at q new
+  pub data_active : (x : Index) (c : ℕ) (q : Resolved ℕ) → m ≡ M.Active x c → Emits data_mode (Names.mode_of Γ (item_no Γ mems) rec (active (index_of s x) (constant_at s c))) old at q new → Emits data_mode (Names.mode_of Γ (item_no Γ mems) rec (mode_of s m)) old at q new
   data_active x c q d w = rw d w
 
 -- ## Segments
@@ -168,22 +163,22 @@ unfolding data_mode at_memory entry_of entries data'
 data_bytes bs passive = refl
 data_bytes bs (active m o) = refl
 
-module _ (Γ : Scope Identifier) (rec : ℕ) (m : Mode (Syntax.Index Identifier) (Syntax.Plain Identifier)) (old : List ℕ) (at : ℕ) (q : Emitted) (mid : List ℕ) where
+module _ (Γ : Scope Identifier) (rec : ℕ) (m : Mode (Syntax.Index Identifier) (Syntax.Plain Identifier)) (old : List ℕ) (at : ℕ) (q : Resolved ℕ) (mid : List ℕ) where
   module _ (xs : List (Syntax.Index Identifier)) (first : Emits elem_mode (Names.mode_of Γ (table_no Γ) rec m) old at q mid) where
-    pub elem_to : (o : ℕ) (r : Emitted) (new : List ℕ) → q ≡ E.To o → Emits (vec u) (each (item_no Γ funcs rec) xs) mid o r new → Emits entry_of (resolve Γ rec (Syntax.elem_f none m xs)) old at r new
+    pub elem_to : (o : ℕ) (r : Resolved ℕ) (new : List ℕ) → q ≡ Ok o → Emits (vec u) (each (item_no Γ funcs rec) xs) mid o r new → Emits entry_of (resolve Γ rec (Syntax.elem_f none m xs)) old at r new
     unfolding resolve
     elem_to o r new d w = emits_then elem_mode (vec u) entry_of (λ y ns. Syntax.elem_i y ns) (Names.mode_of Γ (table_no Γ) rec m) (each (item_no Γ funcs rec) xs) old at q o mid r new elem-bytes first d w
 
-    pub elem_not : (r : Refusal) → q ≡ E.Refused r → Emits entry_of (resolve Γ rec (Syntax.elem_f none m xs)) old at (E.Refused r) mid
+    pub elem_not : (r : Refusal) → q ≡ Err r → Emits entry_of (resolve Γ rec (Syntax.elem_f none m xs)) old at (Err r) mid
     unfolding resolve
     elem_not r d = emits_not elem_mode entry_of (λ y. each (item_no Γ funcs rec) xs >>= λ ns. ok (Syntax.elem_i y ns)) (Names.mode_of Γ (table_no Γ) rec m) old at q r mid first d
 
   module _ (bs : Bytes) (first : Emits data_mode (Names.mode_of Γ (item_no Γ mems) rec m) old at q mid) where
-    pub data_to : (o r : ℕ) (new : List ℕ) → q ≡ E.To o → Put mid o (sized bs) r new → Emits entry_of (resolve Γ rec (Syntax.data_f none m bs)) old at (E.To r) new
+    pub data_to : (o r : ℕ) (new : List ℕ) → q ≡ Ok o → Put mid o (sized bs) r new → Emits entry_of (resolve Γ rec (Syntax.data_f none m bs)) old at (Ok r) new
     unfolding resolve
     data_to o r new d p = emits-put data_mode entry_of (λ y. Syntax.data_i y bs) (Names.mode_of Γ (item_no Γ mems) rec m) old at (sized bs) q o mid r new (data_bytes bs) first d p
 
-    pub data_not : (r : Refusal) → q ≡ E.Refused r → Emits entry_of (resolve Γ rec (Syntax.data_f none m bs)) old at (E.Refused r) mid
+    pub data_not : (r : Refusal) → q ≡ Err r → Emits entry_of (resolve Γ rec (Syntax.data_f none m bs)) old at (Err r) mid
     unfolding resolve
     data_not r d = emits_not data_mode entry_of (λ y. ok (Syntax.data_i y bs)) (Names.mode_of Γ (item_no Γ mems) rec m) old at q r mid first d
 
@@ -200,14 +195,14 @@ module _ (Γ : Scope Identifier) (rec n : ℕ) where
   zero_mode true = refl
   zero_mode false = refl
 
-  pub inline_elem : (wide : Bool) (xs : List (Syntax.Index Identifier)) (old : List ℕ) (at o : ℕ) (mid : List ℕ) (q : Emitted) (new : List ℕ) → Put old at (at_table (some n) (zero_op wide)) o mid
+  pub inline_elem : (wide : Bool) (xs : List (Syntax.Index Identifier)) (old : List ℕ) (at o : ℕ) (mid : List ℕ) (q : Resolved ℕ) (new : List ℕ) → Put old at (at_table (some n) (zero_op wide)) o mid
       → Emits (vec u) (each (item_no Γ funcs rec) xs) mid o q new → Emits entry_of (resolve Γ rec (Syntax.elem_f none (active (Syntax.own_index n) (zero_offset wide)) xs)) old at q new
   unfolding elem_mode
   inline_elem wide xs old at o mid q new p w =
-      let first : Emits elem_mode (Names.mode_of Γ (table_no Γ) rec (active (Syntax.own_index n) (zero_offset wide))) old at (E.To o) mid =
+      let first : Emits elem_mode (Names.mode_of Γ (table_no Γ) rec (active (Syntax.own_index n) (zero_offset wide))) old at (Ok o) mid =
       wrote elem_mode (Names.mode_of Γ (table_no Γ) rec (active (Syntax.own_index n) (zero_offset wide))) old at mid (active (some n) (zero_op wide)) o p (zero_mode wide)
       in
-      elem_to Γ rec (active (Syntax.own_index n) (zero_offset wide)) old at (E.To o) mid xs first o q new refl w
+      elem_to Γ rec (active (Syntax.own_index n) (zero_offset wide)) old at (Ok o) mid xs first o q new refl w
 
 -- form 0 or form 2
 module _ (m : ℕ) (old : List ℕ) (at r : ℕ) (new : List ℕ) where

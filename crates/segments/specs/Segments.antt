@@ -1,18 +1,15 @@
 -- Element and data segments: what stands before the functions and the bytes.
-use Rattle.std.specs.Prelude.{ℕ, [], ◌∷◌, ◌++◌, eqb, if◌then◌else◌}
+use Rattle.std.specs.Prelude.{Option as Optional, ℕ, [], ◌∷◌, ◌++◌, eqb, if◌then◌else◌}
 use Rattle.std.proofs.Math.Option.{Option, none, some}
-use Rattle.definition.specs.Basic.{Answer, ok}
+use Rattle.definition.specs.Basic.{Answer}
 use Rattle.definition.specs.Syntax.{Bytes, Op, Mode, passive, active}
 use Rattle.definition.specs.Binary.{u, expr}
-use Rattle.syntax.specs.Refusals.{refused_by}
-use Rattle.segments.specs.declared.elem_segment.TableAt.{TableAt}
-use Rattle.segments.specs.declared.elem_segment.TableAt.TheVariants as T
+use Rattle.syntax.specs.Reads.{same, maybe}
+use Rattle.syntax.specs.Refusals.{Resolved, answer}
 
 -- the table of an element segment; an absent index stays so
-abbrev pub table_at : TableAt → Answer (Option ℕ)
-table_at T.Absent = ok none
-table_at (T.To n) = ok (some n)
-table_at (T.Refused r) = refused_by r
+abbrev pub table_at : Resolved (Optional ℕ) → Answer (Option ℕ)
+table_at = answer (maybe same)
 
 -- what stands before the functions of an active segment, which begins at this offset
 unfoldable pub at_table : Option ℕ → Op → Bytes

@@ -15,9 +15,7 @@ ghost use Rattle.import_export.specs.Entry.{entry_of};
 ghost use Rattle.segments.specs.Segments.{at_memory, data_mode};
 ghost use Rattle.operands.specs.Operands.{zero_op};
 
-use binary::Emitted;
-use name_table::Resolved;
-use syntax::{Index, Mode, Part, Space};
+use syntax::{Index, Mode, Part, Resolved, Space};
 
 // Form 0 on memory 0, form 2 on another.
 fn put_memory(out: &mut [u8], at: usize, m: u32) -> usize
@@ -38,7 +36,7 @@ fn emit_on_memory(
     m: u32,
     c: usize,
     rec: u32,
-) -> Emitted
+) -> Resolved<usize>
     requires { WORDS ≤ length work.now }
     ensures { Emits (at_memory m) (Names.const_op (scope_in s.now work.now) rec (constant_at s.now c)) out.old at result out.new }
 {
@@ -54,14 +52,12 @@ fn emit_at_memory(
     x: Index,
     c: usize,
     rec: u32,
-) -> Emitted
+) -> Resolved<usize>
     requires { WORDS ≤ length work.now }
     ensures { Emits data_mode (Names.mode_of (scope_in s.now work.now) (Names.item_no (scope_in s.now work.now) mems) rec (active (index_of s.now x) (constant_at s.now c))) out.old at result out.new }
 {
-    match scope::item_no(s, work, Space::Mems, x, rec) {
-        Resolved::To(m) => emit_on_memory(s, work, out, at, m, c, rec),
-        Resolved::Refused(r) => Emitted::Refused(r),
-    }
+    let m = scope::item_no(s, work, Space::Mems, x, rec)?;
+    emit_on_memory(s, work, out, at, m, c, rec)
 }
 
 // What stands before the bytes: form 1, or the memory and the offset.
@@ -72,12 +68,12 @@ fn emit_data_mode(
     at: usize,
     mode: Mode,
     rec: u32,
-) -> Emitted
+) -> Resolved<usize>
     requires { WORDS ≤ length work.now }
     ensures { Emits data_mode (Names.mode_of (scope_in s.now work.now) (Names.item_no (scope_in s.now work.now) mems) rec (mode_of s.now mode)) out.old at result out.new }
 {
     match mode {
-        Mode::Passive => Emitted::To(emit::put(out, at, 1)),
+        Mode::Passive => Ok(emit::put(out, at, 1)),
         Mode::Active(x, c) => emit_at_memory(s, work, out, at, x, c, rec),
     }
 }
@@ -90,14 +86,12 @@ pub fn emit_data(
     mode: Mode,
     bytes: Part,
     rec: u32,
-) -> Emitted
+) -> Resolved<usize>
     requires { WORDS ≤ length work.now }
     ensures { Emits entry_of (Names.resolve (scope_in s.now work.now) rec (data_f none (mode_of s.now mode) (part_of s.now bytes))) out.old at result out.new }
 {
-    match emit_data_mode(s, work, out, at, mode, rec) {
-        Emitted::To(a) => Emitted::To(binary::put_name(s, out, a, bytes)),
-        Emitted::Refused(r) => Emitted::Refused(r),
-    }
+    let a = emit_data_mode(s, work, out, at, mode, rec)?;
+    Ok(binary::put_name(s, out, a, bytes))
 }
 
 // The data of an inline memory, which is the memory numbered n.

@@ -18,29 +18,17 @@ ghost use Rattle.operands.specs.Operands.{zero_op};
 ghost use Rattle.import_export.specs.Entry.{entry_of};
 ghost use Rattle.segments.specs.Segments.{at_table, elem_mode, table_at};
 
-use binary::Emitted;
-use name_table::Resolved;
-use syntax::{Index, List, Mode, Refusal, Space};
+use syntax::{Index, List, Mode, Resolved, Space};
 
-// The table of an element segment. An absent index stays so: it decides the segment's form.
-#[derive(Clone, Copy)]
-pub enum TableAt {
-    Absent,
-    To(u32),
-    Refused(Refusal),
-}
-
-fn table_no(s: &[u8], work: &[u32], x: Index, rec: u32) -> TableAt
+fn table_no(s: &[u8], work: &[u32], x: Index, rec: u32) -> Resolved<Option<u32>>
     requires { WORDS ≤ length work.now }
     ensures { Names.table_no (scope_in s.now work.now) rec (index_of s.now x) ≡ table_at result }
 {
-    match scope::item_no(s, work, Space::Tables, x, rec) {
-        Resolved::To(n) => match x {
-            Index::Absent => TableAt::Absent,
-            Index::Number(_) => TableAt::To(n),
-            Index::Named(_) => TableAt::To(n),
-        },
-        Resolved::Refused(r) => TableAt::Refused(r),
+    let n = scope::item_no(s, work, Space::Tables, x, rec)?;
+    match x {
+        Index::Absent => Ok(None),
+        Index::Number(_) => Ok(Some(n)),
+        Index::Named(_) => Ok(Some(n)),
     }
 }
 
@@ -52,7 +40,7 @@ fn emit_without_table(
     at: usize,
     c: usize,
     rec: u32,
-) -> Emitted
+) -> Resolved<usize>
     requires { WORDS ≤ length work.now }
     ensures { Emits (at_table none) (Names.const_op (scope_in s.now work.now) rec (constant_at s.now c)) out.old at result out.new }
 {
@@ -77,15 +65,13 @@ fn emit_with_table(
     n: u32,
     c: usize,
     rec: u32,
-) -> Emitted
+) -> Resolved<usize>
     requires { WORDS ≤ length work.now }
     ensures { Emits (at_table (some n)) (Names.const_op (scope_in s.now work.now) rec (constant_at s.now c)) out.old at result out.new }
 {
     let a = put_form_2(out, at, n);
-    match operands::emit_const(s, work, out, a, c, rec) {
-        Emitted::To(b) => Emitted::To(emit::put(out, b, 0)),
-        Emitted::Refused(r) => Emitted::Refused(r),
-    }
+    let b = operands::emit_const(s, work, out, a, c, rec)?;
+    Ok(emit::put(out, b, 0))
 }
 
 fn emit_at_table(
@@ -96,14 +82,13 @@ fn emit_at_table(
     x: Index,
     c: usize,
     rec: u32,
-) -> Emitted
+) -> Resolved<usize>
     requires { WORDS ≤ length work.now }
     ensures { Emits elem_mode (Names.mode_of (scope_in s.now work.now) (Names.table_no (scope_in s.now work.now)) rec (active (index_of s.now x) (constant_at s.now c))) out.old at result out.new }
 {
-    match table_no(s, work, x, rec) {
-        TableAt::Absent => emit_without_table(s, work, out, at, c, rec),
-        TableAt::To(n) => emit_with_table(s, work, out, at, n, c, rec),
-        TableAt::Refused(r) => Emitted::Refused(r),
+    match table_no(s, work, x, rec)? {
+        None => emit_without_table(s, work, out, at, c, rec),
+        Some(n) => emit_with_table(s, work, out, at, n, c, rec),
     }
 }
 
@@ -123,12 +108,12 @@ fn emit_elem_mode(
     at: usize,
     mode: Mode,
     rec: u32,
-) -> Emitted
+) -> Resolved<usize>
     requires { WORDS ≤ length work.now }
     ensures { Emits elem_mode (Names.mode_of (scope_in s.now work.now) (Names.table_no (scope_in s.now work.now)) rec (mode_of s.now mode)) out.old at result out.new }
 {
     match mode {
-        Mode::Passive => Emitted::To(put_passive(out, at)),
+        Mode::Passive => Ok(put_passive(out, at)),
         Mode::Active(x, c) => emit_at_table(s, work, out, at, x, c, rec),
     }
 }
@@ -141,14 +126,12 @@ pub fn emit_elem(
     mode: Mode,
     funcs: List,
     rec: u32,
-) -> Emitted
+) -> Resolved<usize>
     requires { WORDS ≤ length work.now }
     ensures { Emits entry_of (Names.resolve (scope_in s.now work.now) rec (elem_f none (mode_of s.now mode) (list_of Token.present s.now funcs))) out.old at result out.new }
 {
-    match emit_elem_mode(s, work, out, at, mode, rec) {
-        Emitted::To(a) => operands::emit_funcs(s, work, out, a, funcs, rec),
-        Emitted::Refused(r) => Emitted::Refused(r),
-    }
+    let a = emit_elem_mode(s, work, out, at, mode, rec)?;
+    operands::emit_funcs(s, work, out, a, funcs, rec)
 }
 
 // Form 2: the table, offset 0, and the kind funcref.
@@ -170,7 +153,7 @@ pub fn emit_inline_elem(
     n: u32,
     funcs: List,
     rec: u32,
-) -> Emitted
+) -> Resolved<usize>
     requires { WORDS ≤ length work.now }
     ensures { Emits entry_of (Names.resolve (scope_in s.now work.now) rec (elem_f none (active (own_index n) (Deinline.zero_offset is64)) (list_of Token.present s.now funcs))) out.old at result out.new }
 {

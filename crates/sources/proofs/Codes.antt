@@ -1,8 +1,6 @@
 -- A space's code is an index of the counts.
 use mathlib.Core.Path.{◌≡◌}
-use mathlib.Core.List.{List}
 use Prim.Native.Nat.{ℕ, ◌*◌, ◌<◌}
-use lib.ListN.{get_or}
 use native.Mathlib.Omega.{arith}
 use mir.Syntax.{w64}
 use mir.Val.{Fits}
@@ -26,5 +24,4 @@ space_small k i e = omega (arith, code_small k)
 pub space-fits : (k : Space) (i : ℕ) → i ≡ code (space_of k) → Fits w64 (i * 4)
 space-fits k i e = record { fits = omega (arith, code_small k) }
 
-pub count-is : (xs : List ℕ) (i j : ℕ) → i ≡ j → get_or xs i 0 ≡ get_or xs j 0
-count-is xs i j e = rw e
+pub ruleset codes = (space_small, space-fits)

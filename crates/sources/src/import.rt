@@ -4,95 +4,56 @@ ghost use Rattle.definition.specs.Records as Records;
 ghost use Rattle.syntax.specs.Items.{name_at, extern_at};
 ghost use Rattle.sources.specs.Readers.{extern_of};
 
-use syntax::{
-    Extern, ExternAt, GlobalTypeAt, ImportName, Kind, LimitsAt, NameAt, PartAt, TableTypeAt, UseAt,
-};
+use syntax::{Extern, ImportName, Kind, Read};
 
-pub fn read_import_name(s: &[u8], at: usize) -> NameAt
+#[tactic(auto, using(laws::proofs::Ways::ways, syntax::proofs::Ways::reads), unfolding(definition::specs::Records::import_name))]
+pub fn read_import_name(s: &[u8], at: usize) -> Read<ImportName>
     ensures { Records.import_name s.now at ≡ name_at s.now result }
 {
-    match token::read_string(s, at) {
-        PartAt::Got(module, a) => match token::read_string(s, a) {
-            PartAt::Got(item, b) => {
-                return NameAt::Got(ImportName { module, item }, b);
-            }
-            PartAt::Fault(e) => {
-                return NameAt::Fault(e);
-            }
-        },
-        PartAt::Fault(e) => {
-            return NameAt::Fault(e);
-        }
-    }
+    let (module, a) = token::read_string(s, at)?;
+    let (item, b) = token::read_string(s, a)?;
+    Ok((ImportName { module, item }, b))
 }
 
-fn func_extern(s: &[u8], at: usize) -> ExternAt
+#[tactic(auto, using(laws::proofs::Ways::ways, syntax::proofs::Ways::reads), unfolding(definition::specs::Records::func_extern))]
+fn func_extern(s: &[u8], at: usize) -> Read<Extern>
     ensures { Records.func_extern s.now at ≡ extern_at s.now result }
 {
-    match typeuse::read_type_use(s, at) {
-        UseAt::Got(t, next) => {
-            return ExternAt::Got(Extern::Func(t), next);
-        }
-        UseAt::Fault(e) => {
-            return ExternAt::Fault(e);
-        }
-    }
+    let (t, next) = typeuse::read_type_use(s, at)?;
+    Ok((Extern::Func(t), next))
 }
 
-fn table_extern(s: &[u8], at: usize) -> ExternAt
+#[tactic(auto, using(laws::proofs::Ways::ways, syntax::proofs::Ways::reads), unfolding(definition::specs::Records::table_extern))]
+fn table_extern(s: &[u8], at: usize) -> Read<Extern>
     ensures { Records.table_extern s.now at ≡ extern_at s.now result }
 {
-    match coretypes::read_table_type(s, at) {
-        TableTypeAt::Got(t, next) => {
-            return ExternAt::Got(Extern::Table(t), next);
-        }
-        TableTypeAt::Fault(e) => {
-            return ExternAt::Fault(e);
-        }
-    }
+    let (t, next) = coretypes::read_table_type(s, at)?;
+    Ok((Extern::Table(t), next))
 }
 
-fn mem_extern(s: &[u8], at: usize) -> ExternAt
+#[tactic(auto, using(laws::proofs::Ways::ways, syntax::proofs::Ways::reads), unfolding(definition::specs::Records::mem_extern))]
+fn mem_extern(s: &[u8], at: usize) -> Read<Extern>
     ensures { Records.mem_extern s.now at ≡ extern_at s.now result }
 {
-    match coretypes::read_limits(s, at) {
-        LimitsAt::Got(l, next) => {
-            return ExternAt::Got(Extern::Mem(l), next);
-        }
-        LimitsAt::Fault(e) => {
-            return ExternAt::Fault(e);
-        }
-    }
+    let (l, next) = coretypes::read_limits(s, at)?;
+    Ok((Extern::Mem(l), next))
 }
 
-fn global_extern(s: &[u8], at: usize) -> ExternAt
+#[tactic(auto, using(laws::proofs::Ways::ways, syntax::proofs::Ways::reads), unfolding(definition::specs::Records::global_extern))]
+fn global_extern(s: &[u8], at: usize) -> Read<Extern>
     ensures { Records.global_extern s.now at ≡ extern_at s.now result }
 {
-    match coretypes::read_global_type(s, at) {
-        GlobalTypeAt::Got(t, next) => {
-            return ExternAt::Got(Extern::Global(t), next);
-        }
-        GlobalTypeAt::Fault(e) => {
-            return ExternAt::Fault(e);
-        }
-    }
+    let (t, next) = coretypes::read_global_type(s, at)?;
+    Ok((Extern::Global(t), next))
 }
 
-pub fn read_extern(s: &[u8], at: usize, kind: Kind) -> ExternAt
+pub fn read_extern(s: &[u8], at: usize, kind: Kind) -> Read<Extern>
     ensures { extern_of kind s.now at ≡ extern_at s.now result }
 {
     match kind {
-        Kind::Func => {
-            return func_extern(s, at);
-        }
-        Kind::Table => {
-            return table_extern(s, at);
-        }
-        Kind::Mem => {
-            return mem_extern(s, at);
-        }
-        Kind::Global => {
-            return global_extern(s, at);
-        }
+        Kind::Func => func_extern(s, at),
+        Kind::Table => table_extern(s, at),
+        Kind::Mem => mem_extern(s, at),
+        Kind::Global => global_extern(s, at),
     }
 }

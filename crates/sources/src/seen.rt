@@ -5,6 +5,7 @@ ghost use Rattle.syntax.specs.Items.{count_of, kind_of, room_of};
 
 use syntax::{Kind, Seen, Space};
 
+#[tactic(auto, using(crate::proofs::Codes::codes))]
 pub fn count_of(seen: Seen, k: Space) -> u32
     ensures { result ≡ count_of seen (space_of k) }
 {
@@ -14,6 +15,7 @@ pub fn count_of(seen: Seen, k: Space) -> u32
 }
 
 // May one more item of a space come?
+#[tactic(auto, unfolding(syntax::specs::Items::room_of))]
 pub fn has_room(seen: Seen, k: Space) -> bool
     ensures { result ≡ (room_of seen).item (space_of k) }
 {

@@ -18,10 +18,9 @@ use Rattle.definition.specs.Read.{seen_after, items_after, body_after, started_a
 use Rattle.laws.proofs.Bodies.{folds}
 use Rattle.syntax.specs.declared.Place.{Place}
 use Rattle.next_record.specs.Places.{record_past}
-use Rattle.next_record.specs.Folds.{does_of, none_do, both_do, head_of, head_at, on_head, on_fold, on_byte, operands_by, after_f0, folded_at}
+use Rattle.next_record.specs.Folds.{Fold, does_of, none_do, both_do, head_of, head_at, on_head, on_fold, on_byte, operands_by, after_f0, folded_at}
 use Rattle.next_record.specs.declared.record.Does.{Does}
-use Rattle.next_record.specs.declared.fold.Fold.{Fold}
-use Rattle.next_record.specs.declared.fold.Fold.TheVariants as L
+use Rattle.next_record.specs.Folds as L
 use Rattle.stream.specs.Pass.{Passed, pass}
 use Rattle.stream.proofs.Model.{pass_end, pass-fault, pass_full, pass-got}
 
@@ -61,8 +60,8 @@ module _ (s : Bytes) (items : List Space) (blocks : Blocks) (started used named 
 
   -- the pass goes on where the recursion goes on, with these operands due; and it is refused where that is
   abbrev Goes : Passed → List ℕ → Fold → Type 0
-  Goes x ds (L.Past d q) = x ≡ from ds d q
-  Goes x ds (L.Refused n q) = Refuses x n q.rec
+  Goes x ds (L.passed d q) = x ≡ from ds d q
+  Goes x ds (L.stopped n q) = Refuses x n q.rec
 
   -- ## One record of it
 
@@ -128,19 +127,19 @@ module _ (s : Bytes) (items : List Space) (blocks : Blocks) (started used named 
         other false e h z = faults h (leb-false _ _ e) 4 (due-read h (leb-false _ _ e) z (g z))
 
         third : (v : Bool) → leb 4096 p.rec ≡ v → p.at < length s → eqb (get_or s p.at 0) 0xF0 ≡ true
-            → Goes (from ds d p) (complete ds) (if v then L.Refused 7 p else f (p.at + 1))
+            → Goes (from ds d p) (complete ds) (if v then L.stopped 7 p else f (p.at + 1))
         third true e h z = full h true (begins-fold z) (leb-true _ _ e)
         third false e h z = k h (leb-false _ _ e) z
 
         second : (u : Bool) → eqb (get_or s p.at 0) 0xF0 ≡ u → p.at < length s
-            → Goes (from ds d p) (complete ds) (if u then (if leb 4096 p.rec then L.Refused 7 p else f (p.at + 1)) else L.Refused 4 p)
+            → Goes (from ds d p) (complete ds) (if u then (if leb 4096 p.rec then L.stopped 7 p else f (p.at + 1)) else L.stopped 4 p)
         second true z h = third (leb 4096 p.rec) refl h z
         second false z h = other (leb 4096 p.rec) refl h z
 
         first : (t : Bool) → ltb p.at (length s) ≡ t
             → Goes (from ds d p) (complete ds)
             (on_byte (if t then got (get_or s p.at 0) (p.at + 1) else fault 2)
-            (λ b a. if eqb b 0xF0 then (if leb 4096 p.rec then L.Refused 7 p else f a) else L.Refused 4 p) (λ n. L.Refused n p))
+            (λ b a. if eqb b 0xF0 then (if leb 4096 p.rec then L.stopped 7 p else f a) else L.stopped 4 p) (λ n. L.stopped n p))
         first true e = second (eqb (get_or s p.at 0) 0xF0) refl (ltb-true _ _ e)
         first false e = at_end_lem (ltb-false _ _ e)
 
@@ -157,20 +156,20 @@ module _ (s : Bytes) (items : List Space) (blocks : Blocks) (started used named 
     where
       go : (x : Fold) → Goes (from (suc n ∷ ds) d p) (complete (suc n ∷ ds)) x → ((e : Does) (q : Place) → Goes (from (awaiting n ds) e q) (complete ds) (operands_by f n e q))
           → Goes (from (suc n ∷ ds) d p) (complete ds) (on_fold x (λ e q. operands_by f n e q))
-      go (L.Past e q) a w =
+      go (L.passed e q) a w =
           goes_by (from (suc n ∷ ds) d p) (from (awaiting n ds) e q) (complete ds) (operands_by f n e q) (a ∙ ap (λ z. from z e q) (complete-one n ds)) (w e q)
-      go (L.Refused k q) a w = a
+      go (L.stopped k q) a w = a
 
   folded_goes : (left : ℕ) (ds : List ℕ) (d : Does) (p : Place) → length ds + left ≡ 32 → (eqb (get_or s p.at 0) 0xF0 ≡ false → is_due ds ≡ true)
       → Goes (from ds d p) (complete ds) (folded_at left s d p)
   unfolding folded_at head_at is_due
-  folded_goes zero ds d p l g = by_first ds d p (λ a. L.Refused 7 p) g (λ h m z. faults ds d p h m 7 (deep-read ds d p h m z (omega arith)))
+  folded_goes zero ds d p l g = by_first ds d p (λ a. L.stopped 7 p) g (λ h m z. faults ds d p h m 7 (deep-read ds d p h m z (omega arith)))
   folded_goes (suc left) ds d p l g =
       by_first ds d p _ g (λ h m z. go h m z (fold s (p.at + 1)) refl (λ n e q. folded_goes left (suc n ∷ ds) e q (omega arith) (λ _. refl)))
     where
       go : p.at < length s → p.rec < 4096 → eqb (get_or s p.at 0) 0xF0 ≡ true → (m : Step (Rec Identifier)) → fold s (p.at + 1) ≡ m
           → ((n : ℕ) (e : Does) (q : Place) → Goes (from (suc n ∷ ds) e q) (complete (suc n ∷ ds)) (folded_at left s e q))
-          → Goes (from ds d p) (complete ds) (on_head (head_of m) (λ e n next. operands_by (folded_at left s) n (both_do d e) (record_past p next p.depth)) (λ n. L.Refused n p))
+          → Goes (from ds d p) (complete ds) (on_head (head_of m) (λ e n next. operands_by (folded_at left s) n (both_do d e) (record_past p next p.depth)) (λ n. L.stopped n p))
       go h m z (got (folded x n) next) e ih =
           goes_by (from ds d p) (from (awaiting n ds) (both_do d (does_of x)) (record_past p next p.depth)) (complete ds)
           (operands_by (folded_at left s) n (both_do d (does_of x)) (record_past p next p.depth))
@@ -190,8 +189,8 @@ module _ (s : Bytes) (seen : Read.Seen) (blocks : Blocks) (b : seen.body ≡ som
     pub same : x.ends ≡ ends
 
   abbrev pub Turned : Passed → Fold → Type 0
-  Turned x (L.Past d q) = x ≡ pass (4096 - q.rec) q.rec seen (used || d.uses) (named || d.names) ends s q.at
-  Turned x (L.Refused n q) = Stopped x n q.rec
+  Turned x (L.passed d q) = x ≡ pass (4096 - q.rec) q.rec seen (used || d.uses) (named || d.names) ends s q.at
+  Turned x (L.stopped n q) = Stopped x n q.rec
 
   pub folded-turn : (p : Place) → eqb (get_or s p.at 0) 0xF0 ≡ true → Turned (pass (4096 - p.rec) p.rec seen used named ends s p.at) (folded_at 32 s none_do p)
   unfolding complete
@@ -208,5 +207,5 @@ module _ (s : Bytes) (seen : Read.Seen) (blocks : Blocks) (b : seen.body ≡ som
 
       go : (x : Fold) → Goes s seen.items blocks seen.started used named ends (from s seen.items blocks seen.started used named ends [] none_do p) [] x
           → Turned (pass (4096 - p.rec) p.rec seen used named ends s p.at) x
-      go (L.Past d q) a = begins ∙ a ∙ ap (λ y. pass (4096 - q.rec) q.rec y (used || d.uses) (named || d.names) ends s q.at) (sym is)
-      go (L.Refused n q) a = record { says = ap (λ (x : Passed). x.says) begins ∙ a.says; same = ap (λ (x : Passed). x.ends) begins ∙ a.same }
+      go (L.passed d q) a = begins ∙ a ∙ ap (λ y. pass (4096 - q.rec) q.rec y (used || d.uses) (named || d.names) ends s q.at) (sym is)
+      go (L.stopped n q) a = record { says = ap (λ (x : Passed). x.says) begins ∙ a.says; same = ap (λ (x : Passed). x.ends) begins ∙ a.same }

@@ -1,5 +1,6 @@
 -- The loop over all records: what it started from passes as what is left passes from here.
-use Rattle.std.specs.Prelude.{if◌then◌else◌}
+use Rattle.std.specs.Prelude.{if◌then◌else◌, Ok, Err, IsErrAnd}
+use Rattle.std.specs.Result.{IsErr}
 use mathlib.Core.Path.{◌≡◌, refl, ap, sym, ◌∙◌, subst}
 use Prim.Native.Nat.{ℕ, zero, suc, ◌+◌, ◌-◌, ◌*◌, ◌≤◌, ◌<◌, ◌^◌}
 use mathlib.Core.Bool.{Bool, true, false, ◌||◌, not}
@@ -30,7 +31,10 @@ use Rattle.laws.proofs.Backwards as Backwards
 use Rattle.laws.proofs.Bodies as Bodies
 use Rattle.laws.proofs.Bodies.{end_inside, read_fits}
 use Rattle.laws.proofs.Sets.{sets-append}
-use Rattle.syntax.specs.Refusals.{refusal, refused_by}
+use Rattle.syntax.specs.Refusals.{number, refusal, refused_by, Resolved}
+use Rattle.syntax.specs.declared.Fault.{Fault}
+use Rattle.syntax.specs.declared.Fault.TheVariants as Faults
+use Rattle.syntax.proofs.Ways.{handed}
 use Rattle.syntax.specs.declared.Refusal.{Refusal}
 use Rattle.area.specs.Layout.{BYTES, COUNTS, DATA_NAMED, ENDS, WORDS, end_at}
 use Rattle.area.specs.Flags.{flag_put}
@@ -44,23 +48,19 @@ use Rattle.syntax.specs.declared.Source.TheVariants as S
 use Rattle.syntax.specs.declared.Field.{Field}
 use Rattle.syntax.specs.declared.Field.TheVariants as F
 use Rattle.next_record.specs.Uses.{may_use, names_data, operand_names, end_word}
-use Rattle.stream.specs.Pass.{Passed, used_after, named_after, end_of, pass, passed, end_words, area_after, reading, reading_area, first_place, refused_at, Ends, Walks, Reads}
+use Rattle.stream.specs.Pass.{Passed, used_after, named_after, end_of, pass, passed, end_words, area_after, reading, reading_area, first_place, Ends, Walks, Reads}
 use Rattle.next_record.specs.Places.{body_of, depth_of, depth_past, record_past, place_after, moved_by, field_record_at, body_record_at}
 use Rattle.next_record.specs.Marks.{Opened, Elsed, Ended}
 use Rattle.counting.specs.Counting.{field_seen}
-use Rattle.next_record.specs.Answers.{outside_answer, Shift, stay, name_data, open_one, else_one, end_one, shift_of, Kept, a_field, an_instr, some_folded, an_end, kept_of, kept_answer, kept_at, inside_answer}
-use Rattle.next_record.specs.Folds.{none_do, folded_at, kept_fold, turn_at}
+use Rattle.next_record.specs.Answers.{fault_at, Shift, stay, name_data, open_one, else_one, end_one, shift_of, Kept, a_field, an_instr, some_folded, an_end, kept_of, kept_answer, kept_at, inside_kept}
+use Rattle.next_record.specs.Folds.{Fold, none_do, folded_at, kept_fold, turn_at}
 use Rattle.stream.specs.Pass.{end_put}
 use Rattle.syntax.specs.declared.Place.{Place}
-use Rattle.next_record.specs.declared.record.Outside.{Outside}
-use Rattle.next_record.specs.declared.record.Outside.TheVariants as U
+use Rattle.next_record.specs.declared.record.FaultAt.{FaultAt}
 use Rattle.next_record.specs.declared.record.Inside.{Inside}
 use Rattle.next_record.specs.declared.record.Inside.TheVariants as N
 use Rattle.next_record.specs.declared.record.Does.{Does}
-use Rattle.next_record.specs.declared.fold.Fold.{Fold}
-use Rattle.next_record.specs.declared.fold.Fold.TheVariants as L
-use Rattle.stream.specs.declared.pass.Count.{Count}
-use Rattle.stream.specs.declared.pass.Count.TheVariants as C
+use Rattle.next_record.specs.Folds as L
 use Rattle.stream.proofs.Model.{passed-says, pass_end, pass-fault, pass_full, pass-got}
 use Rattle.stream.proofs.Folds.{or_none, byte-is, Turned, folded-turn}
 use Rattle.counting.proofs.Counts.{Counts, counts-none, counts-field, counts-instr, counts_end, room-same, counts_words}
@@ -168,11 +168,11 @@ module _ (p : Place) (m : Marks) (s : Bytes) (q : Place) where
   single k u e = go (eqb (get_or s p.at 0) 0xF0) e
     where
       no_fold : (x : Fold) → kept_fold x ≡ (ok k, q) → ⊥
-      no_fold (L.Past d r) e =
+      no_fold (L.passed d r) e =
           let a : ok (some_folded d) ≡ ok k = ap (λ (z : Answer Kept × Place). z.0) e in
           let b : k ≡ some_folded d = cc in
           subst Single b u
-      no_fold (L.Refused n r) e = let a : refused n r.rec ≡ ok k = ap (λ (z : Answer Kept × Place). z.0) e in let z : ◌≡◌ {A = ℕ} 0 1 = cc in omega arith
+      no_fold (L.stopped n r) e = let a : refused n r.rec ≡ ok k = ap (λ (z : Answer Kept × Place). z.0) e in let z : ◌≡◌ {A = ℕ} 0 1 = cc in omega arith
 
       go : (t : Bool) → (if t then kept_fold (folded_at 32 s none_do p) else kept_at (body_record_at p m s)) ≡ (ok k, q) → kept_at (body_record_at p m s) ≡ (ok k, q)
       go true e = absurd (no_fold (folded_at 32 s none_do p) e)
@@ -183,17 +183,17 @@ module _ (p : Place) (m : Marks) (s : Bytes) (q : Place) where
     first : eqb (get_or s p.at 0) 0xF0 ≡ true
     is : folded_at 32 s none_do p ≡ f
 
-  folded_as : (d : Does) → p.at < length s → turn_at p m s ≡ (ok (some_folded d), q) → FoldedAs (L.Past d q)
+  folded_as : (d : Does) → p.at < length s → turn_at p m s ≡ (ok (some_folded d), q) → FoldedAs (L.passed d q)
   unfolding turn_at body_record_at
   folded_as d h e = go (eqb (get_or s p.at 0) 0xF0) refl e
     where
-      past : (x : Fold) → kept_fold x ≡ (ok (some_folded d), q) → x ≡ L.Past d q
-      past (L.Past c r) e =
+      past : (x : Fold) → kept_fold x ≡ (ok (some_folded d), q) → x ≡ L.passed d q
+      past (L.passed c r) e =
           let a : ok (some_folded c) ≡ ok (some_folded d) = ap (λ (z : Answer Kept × Place). z.0) e in
           let b : r ≡ q = ap (λ (z : Answer Kept × Place). z.1) e in
           let i : c ≡ d = cc in
           rw (i, b)
-      past (L.Refused n r) e =
+      past (L.stopped n r) e =
           let a : refused n r.rec ≡ ok (some_folded d) = ap (λ (z : Answer Kept × Place). z.0) e in let z : ◌≡◌ {A = ℕ} 0 1 = cc in absurd (omega arith)
 
       there : eqb (get_or s p.at 0) 0xF0 ≡ false → (st : Step (Rec Identifier)) → body_rec (inside_of (p.depth - 1) m) s p.at ≡ st
@@ -207,18 +207,18 @@ module _ (p : Place) (m : Marks) (s : Bytes) (q : Place) where
           let a : refused n p.rec ≡ ok (some_folded d) = ap (λ (z : Answer Kept × Place). z.0) e in let z : ◌≡◌ {A = ℕ} 0 1 = cc in omega arith
 
       go : (t : Bool) → eqb (get_or s p.at 0) 0xF0 ≡ t → (if t then kept_fold (folded_at 32 s none_do p) else kept_at (body_record_at p m s)) ≡ (ok (some_folded d), q)
-          → FoldedAs (L.Past d q)
+          → FoldedAs (L.passed d q)
       go true z e = record { first = z; is = past (folded_at 32 s none_do p) e }
       go false z e = absurd (there z (body_rec (inside_of (p.depth - 1) m) s p.at) refl e)
 
   -- a refusal of what came of it, or of another record
-  refused_as : {A : Type 0} (n : ℕ) → turn_at p m s ≡ (refused n q.rec, q) → (FoldedAs (L.Refused n q) → A) → (kept_at (body_record_at p m s) ≡ (refused n q.rec, q) → A) → A
+  refused_as : {A : Type 0} (n : ℕ) → turn_at p m s ≡ (refused n q.rec, q) → (FoldedAs (L.stopped n q) → A) → (kept_at (body_record_at p m s) ≡ (refused n q.rec, q) → A) → A
   unfolding turn_at
   refused_as {A} n e f g = go (eqb (get_or s p.at 0) 0xF0) refl e
     where
-      not : (x : Fold) → kept_fold x ≡ (refused n q.rec, q) → x ≡ L.Refused n q
-      not (L.Past d r) e = let a : ok (some_folded d) ≡ refused n q.rec = ap (λ (z : Answer Kept × Place). z.0) e in let z : ◌≡◌ {A = ℕ} 0 1 = cc in absurd (omega arith)
-      not (L.Refused k r) e =
+      not : (x : Fold) → kept_fold x ≡ (refused n q.rec, q) → x ≡ L.stopped n q
+      not (L.passed d r) e = let a : ok (some_folded d) ≡ refused n q.rec = ap (λ (z : Answer Kept × Place). z.0) e in let z : ◌≡◌ {A = ℕ} 0 1 = cc in absurd (omega arith)
+      not (L.stopped k r) e =
           let a : ◌≡◌ {A = Answer Kept} (refused k r.rec) (refused n q.rec) = ap (λ (z : Answer Kept × Place). z.0) e in
           let b : r ≡ q = ap (λ (z : Answer Kept × Place). z.1) e in
           let j : Basic.refusal k r.rec ≡ Basic.refusal n q.rec = cc in
@@ -249,6 +249,10 @@ naming_of (Syntax.plain p) = go (operand_names p.operand)
     go : (t : Bool) → t ≡ naming (if t then name_data else stay)
     go true = refl
     go false = refl
+
+-- what was passed is kept
+abbrev kept_here : Inside → Place → Answer Kept × Place
+kept_here y q = (ok (inside_kept y), q)
 
 -- ## Marks
 
@@ -356,52 +360,56 @@ module _ (s : Bytes) (w₀ : List ℕ) (p : Place) (m : Marks) (c : Seen) (ended
   body_on x q m' e = ap (λ b. body_after b x) v.body ∙ sym e
 
   -- a refusal ends the pass
-  stopped_by : (r : Refusal) → (passed s).says ≡ refused_by r → (passed s).ends ≡ v.ends → Walks s w₀ (C.Refused r) w
+  stopped_by : (r : Refusal) → (passed s).says ≡ refused_by r → (passed s).ends ≡ v.ends → Walks s w₀ (Err r) w
   unfolding area_after
   stopped_by r g f = record { says = sym (passed-says s) ∙ g; leaves = v.area ∙ rw (g, f) }
 
-  stopped : (r : Refusal) → passed s ≡ record { says = refused_by r; seen = v.seen; ends = v.ends; named = named } → Walks s w₀ (C.Refused r) w
+  stopped : (r : Refusal) → passed s ≡ record { says = refused_by r; seen = v.seen; ends = v.ends; named = named } → Walks s w₀ (Err r) w
   stopped r g = stopped_by r (ap (λ (x : Passed). x.says) g) (ap (λ (x : Passed). x.ends) g)
 
   -- one record too many
-  pub full_walk : (n : ℕ) → 4096 ≤ p.rec → n ≡ (if begins_in (get_or s p.at 0) (body_of p.depth no_marks) then 7 else 4) → Walks s w₀ (C.Refused (refusal n p.rec)) w
-  full_walk n l e =
+  full_at : (n : ℕ) → 4096 ≤ p.rec → n ≡ (if begins_in (get_or s p.at 0) (body_of p.depth no_marks) then 7 else 4)
+      → passed s ≡ record { says = refused n p.rec; seen = v.seen; ends = v.ends; named = named }
+  full_at n l e =
       let z : 4096 - p.rec ≡ 0 = omega arith in
       let b = v.body in
-      stopped (refusal n p.rec) (v.same ∙ pass_full p.rec v.seen used named v.ends s p.at (4096 - p.rec) h z ∙ rw (b, begins-any (get_or s p.at 0) p.depth m no_marks, e))
+      v.same ∙ pass_full p.rec v.seen used named v.ends s p.at (4096 - p.rec) h z ∙ rw (b, begins-any (get_or s p.at 0) p.depth m no_marks, e)
+
+  pub full_walk : (f : Fault) → 4096 ≤ p.rec → number f ≡ (if begins_in (get_or s p.at 0) (body_of p.depth no_marks) then 7 else 4) → Walks s w₀ (Err (refusal f p.rec)) w
+  full_walk f l e = stopped (refusal f p.rec) (full_at (number f) l e)
 
   module _ (l : p.rec < 4096) (q : Place) where
     -- a record that is not read
-    faulted : (n : ℕ) (st : Step (Rec Identifier)) → record_in (room_of c) (body_of p.depth m) s p.at ≡ st → (moved_by p st).0 ≡ refused n q.rec
-        → Walks s w₀ (C.Refused (refusal n q.rec)) w
+    faulted : (k : Fault) (st : Step (Rec Identifier)) → record_in (room_of c) (body_of p.depth m) s p.at ≡ st → (moved_by p st).0 ≡ refused (number k) q.rec
+        → Walks s w₀ (Err (refusal k q.rec)) w
     unfolding one_record
-    faulted n (got y next) f e = let z : ◌≡◌ {A = ℕ} 0 1 = cc in absurd (omega arith)
-    faulted n (fault m) f e =
-        let j : Basic.refusal m p.rec ≡ Basic.refusal n q.rec = cc in
+    faulted k (got y next) f e = let z : ◌≡◌ {A = ℕ} 0 1 = cc in absurd (omega arith)
+    faulted k (fault m) f e =
+        let j : Basic.refusal m p.rec ≡ Basic.refusal (number k) q.rec = cc in
         let g : one_record v.seen s p.at ≡ fault m = rw (room-same v.counts, v.body) f in
-        stopped (refusal n q.rec) (v.same ∙ pass-fault p.rec v.seen used named v.ends s p.at (4096 - p.rec) m h (omega arith) g ∙ ap (λ (z : Basic.Refusal). record { says = fails z; seen = v.seen; ends = v.ends; named = named }) j)
+        stopped (refusal k q.rec) (v.same ∙ pass-fault p.rec v.seen used named v.ends s p.at (4096 - p.rec) m h (omega arith) g ∙ ap (λ (z : Basic.Refusal). record { says = fails z; seen = v.seen; ends = v.ends; named = named }) j)
 
     -- in a body
-    one-refused : (d : 1 ≤ p.depth) (n : ℕ) → (body_record_at p m s).0 ≡ refused n q.rec → Walks s w₀ (C.Refused (refusal n q.rec)) w
+    one-refused : (d : 1 ≤ p.depth) (n : Fault) → (body_record_at p m s).0 ≡ refused (number n) q.rec → Walks s w₀ (Err (refusal n q.rec)) w
     unfolding body_record_at
     one-refused d n e = faulted n (body_rec (inside_of (p.depth - 1) m) s p.at) (ap (λ b. record_in (room_of c) b s p.at) (inside p.depth m d)) e
 
     -- ### Outside a body
 
-    module _ (d : p.depth < 1) (what : Outside) (e : field_record_at (room_of c) p s ≡ outside_answer s what q) where
-      was_field : (f : Field) → what ≡ U.Field f → Was (room_of c) p m s (field (field_of s f)) q
-      was_field f k = field_was (room_of c) p m s (field (field_of s f)) q l d (e ∙ ap (λ y. outside_answer s y q) k)
+    module _ (d : p.depth < 1) where
+      was_field : (f : Field) → field_record_at (room_of c) p s ≡ (ok (field (field_of s f)), q) → Was (room_of c) p m s (field (field_of s f)) q
+      was_field f e = field_was (room_of c) p m s (field (field_of s f)) q l d e
 
       -- the record number is the measure
-      pub less_field : (f : Field) → what ≡ U.Field f → 4097 - q.rec < 4097 - p.rec
-      less_field f k = omega (arith, (was_field f k).next, l)
+      pub less_field : (f : Field) → field_record_at (room_of c) p s ≡ (ok (field (field_of s f)), q) → 4097 - q.rec < 4097 - p.rec
+      less_field f e = omega (arith, (was_field f e).next, l)
 
       -- a field begins a body with no block open, and there no mark counts
       after-field : (f : Field) → (q : Place) → Was (room_of c) p m s (field (field_of s f)) q → body_of q.depth m ≡ body_after (body_of p.depth m) (field (field_of s f))
       unfolding body_after
       after-field f q a = ap (λ d. body_of d m) a.deep ∙ field-body s f m
 
-      pub again_field : (f : Field) (c' : Seen) → what ≡ U.Field f → c' ≡ field_seen c f → Going s w₀ q m c' ended used named w
+      pub again_field : (f : Field) (c' : Seen) → field_record_at (room_of c) p s ≡ (ok (field (field_of s f)), q) → c' ≡ field_seen c f → Going s w₀ q m c' ended used named w
       again_field f c' k g =
           let a = was_field f k in
           record {
@@ -417,22 +425,33 @@ module _ (s : Bytes) (w₀ : List ℕ) (p : Place) (m : Marks) (c : Seen) (ended
             long = v.long;
           }
 
-      pub refused-field : (n : ℕ) → what ≡ U.Refused n → Walks s w₀ (C.Refused (refusal n q.rec)) w
+      field-refused : (k : Fault) → field_record_at (room_of c) p s ≡ (refused (number k) q.rec, q) → Walks s w₀ (Err (refusal k q.rec)) w
       unfolding field_record_at
-      refused-field n k =
-          faulted n (record_in (room_of c) none s p.at) (ap (λ b. record_in (room_of c) b s p.at) (outside p.depth m d))
-          (ap (λ (x : Answer (Rec Identifier) × Place). x.0) (e ∙ ap (λ y. outside_answer s y q) k))
+      field-refused k e =
+          faulted k (record_in (room_of c) none s p.at) (ap (λ b. record_in (room_of c) b s p.at) (outside p.depth m d)) (ap (λ (x : Answer (Rec Identifier) × Place). x.0) e)
 
     -- ### In a body
 
-    module _ (d : 1 ≤ p.depth) (what : Inside) (e : turn_at p m s ≡ inside_answer what q) where
+    module _ (d : 1 ≤ p.depth) where
+      -- a folded record with all its operands: the blocks and the marks stay
+      in_body : v.seen.body ≡ some (record { blocks = marks_in (p.depth - 1) (bits_of m); due = [] })
+      unfolding inside_of
+      in_body = v.body ∙ inside p.depth m d
+
+      turn_is : (f : Fold) → FoldedAs p m s q f → Turned s v.seen (marks_in (p.depth - 1) (bits_of m)) in_body used named v.ends (passed s) f
+      turn_is f a =
+          let x = folded-turn s v.seen (marks_in (p.depth - 1) (bits_of m)) in_body used named v.ends p a.first in
+          let y = subst (Turned s v.seen (marks_in (p.depth - 1) (bits_of m)) in_body used named v.ends (pass (4096 - p.rec) p.rec v.seen used named v.ends s p.at)) a.is x in
+          subst (λ z. Turned s v.seen (marks_in (p.depth - 1) (bits_of m)) in_body used named v.ends z f) (sym v.same) y
+
+    module _ (d : 1 ≤ p.depth) (what : Inside) (e : turn_at p m s ≡ kept_here what q) where
       record WasInstr (u : Bool) (j : Shift) : Type 0 where
         it : Syntax.Instr Identifier
         uses : may_use it ≡ u
         shifts : shift_of it ≡ j
         was : Was (room_of c) p m s (instr it) q
 
-      was_instr : (u : Bool) (j : Shift) → inside_answer what q ≡ (ok (an_instr u j), q) → WasInstr u j
+      was_instr : (u : Bool) (j : Shift) → kept_here what q ≡ (ok (an_instr u j), q) → WasInstr u j
       was_instr u j k =
           let a = kept_of_lem (body_record_at p m s) (an_instr u j) q (single p m s q (an_instr u j) tt (e ∙ k)) in
           let b = on_instr u j a.rec a.keeps in
@@ -440,32 +459,32 @@ module _ (s : Bytes) (w₀ : List ℕ) (p : Place) (m : Marks) (c : Seen) (ended
 
       was_end : what ≡ N.End → Was (room_of c) p m s body_end q
       was_end k =
-          let a = kept_of_lem (body_record_at p m s) an_end q (single p m s q an_end tt (e ∙ ap (λ y. inside_answer y q) k)) in
+          let a = kept_of_lem (body_record_at p m s) an_end q (single p m s q an_end tt (e ∙ ap (λ y. kept_here y q) k)) in
           body_was (room_of c) p m s body_end q l d (a.is ∙ ap (λ z. (ok z, q)) (on_end a.rec a.keeps))
 
-      less : (u : Bool) (j : Shift) → inside_answer what q ≡ (ok (an_instr u j), q) → 4097 - q.rec < 4097 - p.rec
+      less : (u : Bool) (j : Shift) → kept_here what q ≡ (ok (an_instr u j), q) → 4097 - q.rec < 4097 - p.rec
       less u j k = omega (arith, (was_instr u j k).was.next, l)
 
       pub less_on : (u : Bool) → what ≡ N.On u → 4097 - q.rec < 4097 - p.rec
-      less_on u k = less u stay (ap (λ y. inside_answer y q) k)
+      less_on u k = less u stay (ap (λ y. kept_here y q) k)
 
       pub less_data : what ≡ N.Data → 4097 - q.rec < 4097 - p.rec
-      less_data k = less false name_data (ap (λ y. inside_answer y q) k)
+      less_data k = less false name_data (ap (λ y. kept_here y q) k)
 
       pub less_opens : (u may : Bool) → what ≡ N.Opens u may → 4097 - q.rec < 4097 - p.rec
-      less_opens u may k = less u (open_one may) (ap (λ y. inside_answer y q) k)
+      less_opens u may k = less u (open_one may) (ap (λ y. kept_here y q) k)
 
       pub less_elses : what ≡ N.Elses → 4097 - q.rec < 4097 - p.rec
-      less_elses k = less false else_one (ap (λ y. inside_answer y q) k)
+      less_elses k = less false else_one (ap (λ y. kept_here y q) k)
 
       pub less_ends : what ≡ N.Ends → 4097 - q.rec < 4097 - p.rec
-      less_ends k = less false end_one (ap (λ y. inside_answer y q) k)
+      less_ends k = less false end_one (ap (λ y. kept_here y q) k)
 
       pub less_end : what ≡ N.End → 4097 - q.rec < 4097 - p.rec
       less_end k = omega (arith, (was_end k).next, l)
 
       -- an instruction, with the marks after it
-      again_instr : (u : Bool) (j : Shift) (m' : Marks) → inside_answer what q ≡ (ok (an_instr u j), q) → Shifted j m m' → Going s w₀ q m' c ended (used || u) (named || naming j) w
+      again_instr : (u : Bool) (j : Shift) (m' : Marks) → kept_here what q ≡ (ok (an_instr u j), q) → Shifted j m m' → Going s w₀ q m' c ended (used || u) (named || naming j) w
       unfolding body_after
       again_instr u j m' k g =
           let a = was_instr u j k in
@@ -504,25 +523,25 @@ module _ (s : Bytes) (w₀ : List ℕ) (p : Place) (m : Marks) (c : Seen) (ended
 
       -- the marks stay
       pub on_first : (u : Bool) (m' : Marks) → what ≡ N.On u → m ≡ m' → used ≡ true → Going s w₀ q m' c ended used named w
-      on_first u m' k g t = first u m' t (again_instr u stay m' (ap (λ y. inside_answer y q) k) g)
+      on_first u m' k g t = first u m' t (again_instr u stay m' (ap (λ y. kept_here y q) k) g)
 
       pub on_second : (u : Bool) (m' : Marks) → what ≡ N.On u → m ≡ m' → used ≡ false → Going s w₀ q m' c ended u named w
-      on_second u m' k g t = second u m' t (again_instr u stay m' (ap (λ y. inside_answer y q) k) g)
+      on_second u m' k g t = second u m' t (again_instr u stay m' (ap (λ y. kept_here y q) k) g)
 
       pub again_data : (m' : Marks) → what ≡ N.Data → m ≡ m' → Going s w₀ q m' c ended used true w
-      again_data m' k g = subst (λ z. Going s w₀ q m' c ended used z w) (sym (or_one named)) (third (named || true) m' (again_instr false name_data m' (ap (λ y. inside_answer y q) k) g))
+      again_data m' k g = subst (λ z. Going s w₀ q m' c ended used z w) (sym (or_one named)) (third (named || true) m' (again_instr false name_data m' (ap (λ y. kept_here y q) k) g))
 
       pub opens-first : (u may : Bool) (m' : Marks) → what ≡ N.Opens u may → Opened m may m' → used ≡ true → Going s w₀ q m' c ended used named w
-      opens-first u may m' k g t = first u m' t (again_instr u (open_one may) m' (ap (λ y. inside_answer y q) k) g)
+      opens-first u may m' k g t = first u m' t (again_instr u (open_one may) m' (ap (λ y. kept_here y q) k) g)
 
       pub opens-second : (u may : Bool) (m' : Marks) → what ≡ N.Opens u may → Opened m may m' → used ≡ false → Going s w₀ q m' c ended u named w
-      opens-second u may m' k g t = second u m' t (again_instr u (open_one may) m' (ap (λ y. inside_answer y q) k) g)
+      opens-second u may m' k g t = second u m' t (again_instr u (open_one may) m' (ap (λ y. kept_here y q) k) g)
 
       pub again_elses : (m' : Marks) → what ≡ N.Elses → Elsed m m' → Going s w₀ q m' c ended used named w
-      again_elses m' k g = third named m' (unnamed (used || false) m' (again_instr false else_one m' (ap (λ y. inside_answer y q) k) g))
+      again_elses m' k g = third named m' (unnamed (used || false) m' (again_instr false else_one m' (ap (λ y. kept_here y q) k) g))
 
       pub again_ends : (m' : Marks) → what ≡ N.Ends → Ended m m' → Going s w₀ q m' c ended used named w
-      again_ends m' k g = third named m' (unnamed (used || false) m' (again_instr false end_one m' (ap (λ y. inside_answer y q) k) g))
+      again_ends m' k g = third named m' (unnamed (used || false) m' (again_instr false end_one m' (ap (λ y. kept_here y q) k) g))
 
       -- a body's end: its place fits a word, and two words are stored while there is room for them
       pub end_fits : what ≡ N.End → length s ≤ BYTES → q.at < 2 ^ 32
@@ -573,19 +592,8 @@ module _ (s : Bytes) (w₀ : List ℕ) (p : Place) (m : Marks) (c : Seen) (ended
               let z : end_at ended + 1 ≡ suc (end_at ended) = omega arith in
               rw (lt-ltb _ _ n, take_all 512 (v.ends ++ (q.at ∷ second ∷ [])) m, sets-append w₀ ENDS v.ends (q.at ∷ second ∷ []), i, u, z)
 
-      -- a folded record with all its operands: the blocks and the marks stay
-      in_body : v.seen.body ≡ some (record { blocks = marks_in (p.depth - 1) (bits_of m); due = [] })
-      unfolding inside_of
-      in_body = v.body ∙ inside p.depth m d
-
-      turn_is : (f : Fold) → FoldedAs p m s q f → Turned s v.seen (marks_in (p.depth - 1) (bits_of m)) in_body used named v.ends (passed s) f
-      turn_is f a =
-          let x = folded-turn s v.seen (marks_in (p.depth - 1) (bits_of m)) in_body used named v.ends p a.first in
-          let y = subst (Turned s v.seen (marks_in (p.depth - 1) (bits_of m)) in_body used named v.ends (pass (4096 - p.rec) p.rec v.seen used named v.ends s p.at)) a.is x in
-          subst (λ z. Turned s v.seen (marks_in (p.depth - 1) (bits_of m)) in_body used named v.ends z f) (sym v.same) y
-
-      was_folded : (i j : Bool) → what ≡ N.Folded i j → FoldedAs p m s q (L.Past (record { uses = i; names = j }) q)
-      was_folded i j k = folded_as p m s q (record { uses = i; names = j }) h (e ∙ ap (λ y. inside_answer y q) k)
+      was_folded : (i j : Bool) → what ≡ N.Folded i j → FoldedAs p m s q (L.passed (record { uses = i; names = j }) q)
+      was_folded i j k = folded_as p m s q (record { uses = i; names = j }) h (e ∙ ap (λ y. kept_here y q) k)
 
       moves : (i j : Bool) → what ≡ N.Folded i j → Moved p q × (p.rec < q.rec)
       moves i j k = subst (PassedBy p) (was_folded i j k).is (folded_passes 32 s none_do p)
@@ -603,25 +611,39 @@ module _ (s : Bytes) (w₀ : List ℕ) (p : Place) (m : Marks) (c : Seen) (ended
             few = y.0.most;
             body = v.body ∙ rw (g, ← z);
             counts = v.counts;
-            same = rw (← a, ← b) at (turn_is (L.Past (record { uses = i; names = j }) q) (was_folded i j k));
+            same = rw (← a, ← b) at (turn_is d (L.passed (record { uses = i; names = j }) q) (was_folded i j k));
             area = v.area;
             number = v.number;
             fewer = omega (arith, y.1, v.fewer);
             long = v.long;
           }
 
-      pub refused-instr : (n : ℕ) → what ≡ N.Refused n → Walks s w₀ (C.Refused (refusal n q.rec)) w
-      refused-instr n k = refused_as p m s q n (e ∙ ap (λ y. inside_answer y q) k) by_fold by_one
+    -- a record that is refused, or one of a folded one's
+    module _ (d : 1 ≤ p.depth) where
+      instr-refused : (k : Fault) → turn_at p m s ≡ (refused (number k) q.rec, q) → Walks s w₀ (Err (refusal k q.rec)) w
+      instr-refused k e = refused_as p m s q (number k) e by_fold by_one
         where
-          by_fold : FoldedAs p m s q (L.Refused n q) → Walks s w₀ (C.Refused (refusal n q.rec)) w
-          by_fold a = let x = turn_is (L.Refused n q) a in stopped_by (refusal n q.rec) x.says x.same
+          by_fold : FoldedAs p m s q (L.stopped (number k) q) → Walks s w₀ (Err (refusal k q.rec)) w
+          by_fold a = let x = turn_is d (L.stopped (number k) q) a in stopped_by (refusal k q.rec) x.says x.same
 
-          not_kept : (y : Answer (Rec Identifier)) → kept_answer y ≡ refused n q.rec → y ≡ refused n q.rec
+          not_kept : (y : Answer (Rec Identifier)) → kept_answer y ≡ refused (number k) q.rec → y ≡ refused (number k) q.rec
           not_kept (ok x) e = let z : ◌≡◌ {A = ℕ} 0 1 = cc in absurd (omega arith)
           not_kept (fails z) e = cc
 
-          by_one : kept_at (body_record_at p m s) ≡ (refused n q.rec, q) → Walks s w₀ (C.Refused (refusal n q.rec)) w
-          by_one a = one-refused d n (not_kept (body_record_at p m s).0 (ap (λ (x : Answer Kept × Place). x.0) a))
+          by_one : kept_at (body_record_at p m s) ≡ (refused (number k) q.rec, q) → Walks s w₀ (Err (refusal k q.rec)) w
+          by_one a = one-refused d k (not_kept (body_record_at p m s).0 (ap (λ (x : Answer Kept × Place). x.0) a))
+
+  -- the refusal is handed on
+  refused-by : (a : FaultAt) (b : Refusal) (r : Resolved ℕ) → b ≡ refusal a.fault a.place.rec → IsErr r → IsErrAnd r (λ z. z ≡ b) → Walks s w₀ (Err (refusal a.fault a.place.rec)) w
+      → Walks s w₀ r w
+  refused-by a b r e i g x = rw (handed r b i g, e) x
+
+  module _ (l : p.rec < 4096) (a : FaultAt) (b : Refusal) (r : Resolved ℕ) (e : b ≡ refusal a.fault a.place.rec) (i : IsErr r) (g : IsErrAnd r (λ z. z ≡ b)) where
+    pub refused-field : p.depth < 1 → field_record_at (room_of c) p s ≡ fault_at a → Walks s w₀ r w
+    refused-field d x = refused-by a b r e i g (field-refused l a.place d a.fault x)
+
+    pub refused-instr : 1 ≤ p.depth → turn_at p m s ≡ fault_at a → Walks s w₀ r w
+    refused-instr d x = refused-by a b r e i g (instr-refused l a.place d a.fault x)
 
 -- ## The stream's end
 
@@ -629,7 +651,7 @@ module _ (s : Bytes) (w₀ : List ℕ) (p : Place) (m : Marks) (c : Seen) (ended
   at_end_lem : passed s ≡ record { says = total p.rec (at_end p.rec (body_of p.depth no_marks)); seen = v.seen; ends = v.ends; named = named }
   at_end_lem = let b = v.body in v.same ∙ pass_end p.rec v.seen used named v.ends s p.at (4096 - p.rec) h ∙ rw (b, end_any p.rec p.depth m no_marks)
 
-  pub walk_ends : (r : Count) (w' : List ℕ) → Ends p c.counts named w r w' → Walks s w₀ r w'
+  pub walk_ends : (r : Resolved ℕ) (w' : List ℕ) → Ends p c.counts named w r w' → Walks s w₀ r w'
   unfolding area_after
   walk_ends r w' e =
       let a = v.area in
@@ -641,16 +663,16 @@ module _ (s : Bytes) (w₀ : List ℕ) (p : Place) (m : Marks) (c : Seen) (ended
 
 module _ (p : Place) (counts : List ℕ) (named : Bool) (w : List ℕ) where
   -- in a body it is refused
-  pub end_in-body : (r : Count) → 0 < p.depth → r ≡ refused_at 2 p → Ends p counts named w r w
-  end_in-body r d e = rw e (record { says = rw (inside p.depth no_marks d); leaves = refl })
+  pub end_in-body : (q : Refusal) → 0 < p.depth → q ≡ refusal Faults.Ended p.rec → Ends p counts named w (Err q) w
+  end_in-body q d e = rw e (record { says = rw (inside p.depth no_marks d); leaves = refl })
 
   -- outside one the counts are left, and whether a data segment was named
-  pub end_accepted : (w₁ w' : List ℕ) → p.depth ≤ 0 → w₁ ≡ sets w COUNTS counts → w' ≡ flag_put DATA_NAMED w₁ named → Ends p counts named w (C.Records p.rec) w'
+  pub end_accepted : (w₁ w' : List ℕ) → p.depth ≤ 0 → w₁ ≡ sets w COUNTS counts → w' ≡ flag_put DATA_NAMED w₁ named → Ends p counts named w (Ok p.rec) w'
   end_accepted w₁ w' d e f = let n : p.rec + 0 ≡ p.rec = omega arith in record { says = rw (outside p.depth no_marks (omega arith), n); leaves = rw e at f }
 
 -- what a refusal is
-pub walk_refused : (s : Bytes) (w₀ w : List ℕ) (n : ℕ) (p : Place) (r : Count) → r ≡ refused_at n p → Walks s w₀ (refused_at n p) w → Walks s w₀ r w
-walk_refused s w₀ w n p r e h = rw e h
+pub walk_refused : (s : Bytes) (w₀ w : List ℕ) (k : Fault) (p : Place) (q : Refusal) → q ≡ refusal k p.rec → Walks s w₀ (Err (refusal k p.rec)) w → Walks s w₀ (Err q) w
+walk_refused s w₀ w k p q e h = rw e h
 
 -- ## The second word of a body's end
 
@@ -663,14 +685,14 @@ ends-put w n a r x u l e = rw (lt-ltb _ _ l, e)
 
 -- ## The two lengths before it
 
-pub too_long : (s : Bytes) (w : List ℕ) (q : Refusal) → BYTES < length s → q ≡ refusal 1 0 → Reads s w (C.Refused q) w
+pub too_long : (s : Bytes) (w : List ℕ) (q : Refusal) → BYTES < length s → q ≡ refusal Faults.TooLong 0 → Reads s w (Err q) w
 unfolding reading reading_area
 too_long s w q h e = record { says = rw (lt-ltb _ _ h, e); leaves = rw (lt-ltb _ _ h) }
 
-pub too_short : (s : Bytes) (w : List ℕ) (q : Refusal) → length s ≤ BYTES → length w < WORDS → q ≡ refusal 10 0 → Reads s w (C.Refused q) w
+pub too_short : (s : Bytes) (w : List ℕ) (q : Refusal) → length s ≤ BYTES → length w < WORDS → q ≡ refusal Faults.WorkTooShort 0 → Reads s w (Err q) w
 unfolding reading reading_area
 too_short s w q h l e = record { says = rw (le-ltb _ _ h, lt-ltb _ _ l, e); leaves = rw (le-ltb _ _ h, lt-ltb _ _ l) }
 
-pub walked : (s : Bytes) (w : List ℕ) (r : Count) (w' : List ℕ) → length s ≤ BYTES → WORDS ≤ length w → Walks s w r w' → Reads s w r w'
+pub walked : (s : Bytes) (w : List ℕ) (r : Resolved ℕ) (w' : List ℕ) → length s ≤ BYTES → WORDS ≤ length w → Walks s w r w' → Reads s w r w'
 unfolding reading reading_area
 walked s w r w' h l v = record { says = rw (le-ltb _ _ h, le-ltb _ _ l) v.says; leaves = rw (le-ltb _ _ h, le-ltb _ _ l) v.leaves }

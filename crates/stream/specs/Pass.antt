@@ -2,7 +2,8 @@
 use Rattle.std.specs.Prelude.{ℕ, zero, suc, ◌+◌, Bool, false, ◌||◌, List, [], ◌∷◌, ◌++◌, ◌≡◌, leb, ltb, length, take, set, if◌then◌else◌}
 use Rattle.std.proofs.lemmas.List.Edits.{sets}
 use Rattle.syntax.specs.Marks.{no_marks}
-use Rattle.syntax.specs.Refusals.{refusal, refused_by}
+use Rattle.syntax.specs.Reads.{same}
+use Rattle.syntax.specs.Refusals.{Resolved, answer}
 use Rattle.syntax.specs.declared.Place.{Place}
 use Rattle.area.specs.Layout.{BYTES, COUNTS, DATA_NAMED, ENDS, WORDS, end_at}
 use Rattle.area.specs.Flags.{flag_put}
@@ -14,8 +15,6 @@ use Rattle.laws.specs.Steps.{total}
 use Rattle.next_record.specs.Uses.{may_use, names_data, end_word}
 use Rattle.next_record.specs.Places.{body_of}
 use Rattle.counting.specs.Counting.{count_words}
-use Rattle.stream.specs.declared.pass.Count.{Count}
-use Rattle.stream.specs.declared.pass.Count.TheVariants as C
 
 -- ## The pass, record by record
 
@@ -81,9 +80,8 @@ area_after p w = area_of p.says (count_words p.seen) p.named (sets w ENDS (end_w
 
 -- ## What the pass promises
 
-abbrev pub counted : Count → Answer ℕ
-counted (C.Records n) = ok n
-counted (C.Refused r) = refused_by r
+abbrev pub counted : Resolved ℕ → Answer ℕ
+counted = answer same
 
 -- the stream's length, the work area's length, and then the records
 unfoldable pub reading : Bytes → ℕ → Answer ℕ
@@ -99,21 +97,17 @@ reading_area s w = if ltb BYTES (length s) then w else if ltb (length w) WORDS t
 abbrev pub first_place : Place
 first_place = record { at = 0; rec = 0; depth = 0 }
 
--- a record is refused
-abbrev pub refused_at : ℕ → Place → Count
-refused_at n p = C.Refused (refusal n p.rec)
-
 -- the stream ends at a place, with these counts of items; the marks do not matter
-pub record Ends (p : Place) (counts : List ℕ) (named : Bool) (w : List ℕ) (r : Count) (w' : List ℕ) : Type 0 where
+pub record Ends (p : Place) (counts : List ℕ) (named : Bool) (w : List ℕ) (r : Resolved ℕ) (w' : List ℕ) : Type 0 where
   pub says : total p.rec (at_end p.rec (body_of p.depth no_marks)) ≡ counted r
   pub leaves : w' ≡ area_of (counted r) counts named w
 
 -- over a stream and a work area that are long enough and not too long
-pub record Walks (s : Bytes) (w : List ℕ) (r : Count) (w' : List ℕ) : Type 0 where
+pub record Walks (s : Bytes) (w : List ℕ) (r : Resolved ℕ) (w' : List ℕ) : Type 0 where
   pub says : total 0 (read s) ≡ counted r
   pub leaves : w' ≡ area_after (passed s) w
 
 -- on every input
-pub record Reads (s : Bytes) (w : List ℕ) (r : Count) (w' : List ℕ) : Type 0 where
+pub record Reads (s : Bytes) (w : List ℕ) (r : Resolved ℕ) (w' : List ℕ) : Type 0 where
   pub says : reading s (length w) ≡ counted r
   pub leaves : w' ≡ reading_area s w

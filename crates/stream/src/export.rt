@@ -2,7 +2,7 @@
 ghost use Rattle.std.specs.Prelude.{◌≡◌};
 ghost use Rattle.stream.specs.Export.{told_in, Told};
 
-use crate::pass::{Count, read_all};
+use crate::pass::read_all;
 
 // The answer's two words, where there is room for them.
 fn tell(answer: &mut [u32], number: u32, rec: u32)
@@ -22,12 +22,12 @@ pub fn barrizuppa_read(stream: &[u8], work: &mut [u32], answer: &mut [u32]) -> u
     let said = read_all(stream, work);
     area::clear(work);
     match said {
-        Count::Records(n) => {
+        Ok(n) => {
             tell(answer, 0, n);
             0
         }
-        Count::Refused(r) => {
-            let number = r.number as u32;
+        Err(r) => {
+            let number = u32::from(u8::from(r.fault));
             tell(answer, number, r.rec);
             number
         }

@@ -4,4 +4,4 @@
 pub mod export;
 pub mod pass;
 
-pub use pass::{Count, read_all};
+pub use pass::read_all;

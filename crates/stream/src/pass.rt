@@ -2,20 +2,15 @@
 ghost use Rattle.std.specs.Prelude.{◌≡◌, ◌||◌, ◌+◌, ◌*◌, ◌≤◌, ◌<◌, ◌^◌, length};
 ghost use Rattle.area.specs.Layout.{WORDS};
 ghost use Rattle.area.specs.Lent.{Lent};
-ghost use Rattle.stream.specs.Pass.{Reads, Walks, Ends, first_place, refused_at, end_put};
+ghost use Rattle.stream.specs.Pass.{Reads, Walks, Ends, first_place, end_put};
 ghost use Rattle.next_record.specs.Uses.{end_word};
+ghost use Rattle.syntax.specs.Refusals.{refusal};
 
 use counting::{put_counts, with_field};
 use next_record::{
-    Inside, Outside, next_field, next_instr, too_many, with_block, without_block, without_else,
+    FaultAt, Inside, next_field, next_instr, too_many, with_block, without_block, without_else,
 };
-use syntax::{Marks, Place, Refusal, Seen};
-
-#[derive(Clone, Copy)]
-pub enum Count {
-    Records(u32),
-    Refused(Refusal),
-}
+use syntax::{Fault, Marks, Place, Refusal, Resolved, Seen};
 
 // The second word of a body's end: the record after it, and `MARK` more where the body may use a type.
 fn end_word(rec: u32, used: bool) -> u32
@@ -51,11 +46,11 @@ fn start() -> Place
     }
 }
 
-// A record is refused.
-fn refused(number: u8, p: Place) -> Count
-    ensures { result ≡ refused_at number p }
+// A record's fault refuses the stream.
+fn refused(e: FaultAt) -> Refusal
+    ensures { result ≡ refusal e.fault e.place.rec }
 {
-    Count::Refused(syntax::refusal_at(number, p.rec))
+    syntax::refusal_at(e.fault, e.place.rec)
 }
 
 fn either(a: bool, b: bool) -> bool
@@ -65,20 +60,20 @@ fn either(a: bool, b: bool) -> bool
 }
 
 // The stream ends here: in a body it is refused, outside one the counts of items are left, and whether a data segment was named.
-fn at_end(work: &mut [u32], p: Place, seen: Seen, named: bool) -> Count
+fn at_end(work: &mut [u32], p: Place, seen: Seen, named: bool) -> Resolved<u32>
     requires { WORDS ≤ length work.old }
     ensures { Ends p seen.counts named work.old result work.new }
 {
     if 0 < p.depth {
-        return refused(2, p);
+        return Err(syntax::refusal_at(Fault::Ended, p.rec));
     }
     put_counts(work, area::COUNTS, seen);
     area::put_flag(work, area::DATA_NAMED, named);
-    Count::Records(p.rec)
+    Ok(p.rec)
 }
 
 // Record by record, outside a body and in one.
-fn read_records(s: &[u8], work: &mut [u32]) -> Count
+fn read_records(s: &[u8], work: &mut [u32]) -> Resolved<u32>
     requires { Lent s.now work.old }
     ensures { Walks s.now work.old result work.new }
 {
@@ -93,24 +88,15 @@ fn read_records(s: &[u8], work: &mut [u32]) -> Count
             return at_end(work, p, seen, named);
         }
         if 4096 <= p.rec {
-            return refused(too_many(s, p), p);
+            return Err(syntax::refusal_at(too_many(s, p), p.rec));
         }
         if p.depth < 1 {
-            let r = next_field(s, p, seen);
-            let what = r.what;
-            p = r.place;
-            match what {
-                Outside::Field(f) => {
-                    seen = with_field(seen, f);
-                }
-                Outside::Refused(n) => {
-                    return refused(n, p);
-                }
-            }
+            let (f, next) = next_field(s, p, seen).map_err(refused)?;
+            seen = with_field(seen, f);
+            p = next;
         } else {
-            let r = next_instr(s, p, marks);
-            let what = r.what;
-            p = r.place;
+            let (what, next) = next_instr(s, p, marks).map_err(refused)?;
+            p = next;
             match what {
                 Inside::On(uses) => {
                     used = used || uses;
@@ -137,23 +123,20 @@ fn read_records(s: &[u8], work: &mut [u32]) -> Count
                     ended += 1;
                     used = false;
                 }
-                Inside::Refused(n) => {
-                    return refused(n, p);
-                }
             }
         }
     }
 }
 
 // The whole stream to its count of records, or the first fault with its record.
-pub fn read_all(s: &[u8], work: &mut [u32]) -> Count
+pub fn read_all(s: &[u8], work: &mut [u32]) -> Resolved<u32>
     ensures { Reads s.now work.old result work.new }
 {
     if area::BYTES < s.len() {
-        return Count::Refused(syntax::refusal_at(1, 0));
+        return Err(syntax::refusal_at(Fault::TooLong, 0));
     }
     if work.len() < area::WORDS {
-        return Count::Refused(syntax::refusal_at(10, 0));
+        return Err(syntax::refusal_at(Fault::WorkTooShort, 0));
     }
     read_records(s, work)
 }

@@ -1,4 +1,6 @@
 -- Laws of the uses of types, field after field.
+use Rattle.std.specs.Prelude.{Ok, Err, Some, None}
+use Rattle.syntax.specs.Refusals.{Resolved}
 use Prim.Native.Nat.{ℕ, ◌+◌, ◌≤◌, ◌<◌}
 use mathlib.Core.Path.{◌≡◌, sym, ◌∙◌, ap}
 use mathlib.Core.List.{List, [], ◌++◌, append-nil, append_assoc}
@@ -26,11 +28,8 @@ use Rattle.instr.proofs.Stretches.{body_reach}
 use Rattle.walk.specs.Walk.{body_in, begin, cursor_after, visit_in, visit_of, fields_here, fields_ahead, fields_in, Ahead}
 use Rattle.walk.specs.declared.Cursor.{Cursor}
 use Rattle.walk.specs.declared.Met.{Met}
-use Rattle.walk.specs.declared.What.TheVariants as W
 use Rattle.walk.proofs.Steps.{visit_done, visit_few, visit_next, visit_fields, visit_unused}
 use Rattle.interning.specs.Uses.{Skips, uses_field, end_after, Known, Handled, Handles}
-use Rattle.interning.specs.declared.uses.Used.{Used}
-use Rattle.interning.specs.declared.uses.Used.TheVariants as U
 use Rattle.interning.proofs.Handled.{intern_on, intern-stops, known_kept, known-append, known_wide, keeps_same, handles_types, handles_stopped}
 use Rattle.interning.proofs.Fields.{record_uses}
 use Rattle.laws.proofs.Uses.{uses-append}
@@ -86,7 +85,7 @@ module _ (s w w' : List ℕ) (c : Cursor) (k : ℕ) (few : k ≤ 256) (h : Kept 
 
 module _ (s : Bytes) (c : Cursor) (m : Met) (told : visit_in c.left c s ≡ visit_of s m) where
   -- no field is left
-  module _ (w : List ℕ) (k : ℕ) (is : m.what ≡ W.Done) where
+  module _ (w : List ℕ) (k : ℕ) (is : m.what ≡ None) where
     pub interning-done : Interning s w c k → all_types (fields_in s) ≡ ok (type_table k s w TYPES)
     unfolding uses intern
     interning-done v = v.same ∙ rw (visit_done s c m told is)
@@ -97,7 +96,7 @@ module _ (s : Bytes) (c : Cursor) (m : Met) (told : visit_in c.left c s ≡ visi
         let all : v.done ≡ uses (fields_in s) = sym (append-nil v.done) ∙ ap (λ (l : Numbered Identifier). v.done ++ uses l) (sym (visit_done s c m told is)) ∙ v.same in
         rw (← all) (known_wide c.rec 4096 w (type_table k s w TYPES) v.done v.low v.known)
 
-  module _ (f : Field) (here : ℕ) (is : m.what ≡ W.Field f here) where
+  module _ (f : Field) (here : ℕ) (is : m.what ≡ Some (f, here)) where
     -- a body that is not marked need not be looked at
     pub field_skips : (w : List ℕ) → Ahead s w c → Skips w c.own (body_uses (body_in (field_body (field_of s f)) (c.rec + 1) s here))
     field_skips w a = record { unused = λ d. visit_unused s c m told f here is w a d }
@@ -112,18 +111,18 @@ module _ (s : Bytes) (c : Cursor) (m : Met) (told : visit_in c.left c s ≡ visi
         ap uses (visit_fields s c m told f here is) ∙ uses-append _ (fields_ahead m.next s)
         ∙ ap (λ (l : Uses). l ++ uses (fields_ahead m.next s)) (record_uses c.rec (count_of c.seen) (field_of s f) s here)
 
-    module _ (w : List ℕ) (k : ℕ) (q : Used) (w' : List ℕ) (used : Handles c.rec (end_after (field_body (field_of s f)) c.rec s here) s here-uses w k q w') where
+    module _ (w : List ℕ) (k : ℕ) (q : Resolved ℕ) (w' : List ℕ) (used : Handles c.rec (end_after (field_body (field_of s f)) c.rec s here) s here-uses w k q w') where
       -- they were refused
-      pub interning-refused : Interning s w c k → (p : Refusal) → q ≡ U.Refused p → all_types (fields_in s) ≡ refused_by p
+      pub interning-refused : Interning s w c k → (p : Refusal) → q ≡ Err p → all_types (fields_in s) ≡ refused_by p
       interning-refused v p e =
           let d = split in
           v.same ∙ rw d (intern-stops (type_table k s w TYPES) here-uses (uses (fields_ahead m.next s)) p (handles_stopped _ _ s here-uses w k q w' used p e).says)
 
-      pub refused-kept : (p : Refusal) → q ≡ U.Refused p → Kept TYPES w w'
+      pub refused-kept : (p : Refusal) → q ≡ Err p → Kept TYPES w w'
       refused-kept p e = (handles_stopped _ _ s here-uses w k q w' used p e).kept
 
       -- they were taken or added
-      module _ (k' : ℕ) (e : q ≡ U.Types k') where
+      module _ (k' : ℕ) (e : q ≡ Ok k') where
         abbrev u : Handled c.rec (end_after (field_body (field_of s f)) c.rec s here) s here-uses w k w' k'
         u = handles_types _ _ s here-uses w k q w' used k' e
 

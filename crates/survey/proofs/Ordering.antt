@@ -1,4 +1,5 @@
 -- A pass over all fields finds the first import that comes too late.
+use Rattle.std.specs.Prelude.{Some, None}
 use Rattle.std.specs.Prelude.{if◌then◌else◌}
 use Prim.Native.Nat.{ℕ, ◌+◌}
 use mathlib.Core.Path.{◌≡◌, refl, ◌∙◌}
@@ -22,7 +23,6 @@ use Rattle.syntax.specs.declared.Field.TheVariants as F
 use Rattle.walk.specs.Walk.{body_in, begin, visit_in, visit_of, fields_here, fields_ahead, fields_in}
 use Rattle.walk.specs.declared.Cursor.{Cursor}
 use Rattle.walk.specs.declared.Met.{Met}
-use Rattle.walk.specs.declared.What.TheVariants as W
 use Rattle.walk.proofs.Steps.{visit_done, visit_fields}
 use Rattle.import_order.specs.Order.{source_standing, standing, is_late, late_after}
 use Rattle.import_order.specs.declared.Standing.{Standing}
@@ -73,11 +73,11 @@ ordering_begin s c e = record { same = rw e }
 
 module _ (s : Bytes) (c : Cursor) (late : Bool) (v : Ordering s c late) (m : Met) (told : visit_in c.left c s ≡ visit_of s m) where
   -- no field is left
-  pub ordering_done : m.what ≡ W.Done → import_order (fields_in s) ≡ ok tt
+  pub ordering_done : m.what ≡ None → import_order (fields_in s) ≡ ok tt
   unfolding imports_from
   ordering_done is = v.same ∙ rw (visit_done s c m told is)
 
-  module _ (f : Code.Field) (here : ℕ) (is : m.what ≡ W.Field f here) (x : Standing) (d : x ≡ standing f) (t : Bool) (e : t ≡ is_late late x) where
+  module _ (f : Code.Field) (here : ℕ) (is : m.what ≡ Some (f, here)) (x : Standing) (d : x ≡ standing f) (t : Bool) (e : t ≡ is_late late x) where
     one : import_order (fields_in s) ≡ step c.rec late x (fields_ahead m.next s)
     unfolding fields_here
     one =

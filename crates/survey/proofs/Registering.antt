@@ -1,4 +1,6 @@
 -- A walk over all fields: what the definition registers stands in the tables.
+use Rattle.std.specs.Prelude.{Ok, Err, Some, None}
+use Rattle.syntax.specs.Refusals.{Resolved}
 use Prim.Native.Nat.{ℕ, zero, suc, ◌+◌, ◌-◌, ◌≤◌, ◌<◌, min}
 use mathlib.Core.Path.{◌≡◌, refl, sym, ◌∙◌, ap}
 use mathlib.Core.Bool.{true}
@@ -41,13 +43,10 @@ use Rattle.reread.proofs.Gives.{roomy, RoomyField, Rooms}
 use Rattle.walk.specs.Walk.{body_in, counting, seen_with, begin, cursor_after, visit_in, visit_of, fields_here, fields_ahead, fields_in}
 use Rattle.walk.specs.declared.Cursor.{Cursor}
 use Rattle.walk.specs.declared.Met.{Met}
-use Rattle.walk.specs.declared.What.TheVariants as W
 use Rattle.walk.proofs.Steps.{visit_done, visit_read, visit_fields, visit_next}
 use Rattle.registration.specs.Register.{table_at, definers_at, Entry, register_in, source_items, brought, Fit, Puts, Tables}
 use Rattle.name_table.specs.Tables.{base, table_of}
 use Rattle.name_table.specs.Definers.{definers_base, definers_in, definers_of, holder_in, item_words}
-use Rattle.registration.specs.declared.register.Registered.{Registered}
-use Rattle.registration.specs.declared.register.Registered.TheVariants as R
 use Rattle.name_table.proofs.Tables.{base_high}
 use Rattle.registration.proofs.Tables.{Holding, holding_holder, holding_more}
 use Rattle.name_table.proofs.Tables.{code_small}
@@ -279,7 +278,7 @@ registering_above s w w' c f v =
       same = v.same;
     }
 
-module _ (s : List ℕ) (c : Cursor) (m : Met) (told : visit_in c.left c s ≡ visit_of s m) (f : Code.Field) (here : ℕ) (is : m.what ≡ W.Field f here) where
+module _ (s : List ℕ) (c : Cursor) (m : Met) (told : visit_in c.left c s ≡ visit_of s m) (f : Code.Field) (here : ℕ) (is : m.what ≡ Some (f, here)) where
   -- a field's items have room
   pub registering_fit : Fit c.seen (brought f)
   registering_fit = fits_read s c.seen f c.at here (visit_read s c m told f here is)
@@ -288,9 +287,9 @@ module _ (s : List ℕ) (c : Cursor) (m : Met) (told : visit_in c.left c s ≡ v
   unfolding fields_here
   fields xs = rw (visit_fields s c m told f here is) (field-parts s c.rec (count_of c.seen) (body_in (field_body (field_of s f)) (c.rec + 1) s here) xs (fields_ahead m.next s) f)
 
-  module _ (w : List ℕ) (v : Registering s w c) (q : Registered) (w' : List ℕ) (put : Puts s w c.seen c.rec (brought f) q w') (long : WORDS ≤ length w) where
+  module _ (w : List ℕ) (v : Registering s w c) (q : Resolved (Unit {0})) (w' : List ℕ) (put : Puts s w c.seen c.rec (brought f) q w') (long : WORDS ≤ length w) where
     -- they were registered
-    pub registering_again : q ≡ R.Done → Registering s w' m.next
+    pub registering_again : q ≡ Ok tt → Registering s w' m.next
     unfolding cursor_after
     registering_again d =
         let y = went s w c.seen c.rec v.items (brought f) w' v.holding registering_fit long (rw d at put.says) in
@@ -302,12 +301,12 @@ module _ (s : List ℕ) (c : Cursor) (m : Met) (told : visit_in c.left c s ≡ v
         }
 
     -- one was not
-    pub registering_stops : (z : Refusal) → q ≡ R.Refused z → register same_bytes [] (fields_in s) ≡ refused_by z
+    pub registering_stops : (z : Refusal) → q ≡ Err z → register same_bytes [] (fields_in s) ≡ refused_by z
     registering_stops z d =
         v.same ∙ fields v.items ∙ stopped s w c.seen c.rec v.items (brought f) z v.holding registering_fit long (rw d at put.says) (fields_ahead m.next s)
 
 -- no field is left
-pub registering_done : (s w : List ℕ) (c : Cursor) (v : Registering s w c) (m : Met) → visit_in c.left c s ≡ visit_of s m → m.what ≡ W.Done → register same_bytes [] (fields_in s) ≡ ok v.items
+pub registering_done : (s w : List ℕ) (c : Cursor) (v : Registering s w c) (m : Met) → visit_in c.left c s ≡ visit_of s m → m.what ≡ None → register same_bytes [] (fields_in s) ≡ ok v.items
 unfolding register
 registering_done s w c v m told is = v.same ∙ rw (visit_done s c m told is) refl
 

@@ -1,4 +1,6 @@
 -- What the walk over all fields leaves: the order of imports, the table of types and the number of each use at its record, and the names.
+use Rattle.std.specs.Prelude.{Option as Optional, Ok, Err, Some, None}
+use Rattle.syntax.specs.Refusals.{Resolved}
 use Rattle.std.specs.Prelude.{ℕ, ◌≤◌, ◌≡◌, Bool, List, [], length, get_or, if◌then◌else◌}
 use Rattle.std.proofs.Math.Option.{Option, none, some}
 use Rattle.definition.specs.Basic.{Answer, ok, ◌>>=◌, same_bytes}
@@ -9,6 +11,7 @@ use Rattle.definition.specs.Types.{uses, intern, all_types}
 use Rattle.definition.specs.Names.{Items, register}
 use Rattle.definition.specs.Binary.{types_size}
 use Rattle.syntax.specs.Refusals.{refusal, refused_by}
+use Rattle.syntax.specs.declared.Fault.TheVariants as F
 use Rattle.syntax.specs.declared.Refusal.{Refusal}
 use Rattle.area.specs.Layout.{SIZE, TOTAL, TYPES}
 use Rattle.syntax.specs.Fields.{field_of}
@@ -20,18 +23,10 @@ use Rattle.walk.specs.declared.Cursor.{Cursor}
 use Rattle.import_order.specs.Order.{is_late, late_after}
 use Rattle.import_order.specs.declared.Standing.{Standing}
 use Rattle.interning.specs.Uses.{uses_field, end_after, Handled, Stopped}
-use Rattle.interning.specs.declared.uses.Used.{Used}
-use Rattle.interning.specs.declared.uses.Used.TheVariants as U
 use Rattle.registration.specs.Register.{brought, Puts, Tables}
-use Rattle.registration.specs.declared.register.Registered.{Registered}
-use Rattle.registration.specs.declared.register.Registered.TheVariants as R
-use Rattle.survey.specs.declared.late.Lateness.{Lateness}
-use Rattle.survey.specs.declared.late.Lateness.TheVariants as L
 use Rattle.survey.specs.declared.Ended.{Ended}
 use Rattle.survey.specs.declared.Took.{Took}
 use Rattle.survey.specs.declared.Took.TheVariants as T
-use Rattle.survey.specs.declared.Surveyed.{Surveyed}
-use Rattle.survey.specs.declared.Surveyed.TheVariants as Y
 
 -- the order of imports, over the whole stream, and then the types
 unfoldable pub types_after_order : Numbered Identifier → Answer (List FuncType)
@@ -53,9 +48,9 @@ pub record Falls (s w : List ℕ) (q : Refusal) (w' : List ℕ) : Type 0 where
   pub says : (types_after_order (fields_in s) >>= λ _. register same_bytes [] (fields_in s)) ≡ refused_by q
   pub long : length w' ≡ length w
 
-unfoldable pub Surveys : Bytes → List ℕ → Surveyed → List ℕ → Type 0
-Surveys s w Y.Done w' = Stands s w w'
-Surveys s w (Y.Refused q) w' = Falls s w q w'
+unfoldable pub Surveys : Bytes → List ℕ → Resolved (Unit {0}) → List ℕ → Type 0
+Surveys s w (Ok u) w' = Stands s w w'
+Surveys s w (Err q) w' = Falls s w q w'
 
 -- ## The order of imports
 
@@ -63,23 +58,23 @@ Surveys s w (Y.Refused q) w' = Falls s w q w'
 abbrev pub lateness : Bool → Standing → Option Bool
 lateness late x = if is_late late x then none else some (late_after late x)
 
-abbrev pub fine_of : Lateness → Option Bool
-fine_of L.Late = none
-fine_of (L.Fine late) = some late
+abbrev pub fine_of : Optional Bool → Option Bool
+fine_of None = none
+fine_of (Some late) = some late
 
 -- ## One field
 
 -- its uses were handled, and then its items registered or refused
-pub record Both (s w : List ℕ) (c : Cursor) (f : Field) (here k k' : ℕ) (b : Registered) (w' : List ℕ) : Type 0 where
+pub record Both (s w : List ℕ) (c : Cursor) (f : Field) (here k k' : ℕ) (b : Resolved (Unit {0})) (w' : List ℕ) : Type 0 where
   pub between : List ℕ
   pub used : Handled c.rec (end_after (field_body (field_of s f)) c.rec s here) s (uses_field c.rec (field_of s f) s here) w k between k'
   pub put : Puts s between c.seen c.rec (brought f) b w'
 
 unfoldable pub Takes : Bytes → List ℕ → Cursor → Field → ℕ → ℕ → Took → List ℕ → Type 0
-Takes s w c f here k (T.Types k') w' = Both s w c f here k k' R.Done w'
+Takes s w c f here k (T.Types k') w' = Both s w c f here k k' (Ok tt) w'
 Takes s w c f here k (T.Late r) w' = ⊥
 Takes s w c f here k (T.Use q) w' = Stopped s (uses_field c.rec (field_of s f) s here) w k q w'
-Takes s w c f here k (T.Name q k') w' = Both s w c f here k k' (R.Refused q) w'
+Takes s w c f here k (T.Name q k') w' = Both s w c f here k k' (Err q) w'
 
 -- ## Where something was refused
 
@@ -104,7 +99,7 @@ pub record NameRefused (s w : List ℕ) (c : Cursor) (late : Bool) (k : ℕ) (q 
 -- how the walk ended
 unfoldable pub Reaches : Bytes → List ℕ → Took → Cursor → Bool → List ℕ → Type 0
 Reaches s w (T.Types k) c late w' = Stands s w w'
-Reaches s w (T.Late r) c late w' = Falls s w (refusal 11 r) w'
+Reaches s w (T.Late r) c late w' = Falls s w (refusal F.LateImport r) w'
 Reaches s w (T.Use q) c late w' = UseRefused s w' c late q × Kept TYPES w w'
 Reaches s w (T.Name q k) c late w' = NameRefused s w' c late k q × Kept TYPES w w'
 
@@ -115,10 +110,10 @@ pub record Ends (q : Took) (c : Cursor) (u : Bool) (r : Ended) : Type 0 where
   pub late : r.late ≡ u
 
 -- what all types come to
-abbrev pub typed : Bytes → Used → List ℕ → Answer (List FuncType)
-typed s (U.Types k) w = ok (type_table k s w TYPES)
-typed s (U.Refused q) w = refused_by q
+abbrev pub typed : Bytes → Resolved ℕ → List ℕ → Answer (List FuncType)
+typed s (Ok k) w = ok (type_table k s w TYPES)
+typed s (Err q) w = refused_by q
 
-pub record Interns (s w : List ℕ) (r : Used) (w' : List ℕ) : Type 0 where
+pub record Interns (s w : List ℕ) (r : Resolved ℕ) (w' : List ℕ) : Type 0 where
   pub says : all_types (fields_in s) ≡ typed s r w'
   pub kept : Kept TYPES w w'

@@ -5,19 +5,13 @@ ghost use Rattle.survey.specs.Survey.{lateness, fine_of};
 
 use syntax::Field;
 
-// An import that comes too late, or whether imports after a field do.
-#[derive(Clone, Copy)]
-pub enum Lateness {
-    Late,
-    Fine(bool),
-}
-
-pub fn late_after(late: bool, f: Field) -> Lateness
+#[tactic(auto, using(crate::proofs::Surveying::lates))]
+pub fn late_after(late: bool, f: Field) -> Option<bool>
     ensures { lateness late (standing f) ≡ fine_of result }
 {
     let x = import_order::field_standing(f);
     if import_order::is_late(late, x) {
-        return Lateness::Late;
+        return None;
     }
-    Lateness::Fine(import_order::late_after(late, x))
+    Some(import_order::late_after(late, x))
 }

@@ -17,19 +17,10 @@ ghost use Rattle.interning.specs.Uses.{Skips};
 ghost use Rattle.registration.specs.Register.{brought, Fit};
 ghost use Rattle.survey.specs.Survey.{Takes, Ends, Reaches, Surveys};
 
-use interning::Used;
-use late::{Lateness, late_after};
+use late::late_after;
 use refused::{late_first, types_first};
-use registration::Registered;
-use syntax::{Field, Refusal};
-use walk::{Cursor, What};
-
-// A refusal's number and record, if there is one.
-#[derive(Clone, Copy)]
-pub enum Surveyed {
-    Done,
-    Refused(Refusal),
-}
+use syntax::{Fault, Field, Refusal, Resolved};
+use walk::Cursor;
 
 // How many types there are after a field; or the record of an import that comes too late; or the refusal of a use, or of a name after so
 // many types, before which an earlier rule may come.
@@ -55,11 +46,11 @@ fn take_field(s: &[u8], work: &mut [u32], c: Cursor, f: Field, here: usize, coun
     ensures { Takes s.now work.old c f here count result work.new }
 {
     match interning::use_field(s, work, count, f, c.own, here, c.rec) {
-        Used::Types(k) => match registration::register_field(s, work, c.seen, f, c.rec) {
-            Registered::Done => Took::Types(k),
-            Registered::Refused(r) => Took::Name(r, k),
+        Ok(k) => match registration::register_field(s, work, c.seen, f, c.rec) {
+            Ok(()) => Took::Types(k),
+            Err(r) => Took::Name(r, k),
         },
-        Used::Refused(r) => Took::Use(r),
+        Err(r) => Took::Use(r),
     }
 }
 
@@ -87,49 +78,36 @@ fn survey_fields(s: &[u8], work: &mut [u32], declared: u32) -> Ended
     let mut count = declared;
     loop {
         let m = walk::visit(s, work, c);
-        let what = m.what;
-        match what {
-            What::Field(f, here) => {
-                match late_after(late, f) {
-                    Lateness::Fine(l) => {
-                        late = l;
-                    }
-                    Lateness::Late => {
-                        return ended_by(Took::Late(c.rec), c, late);
-                    }
-                }
-                let took = take_field(s, work, c, f, here, count);
-                match took {
-                    Took::Types(k) => {
-                        count = k;
-                        c = m.next;
-                    }
-                    _ => {
-                        return ended_by(took, m.next, late);
-                    }
-                }
-            }
-            What::Done => {
-                put_total(work, count);
-                counting::put_counts(work, area::NAMED, c.seen);
-                return ended_by(Took::Types(count), c, late);
-            }
-        }
+        let Some((f, here)) = m.what else {
+            put_total(work, count);
+            counting::put_counts(work, area::NAMED, c.seen);
+            return ended_by(Took::Types(count), c, late);
+        };
+        let Some(l) = late_after(late, f) else {
+            return ended_by(Took::Late(c.rec), c, late);
+        };
+        late = l;
+        let took = take_field(s, work, c, f, here, count);
+        let Took::Types(k) = took else {
+            return ended_by(took, m.next, late);
+        };
+        count = k;
+        c = m.next;
     }
 }
 
 // The types of uses after the declared ones, and all names. The word at TOTAL says how many types there are then, and the word of each
 // record that has a use without an index that use's number. The order of imports comes first over the whole stream, then the types,
 // then the names: where one of the later rules refuses, the fields ahead are asked for an earlier one.
-pub fn survey_all(s: &[u8], work: &mut [u32], declared: u32) -> Surveyed
+pub fn survey_all(s: &[u8], work: &mut [u32], declared: u32) -> Resolved<()>
     requires { Lent s.now work.old × Indexed s.now work.old declared × Ahead s.now work.old begin × (type_table declared s.now work.old TYPES ≡ Types.declared (fields_in s.now)) }
     ensures { Surveys s.now work.old result work.new }
 {
     let x = survey_fields(s, work, declared);
     let how = x.how;
     match how {
-        Took::Types(_) => Surveyed::Done,
-        Took::Late(rec) => Surveyed::Refused(syntax::refusal_at(11, rec)),
+        Took::Types(_) => Ok(()),
+        Took::Late(rec) => Err(syntax::refusal_at(Fault::LateImport, rec)),
         Took::Use(r) => late_first(s, work, x.next, x.late, r),
         Took::Name(r, k) => types_first(s, work, x.next, x.late, k, r),
     }

@@ -7,14 +7,12 @@ ghost use Rattle.type_table.specs.Table.{type_table, Indexed};
 ghost use Rattle.walk.specs.Walk.{Ahead, fields_ahead, fields_in};
 ghost use Rattle.survey.specs.Survey.{Surveys, UseRefused, NameRefused, Interns};
 
-use crate::Surveyed;
-use crate::late::{Lateness, late_after};
-use interning::Used;
-use syntax::Refusal;
-use walk::{Cursor, What};
+use crate::late::late_after;
+use syntax::{Fault, Refusal, Resolved};
+use walk::Cursor;
 
 // A refusal of types or names, unless an import ahead comes too late.
-pub fn late_first(s: &[u8], work: &[u32], from: Cursor, past: bool, r: Refusal) -> Surveyed
+pub fn late_first(s: &[u8], work: &[u32], from: Cursor, past: bool, r: Refusal) -> Resolved<()>
     requires { UseRefused s.now work.now from past r }
     ensures { Surveys s.now work.now result work.now }
 {
@@ -22,28 +20,19 @@ pub fn late_first(s: &[u8], work: &[u32], from: Cursor, past: bool, r: Refusal) 
     let mut late = past;
     loop {
         let m = walk::visit(s, work, c);
-        let what = m.what;
-        match what {
-            What::Field(f, _) => {
-                match late_after(late, f) {
-                    Lateness::Fine(l) => {
-                        late = l;
-                    }
-                    Lateness::Late => {
-                        return Surveyed::Refused(syntax::refusal_at(11, c.rec));
-                    }
-                }
-                c = m.next;
-            }
-            What::Done => {
-                return Surveyed::Refused(r);
-            }
-        }
+        let Some((f, _)) = m.what else {
+            return Err(r);
+        };
+        let Some(l) = late_after(late, f) else {
+            return Err(syntax::refusal_at(Fault::LateImport, c.rec));
+        };
+        late = l;
+        c = m.next;
     }
 }
 
 // The uses of the fields ahead.
-fn use_ahead(s: &[u8], work: &mut [u32], from: Cursor, types: u32) -> Used
+fn use_ahead(s: &[u8], work: &mut [u32], from: Cursor, types: u32) -> Resolved<u32>
     requires { Lent s.now work.old × Indexed s.now work.old types × Ahead s.now work.old from × (Types.all_types (fields_in s.now) ≡ Types.intern (type_table types s.now work.old TYPES) (Types.uses (fields_ahead from s.now))) }
     ensures { Interns s.now work.old result work.new }
 {
@@ -51,23 +40,11 @@ fn use_ahead(s: &[u8], work: &mut [u32], from: Cursor, types: u32) -> Used
     let mut count = types;
     loop {
         let m = walk::visit(s, work, c);
-        let what = m.what;
-        match what {
-            What::Field(f, here) => {
-                match interning::use_field(s, work, count, f, c.own, here, c.rec) {
-                    Used::Types(k) => {
-                        count = k;
-                    }
-                    Used::Refused(r) => {
-                        return Used::Refused(r);
-                    }
-                }
-                c = m.next;
-            }
-            What::Done => {
-                return Used::Types(count);
-            }
-        }
+        let Some((f, here)) = m.what else {
+            return Ok(count);
+        };
+        count = interning::use_field(s, work, count, f, c.own, here, c.rec)?;
+        c = m.next;
     }
 }
 
@@ -79,12 +56,12 @@ pub fn types_first(
     late: bool,
     count: u32,
     r: Refusal,
-) -> Surveyed
+) -> Resolved<()>
     requires { Lent s.now work.old × NameRefused s.now work.old c late count r }
     ensures { Surveys s.now work.old result work.new }
 {
     match use_ahead(s, work, c, count) {
-        Used::Types(_) => late_first(s, work, c, late, r),
-        Used::Refused(q) => late_first(s, work, c, late, q),
+        Ok(_) => late_first(s, work, c, late, r),
+        Err(q) => late_first(s, work, c, late, q),
     }
 }

@@ -1,4 +1,6 @@
 -- What the answers of the readers mean.
+use Rattle.std.specs.Prelude.{ℕ}
+use Rattle.syntax.specs.Reads.{Read, step}
 use Rattle.std.proofs.Math.Option.{Option, none, some}
 use Rattle.definition.specs.Syntax as Syntax
 use Rattle.definition.specs.Syntax.{Bytes, Identifier}
@@ -12,10 +14,6 @@ use Rattle.syntax.specs.declared.Form.{Form}
 use Rattle.syntax.specs.declared.Form.TheVariants as F
 use Rattle.syntax.specs.declared.Instr.{Instr}
 use Rattle.syntax.specs.declared.Instr.TheVariants as I
-use Rattle.syntax.specs.declared.InstrAt.{InstrAt}
-use Rattle.syntax.specs.declared.InstrAt.TheVariants as IA
-use Rattle.syntax.specs.declared.FoldAt.{FoldAt}
-use Rattle.syntax.specs.declared.FoldAt.TheVariants as FA
 
 abbrev pub form_is : Form → Option Instructions.Form
 form_is F.NoOpcode = none
@@ -32,10 +30,8 @@ instr_is s (I.Ends l) = Syntax.ends (id_of s l)
 instr_is s (I.Indirect x t) = Syntax.indirect (index_of s x) (use_of s t)
 instr_is s (I.Plain p) = Syntax.plain (plain_is s p)
 
-abbrev pub instr_at : Bytes → InstrAt → Step (Syntax.Instr Identifier)
-instr_at s (IA.Got i next) = got (instr_is s i) next
-instr_at s (IA.Fault n) = fault n
+abbrev pub instr_at : Bytes → Read Instr → Step (Syntax.Instr Identifier)
+instr_at s = step (instr_is s)
 
-abbrev pub fold_at : Bytes → FoldAt → Step (Syntax.Rec Identifier)
-fold_at s (FA.Got i n next) = got (Syntax.folded (instr_is s i) n) next
-fold_at s (FA.Fault n) = fault n
+abbrev pub fold_at : Bytes → Read (Instr × ℕ) → Step (Syntax.Rec Identifier)
+fold_at s = step (λ x. Syntax.folded (instr_is s x.0) x.1)

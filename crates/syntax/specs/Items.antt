@@ -1,4 +1,5 @@
 -- What the answers of the readers mean, and which readers of the definition belong to a kind.
+use Rattle.syntax.specs.Reads.{Read, step}
 use Rattle.std.specs.Prelude.{ℕ, false, not, [], ◌∷◌, ltb, get_or}
 use Rattle.definition.specs.Syntax as Syntax
 use Rattle.definition.specs.Syntax.{Bytes, Identifier, funcs, tables, mems, globals, code}
@@ -10,21 +11,15 @@ use Rattle.syntax.specs.CoreTypes.{limits_is, table_type_is, global_type_is}
 use Rattle.syntax.specs.TypeUses.{list_of, use_of}
 use Rattle.syntax.specs.Plain.{constant_at}
 use Rattle.syntax.specs.declared.ImportName.{ImportName}
-use Rattle.syntax.specs.declared.NameAt.{NameAt}
-use Rattle.syntax.specs.declared.NameAt.TheVariants as NA
 use Rattle.syntax.specs.declared.Kind.{Kind}
 use Rattle.syntax.specs.declared.Kind.TheVariants as K
 use Rattle.syntax.specs.declared.Extern as Code
 use Rattle.syntax.specs.declared.Extern.TheVariants as E
-use Rattle.syntax.specs.declared.ExternAt.{ExternAt}
-use Rattle.syntax.specs.declared.ExternAt.TheVariants as EA
 use Rattle.syntax.specs.declared.Seen.{Seen}
 use Rattle.syntax.specs.declared.Own.{Own}
 use Rattle.syntax.specs.declared.Own.TheVariants as O
 use Rattle.syntax.specs.declared.Source.{Source}
 use Rattle.syntax.specs.declared.Source.TheVariants as S
-use Rattle.syntax.specs.declared.SourceAt.{SourceAt}
-use Rattle.syntax.specs.declared.SourceAt.TheVariants as SA
 
 -- ## What may still come
 
@@ -42,9 +37,8 @@ room_of seen = record { item = λ k. ltb (count_of seen k) 256; start = not seen
 abbrev pub name_of : Bytes → ImportName → Syntax.ImportName
 name_of s n = record { module_name = part_of s n.«module»; item_name = part_of s n.item }
 
-abbrev pub name_at : Bytes → NameAt → Step Syntax.ImportName
-name_at s (NA.Got n next) = got (name_of s n) next
-name_at s (NA.Fault n) = fault n
+abbrev pub name_at : Bytes → Read ImportName → Step Syntax.ImportName
+name_at s = step (name_of s)
 
 -- the space of a kind's items, and how what is imported is read
 abbrev pub kind_of : Kind → Syntax.Space
@@ -59,9 +53,8 @@ extern_is s (E.Table t) = Syntax.table (table_type_is t)
 extern_is s (E.Mem l) = Syntax.mem (limits_is l)
 extern_is s (E.Global t) = Syntax.global (global_type_is t)
 
-abbrev pub extern_at : Bytes → ExternAt → Step Extern
-extern_at s (EA.Got x next) = got (extern_is s x) next
-extern_at s (EA.Fault n) = fault n
+abbrev pub extern_at : Bytes → Read Code.Extern → Step Extern
+extern_at s = step (extern_is s)
 
 -- ## Sources
 
@@ -77,6 +70,5 @@ source_of s (S.Imported n x) = Syntax.imported (name_of s n) (extern_is s x)
 source_of s (S.TableOf w xs) = Syntax.table_of w (list_of Token.present s xs)
 source_of s (S.MemOf w d) = Syntax.mem_of w (part_of s d)
 
-abbrev pub source_at : Bytes → SourceAt → Step (Syntax.Source Identifier)
-source_at s (SA.Got x next) = got (source_of s x) next
-source_at s (SA.Fault n) = fault n
+abbrev pub source_at : Bytes → Read Source → Step (Syntax.Source Identifier)
+source_at s = step (source_of s)

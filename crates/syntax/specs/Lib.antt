@@ -5,6 +5,7 @@ pub mod Items
 pub mod Marks
 pub mod Numbers
 pub mod Plain
+pub mod Reads
 pub mod Refusals
 pub mod Resolved
 pub mod Tokens

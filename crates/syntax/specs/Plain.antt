@@ -1,4 +1,7 @@
 -- What the answers of the readers mean.
+use Rattle.std.specs.Prelude.{Ok, Err}
+use Rattle.syntax.specs.Reads.{Read, Pass, step}
+use Rattle.syntax.specs.Refusals.{number}
 use Rattle.std.specs.Prelude.{ℕ, List, [], ◌∷◌}
 use Rattle.std.proofs.Math.Option.{Option, none, some}
 use Rattle.definition.specs.Syntax as Syntax
@@ -8,15 +11,11 @@ use Rattle.definition.specs.Token as Token
 use Rattle.definition.specs.Instructions as Instructions
 use Rattle.syntax.specs.Tokens.{part_of, space_of, index_of}
 use Rattle.syntax.specs.TypeUses.{list_of, on_step}
-use Rattle.syntax.specs.declared.Skip.{Skip}
-use Rattle.syntax.specs.declared.Skip.TheVariants as S
 use Rattle.syntax.specs.declared.Spaces.{Spaces}
 use Rattle.syntax.specs.declared.Spaces.TheVariants as P
 use Rattle.syntax.specs.declared.Operand.{Operand}
 use Rattle.syntax.specs.declared.Operand.TheVariants as O
 use Rattle.syntax.specs.declared.Plain.{Plain}
-use Rattle.syntax.specs.declared.PlainAt.{PlainAt}
-use Rattle.syntax.specs.declared.PlainAt.TheVariants as PA
 use Rattle.syntax.specs.declared.Operands.{Operands}
 use Rattle.syntax.specs.declared.Operands.TheVariants as W
 
@@ -55,9 +54,8 @@ operand_of s (O.Heap t) = raw (t ∷ [])
 abbrev pub plain_is : Bytes → Plain → Syntax.Plain Identifier
 plain_is s p = record { opcode = p.opcode; operand = operand_of s p.operand }
 
-abbrev pub plain_at : Bytes → PlainAt → Step (Syntax.Plain Identifier)
-plain_at s (PA.Got p next) = got (plain_is s p) next
-plain_at s (PA.Fault n) = fault n
+abbrev pub plain_at : Bytes → Read Plain → Step (Syntax.Plain Identifier)
+plain_at s = step (plain_is s)
 
 -- ## Constants, known by their places
 
@@ -70,9 +68,9 @@ unfoldable pub constant_at : Bytes → ℕ → Syntax.Plain Identifier
 constant_at s at = on_step (Instructions.constant s at) (λ c next. c) no_constant
 
 -- a constant that was passed over
-abbrev pub constant_past : Bytes → ℕ → Skip → Step (Syntax.Plain Identifier)
-constant_past s at (S.Past next) = got (constant_at s at) next
-constant_past s at (S.Fault n) = fault n
+abbrev pub constant_past : Bytes → ℕ → Pass → Step (Syntax.Plain Identifier)
+constant_past s at (Ok next) = got (constant_at s at) next
+constant_past s at (Err e) = fault (number e)
 
 -- ## What stands after an opcode
 

@@ -1,4 +1,5 @@
 -- What the answers of the readers mean.
+use Rattle.syntax.specs.Reads.{Read, step}
 use Rattle.std.specs.Prelude.{ℕ, zero, suc, List, [], ◌∷◌}
 use Rattle.definition.specs.Syntax as Syntax
 use Rattle.definition.specs.Syntax.{Bytes, Identifier, ValType}
@@ -6,23 +7,16 @@ use Rattle.definition.specs.Reader.{Step, got, fault, Reader}
 use Rattle.definition.specs.Token as Token
 use Rattle.syntax.specs.Tokens.{id_of, index_of}
 use Rattle.syntax.specs.declared.Local.{Local}
-use Rattle.syntax.specs.declared.LocalAt.{LocalAt}
-use Rattle.syntax.specs.declared.LocalAt.TheVariants as OA
 use Rattle.syntax.specs.declared.Elem.{Elem}
 use Rattle.syntax.specs.declared.Elem.TheVariants as E
 use Rattle.syntax.specs.declared.List as Code
-use Rattle.syntax.specs.declared.ListAt.{ListAt}
-use Rattle.syntax.specs.declared.ListAt.TheVariants as LA
 use Rattle.syntax.specs.declared.TypeUse.{TypeUse}
-use Rattle.syntax.specs.declared.UseAt.{UseAt}
-use Rattle.syntax.specs.declared.UseAt.TheVariants as UA
 
 abbrev pub local_of : Bytes → Local → Syntax.Local Identifier
 local_of s l = record { id = id_of s l.id; type = l.value }
 
-abbrev pub local_at : Bytes → LocalAt → Step (Syntax.Local Identifier)
-local_at s (OA.Got l next) = got (local_of s l) next
-local_at s (OA.Fault n) = fault n
+abbrev pub local_at : Bytes → Read Local → Step (Syntax.Local Identifier)
+local_at s = step (local_of s)
 
 -- what the elements of a list are, and how one is read
 abbrev pub Of : Elem → Type 0
@@ -49,13 +43,11 @@ elements p s at (suc n) = on_step (p s at) (λ x next. x ∷ elements p s next n
 abbrev pub list_of : {A : Type 0} → Reader A → Bytes → Code.List → List A
 list_of p s l = elements p s l.at l.count
 
-abbrev pub list_at : {A : Type 0} → Reader A → Bytes → ListAt → Step (List A)
-list_at p s (LA.Got l next) = got (list_of p s l) next
-list_at p s (LA.Fault n) = fault n
+abbrev pub list_at : {A : Type 0} → Reader A → Bytes → Read Code.List → Step (List A)
+list_at p s = step (list_of p s)
 
 abbrev pub use_of : Bytes → TypeUse → Syntax.TypeUse Identifier
 use_of s t = record { index = index_of s t.index; params = list_of Token.param s t.params; results = list_of Token.val_type s t.results }
 
-abbrev pub use_at : Bytes → UseAt → Step (Syntax.TypeUse Identifier)
-use_at s (UA.Got t next) = got (use_of s t) next
-use_at s (UA.Fault n) = fault n
+abbrev pub use_at : Bytes → Read TypeUse → Step (Syntax.TypeUse Identifier)
+use_at s = step (use_of s)

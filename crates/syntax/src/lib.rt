@@ -8,42 +8,73 @@ ghost use Rattle.definition.specs.Instructions as Instructions;
 ghost use Rattle.syntax.specs.Items.{none_seen};
 ghost use Rattle.syntax.specs.Marks.{no_marks};
 ghost use Rattle.syntax.specs.Plain.{spaces_is};
-ghost use Rattle.syntax.specs.Refusals.{refusal};
+ghost use Rattle.syntax.specs.Refusals.{number, refusal};
 ghost use Rattle.syntax.specs.Tokens.{space_of};
 
-// ## Answers of readers of numbers and bytes
+// ## What is refused
 
-// A number and the place after it, or a refusal's number.
+// Why a stream is refused, by document 01's numbers.
 #[derive(Clone, Copy)]
-pub enum U32 {
-    Got(u32, usize),
-    Fault(u8),
+pub enum Fault {
+    TooLong = 1,
+    Ended = 2,
+    TooLarge = 3,
+    UnknownByte = 4,
+    BadIdentifier = 5,
+    BadString = 6,
+    TooMany = 7,
+    BrokenBlocks = 8,
+    SecondStart = 9,
+    WorkTooShort = 10,
+    LateImport = 11,
+    TooManyTypes = 12,
+    NameTaken = 13,
+    NoSuchName = 14,
+    NoSuchType = 15,
+    TypeDiffers = 16,
+    OtherLabel = 17,
+    OutputTooShort = 18,
+    Padded = 19,
+    PointsNowhere = 20,
 }
 
-#[derive(Clone, Copy)]
-pub enum U64 {
-    Got(u64, usize),
-    Fault(u8),
+impl From<Fault> for u8 {
+    ghost from_gives = { λ f n. n ≡ number f };
+
+    fn from(f: Fault) -> u8 {
+        f as u8
+    }
 }
 
+// A fault, the record that has it, and on a duplicate where the name was first used.
 #[derive(Clone, Copy)]
-pub enum ByteAt {
-    Got(u8, usize),
-    Fault(u8),
+pub struct Refusal {
+    pub fault: Fault,
+    pub rec: u32,
+    pub first: u32,
 }
 
-#[derive(Clone, Copy)]
-pub enum BoolAt {
-    Got(bool, usize),
-    Fault(u8),
+// Anything but a duplicate: the record stands for both.
+pub fn refusal_at(fault: Fault, rec: u32) -> Refusal
+    ensures { result ≡ refusal fault rec }
+{
+    Refusal {
+        fault,
+        rec,
+        first: rec,
+    }
 }
 
-// Where a run ends that was only passed over, or a refusal's number.
-#[derive(Clone, Copy)]
-pub enum Skip {
-    Past(usize),
-    Fault(u8),
-}
+// What resolving gives, or its refusal.
+pub type Resolved<T> = Result<T, Refusal>;
+
+// ## What reading gives
+
+// A value and the place after it.
+pub type Read<T> = Result<(T, usize), Fault>;
+
+// Where a run ends that was only passed over.
+pub type Pass = Result<usize, Fault>;
 
 // ## Parts of the stream, and lists
 
@@ -52,12 +83,6 @@ pub enum Skip {
 pub struct Part {
     pub at: usize,
     pub len: u32,
-}
-
-#[derive(Clone, Copy)]
-pub enum PartAt {
-    Got(Part, usize),
-    Fault(u8),
 }
 
 // What a list is of.
@@ -74,12 +99,6 @@ pub enum Elem {
 pub struct List {
     pub at: usize,
     pub count: u32,
-}
-
-#[derive(Clone, Copy)]
-pub enum ListAt {
-    Got(List, usize),
-    Fault(u8),
 }
 
 // ## Indices
@@ -118,43 +137,13 @@ pub enum Index {
     Named(Part),
 }
 
-#[derive(Clone, Copy)]
-pub enum IndexAt {
-    Got(Index, usize),
-    Fault(u8),
-}
-
-#[derive(Clone, Copy)]
-pub enum SpaceAt {
-    Got(Space, usize),
-    Fault(u8),
-}
-
 // ## Types
-
-#[derive(Clone, Copy)]
-pub enum Maximum {
-    Unbounded,
-    Is(u64),
-}
-
-#[derive(Clone, Copy)]
-pub enum MaximumAt {
-    Got(Maximum, usize),
-    Fault(u8),
-}
 
 #[derive(Clone, Copy)]
 pub struct Limits {
     pub is64: bool,
     pub minimum: u64,
-    pub maximum: Maximum,
-}
-
-#[derive(Clone, Copy)]
-pub enum LimitsAt {
-    Got(Limits, usize),
-    Fault(u8),
+    pub maximum: Option<u64>,
 }
 
 #[derive(Clone, Copy)]
@@ -164,21 +153,9 @@ pub struct TableType {
 }
 
 #[derive(Clone, Copy)]
-pub enum TableTypeAt {
-    Got(TableType, usize),
-    Fault(u8),
-}
-
-#[derive(Clone, Copy)]
 pub struct GlobalType {
     pub value: u8,
     pub mutable: u8,
-}
-
-#[derive(Clone, Copy)]
-pub enum GlobalTypeAt {
-    Got(GlobalType, usize),
-    Fault(u8),
 }
 
 // A parameter or a local.
@@ -189,22 +166,10 @@ pub struct Local {
 }
 
 #[derive(Clone, Copy)]
-pub enum LocalAt {
-    Got(Local, usize),
-    Fault(u8),
-}
-
-#[derive(Clone, Copy)]
 pub struct TypeUse {
     pub index: Index,
     pub params: List,
     pub results: List,
-}
-
-#[derive(Clone, Copy)]
-pub enum UseAt {
-    Got(TypeUse, usize),
-    Fault(u8),
 }
 
 // ## Instructions
@@ -290,12 +255,6 @@ pub struct Plain {
 }
 
 #[derive(Clone, Copy)]
-pub enum PlainAt {
-    Got(Plain, usize),
-    Fault(u8),
-}
-
-#[derive(Clone, Copy)]
 pub enum Instr {
     // block, loop or if, by its opcode; its label and its type
     Opens(u8, Part, TypeUse),
@@ -306,36 +265,26 @@ pub enum Instr {
     Plain(Plain),
 }
 
-#[derive(Clone, Copy)]
-pub enum InstrAt {
-    Got(Instr, usize),
-    Fault(u8),
-}
-
 // What stands in a body that was read before.
 #[derive(Clone, Copy)]
-pub enum BodyAt {
-    Got(Instr, usize),
+pub enum BodyRec {
+    // an instruction, and the place after it
+    Instr(Instr, usize),
     // the byte F0, with which a folded record begins
     Folded,
-    // the byte FF
+    // the byte FF, and the place after it
     End(usize),
-    Unread,
 }
 
-// The operator of a folded record, and the count of its operands.
+// A folded record by its places: its operator's opcode and form, where what stands after the opcode is, the count of its operands,
+// and where they begin.
 #[derive(Clone, Copy)]
-pub enum FoldAt {
-    Got(Instr, u32, usize),
-    Fault(u8),
-}
-
-// A folded record by its places.
-#[derive(Clone, Copy)]
-pub enum Folding {
-    // its operator's opcode and form, where what stands after the opcode is, the count of its operands, and where they begin
-    Parts(u8, Form, usize, u32, usize),
-    Unread,
+pub struct Folding {
+    pub opcode: u8,
+    pub form: Form,
+    pub at: usize,
+    pub count: u32,
+    pub next: usize,
 }
 
 // ## Items and fields
@@ -345,12 +294,6 @@ pub enum Folding {
 pub struct ImportName {
     pub module: Part,
     pub item: Part,
-}
-
-#[derive(Clone, Copy)]
-pub enum NameAt {
-    Got(ImportName, usize),
-    Fault(u8),
 }
 
 // What may be imported: an item of one of four spaces.
@@ -368,12 +311,6 @@ pub enum Extern {
     Table(TableType),
     Mem(Limits),
     Global(GlobalType),
-}
-
-#[derive(Clone, Copy)]
-pub enum ExternAt {
-    Got(Extern, usize),
-    Fault(u8),
 }
 
 #[derive(Clone, Copy)]
@@ -395,22 +332,10 @@ pub enum Source {
 }
 
 #[derive(Clone, Copy)]
-pub enum SourceAt {
-    Got(Source, usize),
-    Fault(u8),
-}
-
-#[derive(Clone, Copy)]
 pub enum Mode {
     Passive,
     // the table or the memory, and where the offset stands
     Active(Index, usize),
-}
-
-#[derive(Clone, Copy)]
-pub enum ModeAt {
-    Got(Mode, usize),
-    Fault(u8),
 }
 
 #[derive(Clone, Copy)]
@@ -446,12 +371,6 @@ pub enum Field {
         mode: Mode,
         bytes: Part,
     },
-}
-
-#[derive(Clone, Copy)]
-pub enum FieldAt {
-    Got(Field, usize),
-    Fault(u8),
 }
 
 // ## Where reading stands
@@ -494,27 +413,6 @@ impl Seen {
             counts: [0; 7],
             started: false,
         }
-    }
-}
-
-// ## What is refused
-
-// Why a stream is refused, by document 01's number; the record at fault; and on a duplicate where the name was first used.
-#[derive(Clone, Copy)]
-pub struct Refusal {
-    pub number: u8,
-    pub rec: u32,
-    pub first: u32,
-}
-
-// Anything but a duplicate: the record stands for both.
-pub fn refusal_at(number: u8, rec: u32) -> Refusal
-    ensures { result ≡ refusal number rec }
-{
-    Refusal {
-        number,
-        rec,
-        first: rec,
     }
 }
 

@@ -18,18 +18,10 @@ use Rattle.laws.specs.Steps.{stops}
 use Rattle.laws.proofs.Backwards.{came, passed}
 use Rattle.laws.proofs.Groups.{groups-fault, u32-within}
 use Rattle.laws.proofs.OneSpelling.{u32-byte}
-use Rattle.syntax.specs.Numbers.{u32_at}
-use Rattle.syntax.specs.declared.U32.{U32}
-use Rattle.syntax.specs.declared.U32.TheVariants as U32
-use Rattle.syntax.specs.Tokens.{byte_at, part, part_at, skip}
-use Rattle.syntax.specs.declared.Part.{Part}
-use Rattle.syntax.specs.declared.PartAt.{PartAt}
-use Rattle.syntax.specs.declared.PartAt.TheVariants as P
-use Rattle.syntax.specs.declared.Skip.TheVariants as S
+use Rattle.syntax.specs.Tokens.{part}
+use Rattle.syntax.proofs.Ways.{fault_handed, skip_handed}
 use Rattle.token.specs.Readers.{given}
 use Rattle.token.specs.Known.{Gets}
-use Rattle.syntax.specs.declared.ByteAt.{ByteAt}
-use Rattle.syntax.specs.declared.ByteAt.TheVariants as B
 use Rattle.token.proofs.Runs.{Single, id-single, string-single, many-part}
 use Rattle.token.proofs.Skips.{stops-made}
 
@@ -90,8 +82,8 @@ module _ (p : Reader ℕ) (i : Single p) (n : ℕ) (s : Bytes) (at : ℕ) (h : a
 
 -- ## Identifiers: the length is at most 64, and so a byte
 
-module _ (s : Bytes) (at : ℕ) (r : ByteAt) (e : byte s at ≡ byte_at r) where
-  module _ (n next : ℕ) (d : r ≡ B.Got n next) where
+module _ (s : Bytes) (at : ℕ) where
+  module _ (n next : ℕ) (e : byte s at ≡ got n next) where
     -- the number that is known to be allowed is that byte
     one_byte : {A : Type 0} (k : ℕ → ℕ → Step A) → Gets (onward k (up_to 5 64 s at)) → u32 s at ≡ got n next
     unfolding up_to
@@ -100,7 +92,7 @@ module _ (s : Bytes) (at : ℕ) (r : ByteAt) (e : byte s at ≡ byte_at r) where
         let m : Gets (u32 s at) = gets_first _ (u32 s at) u in
         let l : m.value ≤ 64 = leb-true _ _ (gets_passed _ 5 (leb m.value 64) s m.next (gets_rest _ (u32 s at) u m.value m.next m.is)) in
         let b : byte s at ≡ got m.value m.next = u32-byte s at (omega arith) m.is in
-        m.is ∙ sym b ∙ e ∙ ap byte_at d
+        m.is ∙ sym b ∙ e
 
     module _ (g : Gets (identifier s at)) where
       id-length : u32 s at ≡ got n next
@@ -141,10 +133,10 @@ module _ (s : Bytes) (at : ℕ) (r : ByteAt) (e : byte s at ≡ byte_at r) where
       name_fits h = run_fits id_byte id-single n s next (u32-within s at name_length_lem).inside name_run h
 
   -- no byte is left
-  module _ (k : ℕ) (d : r ≡ B.Fault k) where
+  module _ (k : ℕ) (e : byte s at ≡ fault k) where
     no_length : u32 s at ≡ fault k
     unfolding u32
-    no_length = groups-fault (2 ^ 32) 1 0 s at 5 (omega arith) (e ∙ ap byte_at d)
+    no_length = groups-fault (2 ^ 32) 1 0 s at 5 (omega arith) e
 
     pub id-refused : identifier s at ≡ fault k
     unfolding identifier up_to
@@ -157,15 +149,12 @@ module _ (s : Bytes) (at : ℕ) (r : ByteAt) (e : byte s at ≡ byte_at r) where
     unfolding identifier₁ up_to
     name_refused = rw no_length
 
-pub ruleset known-names = (id-known, id_skipped, id-fits, id-refused, id-stopped, name_known, name_fits, name_refused)
+pub ruleset known_names = (id-known, id_skipped, id-fits, id-refused, id-stopped, name_known, name_fits, name_refused, fault_handed, skip_handed)
 
 -- ## Strings
 
-module _ (s : Bytes) (at : ℕ) (r : U32) (e : u32 s at ≡ u32_at r) where
-  module _ (n next : ℕ) (d : r ≡ U32.Got n next) (g : Gets (string s at)) where
-    read : u32 s at ≡ got n next
-    read = e ∙ ap u32_at d
-
+module _ (s : Bytes) (at : ℕ) where
+  module _ (n next : ℕ) (read : u32 s at ≡ got n next) (g : Gets (string s at)) where
     inside : next ≤ length s
     inside = (u32-within s at read).inside
 
@@ -181,11 +170,11 @@ module _ (s : Bytes) (at : ℕ) (r : U32) (e : u32 s at ≡ u32_at r) where
     string-fits h = run_fits string_byte string-single n s next inside string-run h
 
   -- a length that is refused
-  pub string-refused : (k : ℕ) → r ≡ U32.Fault k → string s at ≡ fault k
+  pub string-refused : (k : ℕ) → u32 s at ≡ fault k → string s at ≡ fault k
   unfolding string up_to
-  string-refused k d = rw (e, d)
+  string-refused k e = rw e
 
-pub ruleset known-strings = (string-known, string-fits, string-refused)
+pub ruleset known_strings = (string-known, string-fits, string-refused, fault_handed)
 
 -- ## Indices
 
@@ -212,58 +201,65 @@ module _ (b : ℕ) (s : Bytes) (at : ℕ) where
     pub given_name_is : (x : Step (Syntax.Index Identifier)) → named_index s at ≡ x → given b s at ≡ x
     given_name_is x p = by_name ∙ p
 
-module _ (s : Bytes) (at : ℕ) (r : ByteAt) (e : byte s at ≡ byte_at r) where
-  module _ (b next : ℕ) (d : r ≡ B.Got b next) where
+module _ (s : Bytes) (at : ℕ) where
+  module _ (b next : ℕ) (e : byte s at ≡ got b next) where
     pub present_gets : Gets (present s at) → Gets (given b s next)
     unfolding present given
-    present_gets g = gets_rest _ (byte s at) g b next (e ∙ ap byte_at d)
+    present_gets g = gets_rest _ (byte s at) g b next e
 
     pub named_gets : Gets (present s at) → (b ≡ 1 → ⊥) → Gets (identifier₁ s next)
     named_gets g f = given_gets b s next (present_gets g) f
 
     present_step : present s at ≡ given b s next
     unfolding present given
-    present_step = rw (e, d)
+    present_step = rw e
 
     -- an optional index that is there is present
     pub optional_gets : Gets (optional s at) → (b ≡ 0 → ⊥) → Gets (present s at)
     unfolding optional given
-    optional_gets g f = rw present_step (rw (ne_eqb b 0 f) at (gets_rest _ (byte s at) g b next (e ∙ ap byte_at d)))
+    optional_gets g f = rw present_step (rw (ne_eqb b 0 f) at (gets_rest _ (byte s at) g b next e))
+
+    pub optional-absent : b ≡ 0 → optional s at ≡ got absent next
+    unfolding optional
+    optional-absent f = rw (e, f)
 
     module _ (x : Step (Syntax.Index Identifier)) where
       pub present-is : given b s next ≡ x → present s at ≡ x
       unfolding present given
-      present-is p = rw (e, d) p
-
-      pub optional-absent : b ≡ 0 → got absent next ≡ x → optional s at ≡ x
-      unfolding optional
-      optional-absent f p = rw (e, d, f) p
+      present-is p = rw e p
 
       pub optional-is : (b ≡ 0 → ⊥) → present s at ≡ x → optional s at ≡ x
       unfolding optional given
-      optional-is f p = rw (e, d, ne_eqb b 0 f) (sym present_step ∙ p)
+      optional-is f p = rw (e, ne_eqb b 0 f) (sym present_step ∙ p)
 
-    -- one that is there by its name ends where the name does
-    module _ (g : Gets (present s at)) (f : b ≡ 1 → ⊥) (q : PartAt) (name : identifier₁ s next ≡ part_at s q) where
-      by_its_name : stops (present s at) ≡ stops (part_at s q)
+    -- one that is there by its number, or by its name, ends where that does
+    pub number_past : b ≡ 1 → stops (present s at) ≡ stops (u32 s next)
+    unfolding given number_index
+    number_past d = let z : given b s next ≡ number_index s next = rw d in ap stops (present_step ∙ z) ∙ stops-made _ (u32 s next)
+
+    module _ (g : Gets (present s at)) (f : b ≡ 1 → ⊥) where
+      by_its_name : stops (present s at) ≡ stops (identifier₁ s next)
       unfolding named_index
-      by_its_name = ap stops (present_step ∙ by_name b s next (present_gets g) f) ∙ stops-made _ (identifier₁ s next) ∙ ap stops name
+      by_its_name = ap stops (present_step ∙ by_name b s next (present_gets g) f) ∙ stops-made _ (identifier₁ s next)
 
-      pub named_past : (p : Part) (n : ℕ) → q ≡ P.Got p n → stops (present s at) ≡ skip (S.Past n)
-      named_past p n h = by_its_name ∙ rw h refl
+      pub named_past : (i : Identifier) (n : ℕ) → identifier₁ s next ≡ got i n → stops (present s at) ≡ got tt n
+      named_past i n d = by_its_name ∙ ap stops d
 
-      pub named_not : (n : ℕ) → q ≡ P.Fault n → stops (present s at) ≡ skip (S.Fault n)
-      named_not n h = by_its_name ∙ rw h refl
+      pub named_not : (n : ℕ) → identifier₁ s next ≡ fault n → stops (present s at) ≡ fault n
+      named_not n d = by_its_name ∙ ap stops d
 
-  module _ (k : ℕ) (d : r ≡ B.Fault k) where
+  module _ (k : ℕ) (e : byte s at ≡ fault k) where
     pub present-refused : present s at ≡ fault k
     unfolding present
-    present-refused = rw (e, d)
+    present-refused = rw e
+
+    pub present-stopped : stops (present s at) ≡ fault k
+    present-stopped = ap stops present-refused
 
     pub optional-refused : optional s at ≡ fault k
     unfolding optional
-    optional-refused = rw (e, d)
+    optional-refused = rw e
 
-pub ruleset known-indices = (refl, given-number-is, given_gets, given_name_is, present_gets, present-is, present-refused, optional_gets, optional-absent, optional-is, optional-refused)
+pub ruleset known_indices = (refl, given-number-is, given_gets, given_name_is, present_gets, present-is, present-refused, optional_gets, optional-absent, optional-is, optional-refused, fault_handed)
 
-pub ruleset skipped-indices = (named_gets, named_past, named_not)
+pub ruleset skipped_indices = (refl, named_gets, number_past, named_past, named_not, present-stopped, skip_handed)

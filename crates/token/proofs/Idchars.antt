@@ -29,3 +29,5 @@ id_else b l h a c d e f g i j k =
 -- small letters and what stands before them, down to the bracket
 pub id_letter : (b : ℕ) → 0x5E ≤ b → b ≤ 0x7A → true ≡ idchar b
 id_letter b l h = id_else b (omega arith) (omega arith) (λ e. omega arith) (λ e. omega arith) (λ e. omega arith) (λ e. omega arith) (λ e. omega arith) (λ e. omega arith) (λ e. omega arith) (λ e. omega arith) (λ e. omega arith)
+
+pub ruleset idchars = (id_letter, id-low, id_high, id-at, id_else)

@@ -4,3 +4,4 @@ pub mod Parts
 pub mod Idchars
 pub mod Skips
 pub mod Gets
+pub mod Counts

@@ -23,3 +23,5 @@ part-from s at len h =
 pub part-all : (s : List ℕ) (at len : ℕ) → take (at + len - at) (drop at s) ≡ part s at len
 unfolding part
 part-all s at len = let e : at + len - at ≡ len = omega arith in rw e
+
+pub ruleset parts = (part_none, part-from, part-all)

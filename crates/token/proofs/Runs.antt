@@ -1,6 +1,6 @@
 -- Runs of bytes of a class: what a loop over them shows, and that they are the part of the stream that starts at their first byte.
 use Rattle.std.specs.Prelude.{if◌then◌else◌}
-use mathlib.Core.Path.{◌≡◌, refl, ap, sym, ◌∙◌}
+use mathlib.Core.Path.{◌≡◌, refl, sym, ◌∙◌}
 use mathlib.Core.Bool.{Bool, true, false, not}
 use mathlib.Core.List.{List, ◌∷◌}
 use Prim.Native.Nat.{ℕ, zero, suc, ◌+◌, ◌-◌, ◌≤◌, ◌<◌}
@@ -19,9 +19,7 @@ use Rattle.laws.specs.Steps.{stops}
 use Rattle.laws.proofs.Readers.{byte_in, byte_out, many-got, many-fault, many_zero}
 use Rattle.laws.proofs.Backwards.{came, passed}
 use Rattle.laws.proofs.Exits.{between_in, between-low, between_high}
-use Rattle.syntax.specs.Tokens.{part, skip}
-use Rattle.syntax.specs.declared.Skip.{Skip}
-use Rattle.syntax.specs.declared.Skip.TheVariants as S
+use Rattle.syntax.specs.Tokens.{part}
 
 -- ## One byte of a class
 
@@ -121,25 +119,36 @@ many-part p i (suc n) s at q e = go (p s at) refl e (λ next. many-part p i n s 
         rw (d, f next (tail b (many n p s next) e), h, c, g.1)
 
 -- the same as rules for `search`
-module _ (p : Reader ℕ) (i : Single p) (n : ℕ) (s : Bytes) (at : ℕ) (r : Skip) (told : stops (many n p s at) ≡ skip r) where
-  pub run_is : (q : ℕ) → r ≡ S.Past q → many n p s at ≡ got (part s at n) q
-  run_is q d = many-part p i n s at q (told ∙ ap skip d)
+module _ (p : Reader ℕ) (i : Single p) (n : ℕ) (s : Bytes) (at : ℕ) where
+  pub run_is : (x : Step Bytes) (q : ℕ) → stops (many n p s at) ≡ got tt q → got (part s at n) q ≡ x → many n p s at ≡ x
+  run_is x q e h = many-part p i n s at q e ∙ h
 
-  pub run_not : (k : ℕ) → r ≡ S.Fault k → many n p s at ≡ fault k
-  run_not k d = go (many n p s at) (told ∙ ap skip d)
+  pub run_not : (x : Step Bytes) (k : ℕ) → stops (many n p s at) ≡ fault k → fault k ≡ x → many n p s at ≡ x
+  run_not x k e h = go (many n p s at) e ∙ h
     where
       go : (st : Step Bytes) → stops st ≡ fault k → st ≡ fault k
       go (got a q) z = let y : ◌≡◌ {A = ℕ} 0 1 = cc in absurd (omega arith)
       go (fault f) z = let y : f ≡ k = cc in rw y
 
   module _ {B : Type 0} (x : Step B) (k : Bytes → ℕ → Step B) where
-    pub run-got : (q : ℕ) → r ≡ S.Past q → k (part s at n) q ≡ x → onward k (many n p s at) ≡ x
-    run-got q d h = rw (run_is q d) h
+    pub run-got : (q : ℕ) → stops (many n p s at) ≡ got tt q → k (part s at n) q ≡ x → onward k (many n p s at) ≡ x
+    run-got q e h = rw (run_is (got (part s at n) q) q e refl) h
 
-    pub run-fault : (e : ℕ) → r ≡ S.Fault e → fault e ≡ x → onward k (many n p s at) ≡ x
-    run-fault e d h = rw (run_not e d) h
+    pub run-fault : (e : ℕ) → stops (many n p s at) ≡ fault e → fault e ≡ x → onward k (many n p s at) ≡ x
+    run-fault e d h = rw (run_not (fault e) e d refl) h
 
-pub ruleset runs = (id-single, string-single, byte-single, run_is, run_not, run-got, run-fault)
+-- the same for `grind`
+module _ (n : ℕ) (s : Bytes) (at q : ℕ) where
+  pub id_run : stops (many n id_byte s at) ≡ got tt q → many n id_byte s at ≡ got (part s at n) q
+  id_run e = many-part id_byte id-single n s at q e
+
+  pub string_run : stops (many n string_byte s at) ≡ got tt q → many n string_byte s at ≡ got (part s at n) q
+  string_run e = many-part string_byte string-single n s at q e
+
+  pub byte_run : stops (many n byte s at) ≡ got tt q → many n byte s at ≡ got (part s at n) q
+  byte_run e = many-part byte byte-single n s at q e
+
+pub ruleset runs = (id-single, string-single, byte-single, run_is, run_not, run-got, run-fault, id_run, string_run, byte_run)
 
 -- ## Bytes of any kind: their end is computed
 

@@ -5,19 +5,21 @@ ghost use Rattle.definition.specs.Token as Token;
 ghost use Rattle.laws.specs.Steps.{stops};
 ghost use Rattle.syntax.specs.Tokens.{byte_at, skip};
 
-use syntax::{ByteAt, Skip};
+use syntax::{Fault, Pass, Read};
 
-pub fn read_byte(s: &[u8], at: usize) -> ByteAt
+#[tactic(auto, using(laws::proofs::Readers::byte_in, laws::proofs::Readers::byte_out))]
+pub fn read_byte(s: &[u8], at: usize) -> Read<u8>
     ensures { Reader.byte s.now at ≡ byte_at result }
 {
     if at < s.len() {
-        ByteAt::Got(s[at], at + 1)
+        Ok((s[at], at + 1))
     } else {
-        ByteAt::Fault(2)
+        Err(Fault::Ended)
     }
 }
 
 // The standard's idchar: printable, and none of " ( ) , ; [ ] { } and the space.
+#[tactic(auto, using(crate::proofs::Idchars::idchars), unfolding(definition::specs::Token::idchar, definition::specs::Basic::between))]
 pub fn is_idchar(b: u8) -> bool
     ensures { result ≡ Token.idchar b }
 {
@@ -48,59 +50,55 @@ pub fn is_idchar(b: u8) -> bool
 }
 
 // So many bytes of an identifier.
-pub fn pass_idchars(s: &[u8], at: usize, n: u32) -> Skip
+pub fn pass_idchars(s: &[u8], at: usize, n: u32) -> Pass
     ensures { stops (Reader.many n Token.id_byte s.now at) ≡ skip result }
 {
-    let mut left = n;
     let mut here = at;
-    while 0 < left {
+    for _ in 0..n {
         if s.len() <= here {
-            return Skip::Fault(2);
+            return Err(Fault::Ended);
         }
         if !is_idchar(s[here]) {
-            return Skip::Fault(5);
+            return Err(Fault::BadIdentifier);
         }
         here += 1;
-        left -= 1;
     }
-    Skip::Past(here)
+    Ok(here)
 }
 
 // So many bytes of a string.
-pub fn pass_string(s: &[u8], at: usize, n: u32) -> Skip
+pub fn pass_string(s: &[u8], at: usize, n: u32) -> Pass
     ensures { stops (Reader.many n Token.string_byte s.now at) ≡ skip result }
 {
-    let mut left = n;
     let mut here = at;
-    while 0 < left {
+    for _ in 0..n {
         if s.len() <= here {
-            return Skip::Fault(2);
+            return Err(Fault::Ended);
         }
         let b = s[here];
         if b < 0x20 {
-            return Skip::Fault(6);
+            return Err(Fault::BadString);
         }
         if 0x7E < b {
-            return Skip::Fault(6);
+            return Err(Fault::BadString);
         }
         here += 1;
-        left -= 1;
     }
-    Skip::Past(here)
+    Ok(here)
 }
 
 // So many bytes, whatever they are: their end is computed, not walked to.
-pub fn pass_bytes(s: &[u8], at: usize, n: u32) -> Skip
+pub fn pass_bytes(s: &[u8], at: usize, n: u32) -> Pass
     ensures { stops (Reader.many n Reader.byte s.now at) ≡ skip result }
 {
     if n == 0 {
-        return Skip::Past(at);
+        return Ok(at);
     }
     if s.len() <= at {
-        return Skip::Fault(2);
+        return Err(Fault::Ended);
     }
     if s.len() - at < n as usize {
-        return Skip::Fault(2);
+        return Err(Fault::Ended);
     }
-    Skip::Past(at + n as usize)
+    Ok(at + n as usize)
 }

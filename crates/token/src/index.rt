@@ -5,28 +5,27 @@ ghost use Rattle.laws.specs.Steps.{stops};
 ghost use Rattle.syntax.specs.Tokens.{index_at, skip};
 ghost use Rattle.token.specs.Readers.{given};
 
-use syntax::{ByteAt, Index, IndexAt, PartAt, Skip, U32};
+use syntax::{Fault, Index, Pass, Read};
 
-pub fn number_index(s: &[u8], at: usize) -> IndexAt
+#[tactic(auto, using(syntax::proofs::Ways::reads), unfolding(definition::specs::Token::number_index))]
+pub fn number_index(s: &[u8], at: usize) -> Read<Index>
     ensures { Token.number_index s.now at ≡ index_at s.now result }
 {
-    match leb::read_u32(s, at) {
-        U32::Got(n, next) => IndexAt::Got(Index::Number(n), next),
-        U32::Fault(e) => IndexAt::Fault(e),
-    }
+    let (n, next) = leb::read_u32(s, at)?;
+    Ok((Index::Number(n), next))
 }
 
-fn named_index(s: &[u8], at: usize) -> IndexAt
+#[tactic(auto, using(syntax::proofs::Ways::reads), unfolding(definition::specs::Token::named_index))]
+fn named_index(s: &[u8], at: usize) -> Read<Index>
     ensures { Token.named_index s.now at ≡ index_at s.now result }
 {
-    match crate::text::read_name(s, at) {
-        PartAt::Got(p, next) => IndexAt::Got(Index::Named(p), next),
-        PartAt::Fault(e) => IndexAt::Fault(e),
-    }
+    let (p, next) = crate::text::read_name(s, at)?;
+    Ok((Index::Named(p), next))
 }
 
 // An index that is present, after the byte that says how it is given.
-fn read_given(s: &[u8], at: usize, b: u8) -> IndexAt
+#[tactic(auto, using(laws::proofs::Ways::ways), unfolding(crate::specs::Readers::given))]
+fn read_given(s: &[u8], at: usize, b: u8) -> Read<Index>
     ensures { given b s.now at ≡ index_at s.now result }
 {
     if b == 1 {
@@ -35,46 +34,42 @@ fn read_given(s: &[u8], at: usize, b: u8) -> IndexAt
     if b == 2 {
         return named_index(s, at);
     }
-    IndexAt::Fault(4)
+    Err(Fault::UnknownByte)
 }
 
 // An index that must be present.
-pub fn read_present(s: &[u8], at: usize) -> IndexAt
+#[tactic(auto, using(syntax::proofs::Ways::reads), unfolding(definition::specs::Token::present, crate::specs::Readers::given))]
+pub fn read_present(s: &[u8], at: usize) -> Read<Index>
     ensures { Token.present s.now at ≡ index_at s.now result }
 {
-    match crate::byte::read_byte(s, at) {
-        ByteAt::Got(b, next) => read_given(s, next, b),
-        ByteAt::Fault(e) => IndexAt::Fault(e),
-    }
+    let (b, next) = crate::byte::read_byte(s, at)?;
+    read_given(s, next, b)
 }
 
 // An index that is marked "optional".
-pub fn read_optional(s: &[u8], at: usize) -> IndexAt
+#[tactic(auto, using(syntax::proofs::Ways::reads, laws::proofs::Ways::ways), unfolding(definition::specs::Token::optional, crate::specs::Readers::given))]
+pub fn read_optional(s: &[u8], at: usize) -> Read<Index>
     ensures { Token.optional s.now at ≡ index_at s.now result }
 {
-    match crate::byte::read_byte(s, at) {
-        ByteAt::Got(b, next) => {
-            if b == 0 {
-                return IndexAt::Got(Index::Absent, next);
-            }
-            read_given(s, next, b)
-        }
-        ByteAt::Fault(e) => IndexAt::Fault(e),
+    let (b, next) = crate::byte::read_byte(s, at)?;
+    if b == 0 {
+        return Ok((Index::Absent, next));
     }
+    read_given(s, next, b)
 }
 
 // A number, passed over.
-pub fn pass_u32(s: &[u8], at: usize) -> Skip
+#[tactic(auto, using(crate::proofs::Skips::passed_over))]
+pub fn pass_u32(s: &[u8], at: usize) -> Pass
     ensures { stops (Token.u32 s.now at) ≡ skip result }
 {
-    match leb::read_u32(s, at) {
-        U32::Got(_, next) => Skip::Past(next),
-        U32::Fault(e) => Skip::Fault(e),
-    }
+    let (_, next) = leb::read_u32(s, at)?;
+    Ok(next)
 }
 
 // An index that is present, after the byte that says how it is given.
-fn pass_given(s: &[u8], at: usize, b: u8) -> Skip
+#[tactic(auto, using(crate::proofs::Skips::passed_over), unfolding(crate::specs::Readers::given, definition::specs::Token::number_index, definition::specs::Token::named_index))]
+fn pass_given(s: &[u8], at: usize, b: u8) -> Pass
     ensures { stops (given b s.now at) ≡ skip result }
 {
     if b == 1 {
@@ -83,29 +78,25 @@ fn pass_given(s: &[u8], at: usize, b: u8) -> Skip
     if b == 2 {
         return crate::text::pass_name(s, at);
     }
-    Skip::Fault(4)
+    Err(Fault::UnknownByte)
 }
 
 // The two kinds of index, passed over.
-pub fn pass_present(s: &[u8], at: usize) -> Skip
+#[tactic(auto, using(crate::proofs::Skips::passed_over), unfolding(definition::specs::Token::present, crate::specs::Readers::given))]
+pub fn pass_present(s: &[u8], at: usize) -> Pass
     ensures { stops (Token.present s.now at) ≡ skip result }
 {
-    match crate::byte::read_byte(s, at) {
-        ByteAt::Got(b, next) => pass_given(s, next, b),
-        ByteAt::Fault(e) => Skip::Fault(e),
-    }
+    let (b, next) = crate::byte::read_byte(s, at)?;
+    pass_given(s, next, b)
 }
 
-pub fn pass_optional(s: &[u8], at: usize) -> Skip
+#[tactic(auto, using(crate::proofs::Skips::passed_over), unfolding(definition::specs::Token::optional, crate::specs::Readers::given))]
+pub fn pass_optional(s: &[u8], at: usize) -> Pass
     ensures { stops (Token.optional s.now at) ≡ skip result }
 {
-    match crate::byte::read_byte(s, at) {
-        ByteAt::Got(b, next) => {
-            if b == 0 {
-                return Skip::Past(next);
-            }
-            pass_given(s, next, b)
-        }
-        ByteAt::Fault(e) => Skip::Fault(e),
+    let (b, next) = crate::byte::read_byte(s, at)?;
+    if b == 0 {
+        return Ok(next);
     }
+    pass_given(s, next, b)
 }

@@ -4,12 +4,14 @@ ghost use Rattle.definition.specs.Reader as Reader;
 ghost use Rattle.definition.specs.Token as Token;
 ghost use Rattle.laws.specs.Steps.{stops};
 ghost use Rattle.syntax.specs.Numbers.{u32_at};
+ghost use Rattle.syntax.specs.Refusals.{number};
 ghost use Rattle.syntax.specs.Tokens.{part_of, part_at, id_at, skip};
 ghost use Rattle.token.specs.Readers.{name_length};
 
-use syntax::{Part, PartAt, Skip, U32};
+use syntax::{Fault, Part, Pass, Read};
 
 // The bytes themselves. Where the stream is too short for them, those that are there.
+#[tactic(auto, using(crate::proofs::Parts::parts), unfolding(syntax::specs::Tokens::part))]
 pub fn bytes_of(s: &[u8], p: Part) -> &[u8]
     ensures { result.now ≡ part_of s.now p }
 {
@@ -27,110 +29,91 @@ pub fn bytes_of(s: &[u8], p: Part) -> &[u8]
 }
 
 // A length or a count that is at most its ceiling.
-pub fn up_to(s: &[u8], at: usize, refusal: u8, ceiling: u32) -> U32
-    ensures { Token.up_to refusal ceiling s.now at ≡ u32_at result }
+#[tactic(auto, using(syntax::proofs::Ways::reads, laws::proofs::Ways::ways), unfolding(definition::specs::Token::up_to))]
+pub fn up_to(s: &[u8], at: usize, past: Fault, ceiling: u32) -> Read<u32>
+    ensures { Token.up_to (number past) ceiling s.now at ≡ u32_at result }
 {
-    match leb::read_u32(s, at) {
-        U32::Got(n, next) => {
-            if n <= ceiling {
-                U32::Got(n, next)
-            } else {
-                U32::Fault(refusal)
-            }
-        }
-        U32::Fault(e) => U32::Fault(e),
+    let (n, next) = leb::read_u32(s, at)?;
+    if n <= ceiling {
+        Ok((n, next))
+    } else {
+        Err(past)
     }
 }
 
 // An identifier; none where its length is 0.
-pub fn read_identifier(s: &[u8], at: usize) -> PartAt
+#[tactic(auto, using(syntax::proofs::Ways::reads, crate::proofs::Runs::runs), unfolding(definition::specs::Token::identifier))]
+pub fn read_identifier(s: &[u8], at: usize) -> Read<Part>
     ensures { Token.identifier s.now at ≡ id_at s.now result }
 {
-    match up_to(s, at, 5, 64) {
-        U32::Got(len, next) => match crate::byte::pass_idchars(s, next, len) {
-            Skip::Past(after) => PartAt::Got(Part { at: next, len }, after),
-            Skip::Fault(e) => PartAt::Fault(e),
-        },
-        U32::Fault(e) => PartAt::Fault(e),
-    }
+    let (len, next) = up_to(s, at, Fault::BadIdentifier, 64)?;
+    let after = crate::byte::pass_idchars(s, next, len)?;
+    Ok((Part { at: next, len }, after))
 }
 
 // The length of an identifier that must have at least one byte.
-fn name_length(s: &[u8], at: usize) -> U32
+#[tactic(auto, using(syntax::proofs::Ways::reads, laws::proofs::Ways::ways), unfolding(crate::specs::Readers::name_length))]
+fn name_length(s: &[u8], at: usize) -> Read<u32>
     ensures { name_length s.now at ≡ u32_at result }
 {
-    match up_to(s, at, 5, 64) {
-        U32::Got(len, next) => {
-            if len < 1 {
-                U32::Fault(5)
-            } else {
-                U32::Got(len, next)
-            }
-        }
-        U32::Fault(e) => U32::Fault(e),
+    let (len, next) = up_to(s, at, Fault::BadIdentifier, 64)?;
+    if len < 1 {
+        Err(Fault::BadIdentifier)
+    } else {
+        Ok((len, next))
     }
 }
 
 // An identifier of length at least 1.
-pub fn read_name(s: &[u8], at: usize) -> PartAt
+#[tactic(auto, using(crate::proofs::Skips::name_by, syntax::proofs::Ways::reads, crate::proofs::Runs::runs))]
+pub fn read_name(s: &[u8], at: usize) -> Read<Part>
     ensures { Token.identifier₁ s.now at ≡ part_at s.now result }
 {
-    match name_length(s, at) {
-        U32::Got(len, next) => match crate::byte::pass_idchars(s, next, len) {
-            Skip::Past(after) => PartAt::Got(Part { at: next, len }, after),
-            Skip::Fault(e) => PartAt::Fault(e),
-        },
-        U32::Fault(e) => PartAt::Fault(e),
-    }
+    let (len, next) = name_length(s, at)?;
+    let after = crate::byte::pass_idchars(s, next, len)?;
+    Ok((Part { at: next, len }, after))
 }
 
 // The two of them, passed over.
-pub fn pass_identifier(s: &[u8], at: usize) -> Skip
+#[tactic(auto, using(crate::proofs::Skips::passed_over), unfolding(definition::specs::Token::identifier))]
+pub fn pass_identifier(s: &[u8], at: usize) -> Pass
     ensures { stops (Token.identifier s.now at) ≡ skip result }
 {
-    match up_to(s, at, 5, 64) {
-        U32::Got(len, next) => crate::byte::pass_idchars(s, next, len),
-        U32::Fault(e) => Skip::Fault(e),
-    }
+    let (len, next) = up_to(s, at, Fault::BadIdentifier, 64)?;
+    crate::byte::pass_idchars(s, next, len)
 }
 
-pub fn pass_name(s: &[u8], at: usize) -> Skip
+#[tactic(auto, using(crate::proofs::Skips::names_passed))]
+pub fn pass_name(s: &[u8], at: usize) -> Pass
     ensures { stops (Token.identifier₁ s.now at) ≡ skip result }
 {
-    match name_length(s, at) {
-        U32::Got(len, next) => crate::byte::pass_idchars(s, next, len),
-        U32::Fault(e) => Skip::Fault(e),
-    }
+    let (len, next) = name_length(s, at)?;
+    crate::byte::pass_idchars(s, next, len)
 }
 
-pub fn read_string(s: &[u8], at: usize) -> PartAt
+#[tactic(auto, using(syntax::proofs::Ways::reads, crate::proofs::Runs::runs), unfolding(definition::specs::Token::string))]
+pub fn read_string(s: &[u8], at: usize) -> Read<Part>
     ensures { Token.string s.now at ≡ part_at s.now result }
 {
-    match up_to(s, at, 6, 255) {
-        U32::Got(len, next) => match crate::byte::pass_string(s, next, len) {
-            Skip::Past(after) => PartAt::Got(Part { at: next, len }, after),
-            Skip::Fault(e) => PartAt::Fault(e),
-        },
-        U32::Fault(e) => PartAt::Fault(e),
-    }
+    let (len, next) = up_to(s, at, Fault::BadString, 255)?;
+    let after = crate::byte::pass_string(s, next, len)?;
+    Ok((Part { at: next, len }, after))
 }
 
 // So many raw bytes.
-pub fn read_raw(s: &[u8], at: usize, len: u32) -> PartAt
+#[tactic(auto, using(syntax::proofs::Ways::reads, crate::proofs::Runs::runs))]
+pub fn read_raw(s: &[u8], at: usize, len: u32) -> Read<Part>
     ensures { Reader.many len Reader.byte s.now at ≡ part_at s.now result }
 {
-    match crate::byte::pass_bytes(s, at, len) {
-        Skip::Past(after) => PartAt::Got(Part { at, len }, after),
-        Skip::Fault(e) => PartAt::Fault(e),
-    }
+    let after = crate::byte::pass_bytes(s, at, len)?;
+    Ok((Part { at, len }, after))
 }
 
 // A length and that many bytes.
-pub fn read_data(s: &[u8], at: usize) -> PartAt
+#[tactic(auto, using(syntax::proofs::Ways::reads), unfolding(definition::specs::Token::bytes))]
+pub fn read_data(s: &[u8], at: usize) -> Read<Part>
     ensures { Token.bytes s.now at ≡ part_at s.now result }
 {
-    match leb::read_u32(s, at) {
-        U32::Got(len, next) => read_raw(s, next, len),
-        U32::Fault(e) => PartAt::Fault(e),
-    }
+    let (len, next) = leb::read_u32(s, at)?;
+    read_raw(s, next, len)
 }

@@ -1,4 +1,5 @@
 -- Plain mathematics of hashes: their steps fit, and a list is hashed type by type.
+use Rattle.std.specs.Prelude.{Option, Some, None}
 use Prim.Native.Nat.{ℕ, suc, ◌+◌, ◌-◌, ◌*◌, ◌%◌, ◌≤◌, ◌<◌}
 use mathlib.Core.Path.{◌≡◌, refl, sym, ◌∙◌, ap}
 use mathlib.Core.Bool.{Bool, false}
@@ -17,8 +18,6 @@ use Rattle.type_table.specs.Size.{hashed}
 use Rattle.type_table.specs.declared.index.Hashed.{Hashed}
 use Rattle.type_table.specs.declared.index.HashedList.{HashedList}
 use Rattle.type_table.specs.Table.{types_of, typed, types_next, signature_of}
-use Rattle.type_table.specs.declared.list.NextType.{NextType}
-use Rattle.type_table.specs.declared.list.NextType.TheVariants as N
 use Rattle.type_table.specs.declared.entry.Signature.{Signature}
 use Rattle.type_table.proofs.Lists.{types_are, next-some}
 
@@ -55,8 +54,8 @@ module _ (s : Bytes) (named : Bool) (start a c at left h : ℕ) (v : Hashing s n
   pub hash_low : left ≤ c
   hash_low = v.low
 
-  module _ (r : NextType) (told : elements (typed named) s at left ≡ types_next named left s r) where
-    pub hash_again : Rest named left s r → (t q h' : ℕ) → r ≡ N.Type t q → h' ≡ mixed h t → Hashing s named start a c q (left - 1) h'
+  module _ (r : Option (ℕ × ℕ)) (told : elements (typed named) s at left ≡ types_next named left s r) where
+    pub hash_again : Rest named left s r → (t q h' : ℕ) → r ≡ Some (t, q) → h' ≡ mixed h t → Hashing s named start a c q (left - 1) h'
     unfolding hash_from
     hash_again k t q h' d e =
         let some = next-some s at left named r told t q d in
@@ -68,15 +67,15 @@ module _ (s : Bytes) (named : Bool) (start a c at left h : ℕ) (v : Hashing s n
           known = k.rest t q d;
         }
 
-    hash_end : r ≡ N.End → h ≡ hash_from start (elements (typed named) s a c)
+    hash_end : r ≡ None → h ≡ hash_from start (elements (typed named) s a c)
     unfolding hash_from
     hash_end d = sym (v.same ∙ ap (hash_from h) (told ∙ ap (types_next named left s) d))
 
-    count_end : r ≡ N.End → c - left ≡ length (elements (typed named) s a c)
+    count_end : r ≡ None → c - left ≡ length (elements (typed named) s a c)
     count_end d = let none : length (elements (typed named) s at left) ≡ 0 = ap length (told ∙ ap (types_next named left s) d) in omega (arith, v.count)
 
 pub hash_done : (s : Bytes) (named : Bool) (start : ℕ) (l : Code.List) (at left h : ℕ) → Hashing s named start l.at l.count at left h
-    → (r : NextType) → elements (typed named) s at left ≡ types_next named left s r → r ≡ N.End → record { hash = h; count = l.count - left } ≡ hashed_list start (types_of named s l)
+    → (r : Option (ℕ × ℕ)) → elements (typed named) s at left ≡ types_next named left s r → r ≡ None → record { hash = h; count = l.count - left } ≡ hashed_list start (types_of named s l)
 hash_done s named start l at left h v r told d =
     rw (types_are named s l, ← hash_end s named start l.at l.count at left h v r told d, ← count_end s named start l.at l.count at left h v r told d)
 

@@ -1,4 +1,5 @@
 -- Plain mathematics of the index over types.
+use Rattle.std.specs.Prelude.{Option as Optional, Some, None}
 use Rattle.std.specs.Prelude.{if◌then◌else◌}
 use Prim.Native.Nat.{ℕ, ◌+◌, ◌-◌, ◌*◌, ◌/◌, ◌%◌, ◌≤◌, ◌<◌}
 use mathlib.Core.Path.{◌≡◌, refl, sym, ◌∙◌, ap}
@@ -30,8 +31,6 @@ use Rattle.type_table.specs.declared.entry.Signature.{Signature}
 use Rattle.type_table.specs.declared.index.Hashed.{Hashed}
 use Rattle.type_table.specs.declared.list.NextBoth.{NextBoth}
 use Rattle.type_table.specs.declared.list.NextBoth.TheVariants as B
-use Rattle.type_table.specs.declared.table.TypeFound.{TypeFound}
-use Rattle.type_table.specs.declared.table.TypeFound.TheVariants as T
 use Rattle.type_table.proofs.Entries.{same_not, same-results, inside-same, inside-set, inside_then, inside-above, entry_kept, type-inside, type-written}
 use Rattle.type_table.proofs.Known.{entry-readable}
 use Rattle.type_table.proofs.Lists.{InStep, in_step_differ, in_step_end}
@@ -40,18 +39,18 @@ use Rattle.type_table.proofs.Trees.{leads, link_none, tree_none, tree_turn, free
 use Rattle.type_table.proofs.Types.{table-length, table_kept, table_more}
 
 -- nothing was found
-pub none_found : (s w : List ℕ) (count : ℕ) (x : Signature) (h : Hashed) (q : TypeFound) → Indexed s w count → ReadableSignature s x → h ≡ hashed (signature_of s x)
-    → type_at (signature_of s x) (type_table count s w TYPES) ≡ number_of q → q ≡ T.Nothing → Fresh s w count x h
+pub none_found : (s w : List ℕ) (count : ℕ) (x : Signature) (h : Hashed) (q : Optional ℕ) → Indexed s w count → ReadableSignature s x → h ≡ hashed (signature_of s x)
+    → type_at (signature_of s x) (type_table count s w TYPES) ≡ number_of q → q ≡ None → Fresh s w count x h
 none_found s w count x h q v k is e d = record { indexed = v; walked = is; missing = e ∙ ap number_of d; readable = k }
 
 -- of a use
-pub none-used : (s w : List ℕ) (count : ℕ) (t : TypeUse) (x : Signature) (h : Hashed) (q : TypeFound) → x ≡ of_use t → Indexed s w count → ReadableSignature s x → h ≡ hashed (signature_of s x)
-    → type_at (signature_of s x) (type_table count s w TYPES) ≡ number_of q → q ≡ T.Nothing → Fresh s w count (of_use t) h
+pub none-used : (s w : List ℕ) (count : ℕ) (t : TypeUse) (x : Signature) (h : Hashed) (q : Optional ℕ) → x ≡ of_use t → Indexed s w count → ReadableSignature s x → h ≡ hashed (signature_of s x)
+    → type_at (signature_of s x) (type_table count s w TYPES) ≡ number_of q → q ≡ None → Fresh s w count (of_use t) h
 none-used s w count t x h q of v k is e d = rw (← of) (none_found s w count x h q v k is e d)
 
 -- an equal type was found
-pub some-found : (s w : List ℕ) (count : ℕ) (x : Signature) (h : Hashed) (q : TypeFound) (n : ℕ) → Indexed s w count → ReadableSignature s x → h ≡ hashed (signature_of s x)
-    → type_at (signature_of s x) (type_table count s w TYPES) ≡ number_of q → q ≡ T.Number n → Again s w count x h
+pub some-found : (s w : List ℕ) (count : ℕ) (x : Signature) (h : Hashed) (q : Optional ℕ) (n : ℕ) → Indexed s w count → ReadableSignature s x → h ≡ hashed (signature_of s x)
+    → type_at (signature_of s x) (type_table count s w TYPES) ≡ number_of q → q ≡ Some n → Again s w count x h
 some-found s w count x h q n v k is e d = record { indexed = v; walked = is; number = n; found = e ∙ ap number_of d; readable = k }
 
 -- ## The words of the index
@@ -108,7 +107,7 @@ module _ (s w : List ℕ) (count : ℕ) (x : Signature) (place bits : ℕ) (v : 
   seek_inside = v.reached.inside
 
   -- no type is left
-  pub seek_none : (link : ℕ) → link ≡ link_at w place → link ≡ 0 → type_at (signature_of s x) (type_table count s w TYPES) ≡ number_of T.Nothing
+  pub seek_none : (link : ℕ) → link ≡ link_at w place → link ≡ 0 → type_at (signature_of s x) (type_table count s w TYPES) ≡ number_of None
   seek_none link at e = v.same ∙ tree_none v.left s w (signature_of s x) place bits (sym at ∙ e)
 
 module _ (s w : List ℕ) (count : ℕ) (x : Signature) (place bits : ℕ) (v : Seeking s w count x place bits) (link : ℕ) (at : link ≡ link_at w place) (some_left : link ≡ 0 → ⊥) where
@@ -177,7 +176,7 @@ module _ (s w : List ℕ) (count : ℕ) (x : Signature) (place bits : ℕ) (v : 
             seek_results f = unlike (sym f ∙ decided)
 
             -- an equal type
-            pub seek_found : not b ≡ false → g ≡ true → type_at (signature_of s x) (type_table count s w TYPES) ≡ number_of (T.Number (link - 1))
+            pub seek_found : not b ≡ false → g ≡ true → type_at (signature_of s x) (type_table count s w TYPES) ≡ number_of (Some (link - 1))
             unfolding is_type
             seek_found k f =
                 let h : same_type (signature_of s x) (signature_of s (entry_in w (TYPES + 5 * (link - 1)))) ≡ true = sym (sym f ∙ decided ∙ rw d) in

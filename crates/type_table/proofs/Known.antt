@@ -1,4 +1,6 @@
 -- Plain mathematics of lists that are known to be readable: what is left of them is, and so are those of the table.
+use Rattle.std.specs.Prelude.{Ok, Option, Some, None}
+use Rattle.syntax.specs.Reads.{Read}
 use Rattle.std.specs.Prelude.{if◌then◌else◌}
 use Prim.Native.Nat.{ℕ, zero, suc, ◌+◌, ◌-◌, ◌*◌, ◌≤◌, ◌<◌, min}
 use mathlib.Core.Path.{◌≡◌, refl, sym, ap, ◌∙◌}
@@ -18,14 +20,10 @@ use Rattle.typeuse.proofs.Gets.{know_begin, know_local, know_again}
 use Rattle.area.specs.Layout.{TYPES}
 use Rattle.syntax.specs.TypeUses.{local_at, elements}
 use Rattle.syntax.specs.declared.Local.{Local}
-use Rattle.syntax.specs.declared.LocalAt.{LocalAt}
-use Rattle.syntax.specs.declared.LocalAt.TheVariants as OA
 use Rattle.syntax.specs.declared.List as Code
 use Rattle.syntax.specs.declared.TypeUse.{TypeUse}
 use Rattle.type_table.specs.Known.{Passable, Rest, BothPassable, ReadableSignature}
 use Rattle.type_table.specs.Table.{typed, types_next, both_next, KnownBoth, of_use, entry_in, type_words, Indexed}
-use Rattle.type_table.specs.declared.list.NextType.{NextType}
-use Rattle.type_table.specs.declared.list.NextType.TheVariants as N
 use Rattle.type_table.specs.declared.list.NextBoth.{NextBoth}
 use Rattle.type_table.specs.declared.list.NextBoth.TheVariants as B
 use Rattle.type_table.specs.declared.entry.Signature.{Signature}
@@ -33,6 +31,11 @@ use Rattle.type_table.proofs.Entries.{clip, typed_out, entry-written}
 use Rattle.type_table.proofs.Lists.{both_told, InStep, in_step_begin, in_step_again}
 
 -- ## The next type
+
+-- the place after a type that was read
+abbrev place_of : Option (ℕ × ℕ) → ℕ
+place_of (Some x) = x.1
+place_of None = 0
 
 module _ (named : Bool) (s : Bytes) (at left : ℕ) (k : Passable named s at left) where
   module _ (is : named ≡ true) (h : left ≡ 0 → ⊥) where
@@ -44,22 +47,22 @@ module _ (named : Bool) (s : Bytes) (at left : ℕ) (k : Passable named s at lef
     next_gets = know_local left s at left at (know_begin param left s at all_get) (omega arith)
 
     -- and those after it
-    pub rest-param : (r : LocalAt) (l : Local) (q : ℕ) → param s at ≡ local_at s r → r ≡ OA.Got l q → Rest named left s (N.Type l.value q)
+    pub rest-param : (r : Read Local) (l : Local) (q : ℕ) → param s at ≡ local_at s r → r ≡ Ok (l, q) → Rest named left s (Some (l.value, q))
     rest-param r l q e d = record {
       rest = λ t p f.
-          let z : q ≡ p = cc in
+          let z : q ≡ p = ap place_of f in
           rw (is, ← z) (record { reads = (know_again left s at left at param (know_begin param left s at all_get) (omega arith) q (ap stops (e ∙ ap (local_at s) d))).gets });
     }
 
 -- nothing is left
-pub rest_end : (named : Bool) (left : ℕ) (s : Bytes) → Rest named left s N.End
+pub rest_end : (named : Bool) (left : ℕ) (s : Bytes) → Rest named left s None
 rest_end named left s = record { rest = λ t q d. let z : ◌≡◌ {A = ℕ} 0 1 = cc in absurd (omega arith) }
 
 -- of types alone nothing need be known
 plain_passable : (named : Bool) (s : Bytes) (at left : ℕ) → named ≡ false → Passable named s at left
 plain_passable named s at left e = rw e (record { reads = tt })
 
-pub rest_plain : (named : Bool) (left : ℕ) (s : Bytes) (r : NextType) → named ≡ false → Rest named left s r
+pub rest_plain : (named : Bool) (left : ℕ) (s : Bytes) (r : Option (ℕ × ℕ)) → named ≡ false → Rest named left s r
 rest_plain named left s r e = record { rest = λ t q d. plain_passable named s q (left - 1) e }
 
 pub ruleset rests = (rest_end, rest-param, rest_plain)
@@ -67,18 +70,18 @@ pub ruleset rests = (rest_end, rest-param, rest_plain)
 -- ## Two lists
 
 module _ (s : Bytes) (named : Bool) (a : Code.List) (other : Bool) (b : Code.List) where
-  both_rest : (m n : NextType) → Rest named a.count s m → Rest other b.count s n → BothPassable s named other (both_next a m b n)
+  both_rest : (m n : Option (ℕ × ℕ)) → Rest named a.count s m → Rest other b.count s n → BothPassable s named other (both_next a m b n)
   unfolding both_next
-  both_rest (N.Type x k) (N.Type y h) u v = go (eqb x y)
+  both_rest (Some (x, k)) (Some (y, h)) u v = go (eqb x y)
     where
       go : (t : Bool) → BothPassable s named other (if t then B.Same (record { at = k; count = a.count - 1 }) (record { at = h; count = b.count - 1 }) else B.Differ)
       go true = (u.rest x k refl, v.rest y h refl)
       go false = tt
-  both_rest (N.Type x k) N.End u v = tt
-  both_rest N.End (N.Type y h) u v = tt
-  both_rest N.End N.End u v = tt
+  both_rest (Some (x, k)) None u v = tt
+  both_rest None (Some (y, h)) u v = tt
+  both_rest None None u v = tt
 
-  pub both-known : (m n : NextType) (r : NextBoth) → elements (typed named) s a.at a.count ≡ types_next named a.count s m → Rest named a.count s m
+  pub both-known : (m n : Option (ℕ × ℕ)) (r : NextBoth) → elements (typed named) s a.at a.count ≡ types_next named a.count s m → Rest named a.count s m
       → elements (typed other) s b.at b.count ≡ types_next other b.count s n → Rest other b.count s n → r ≡ both_next a m b n → KnownBoth s named a other b r
   both-known m n r p u q v e = record { both = both_told s named a other b m n r p q e; rest = rw e (both_rest m n u v) }
 

@@ -1,5 +1,5 @@
 -- Plain mathematics of lists of value types.
-use Rattle.std.specs.Prelude.{if◌then◌else◌}
+use Rattle.std.specs.Prelude.{if◌then◌else◌, Option, Some, None, Ok, Err}
 use Prim.Native.Nat.{ℕ, zero, suc, ◌+◌, ◌-◌, ◌≤◌, ◌<◌}
 use mathlib.Core.Path.{◌≡◌, refl, sym, ◌∙◌, ap}
 use mathlib.Core.Bool.{Bool, true, false, ◌&&◌}
@@ -16,18 +16,14 @@ use Rattle.definition.specs.Syntax.{Bytes, Identifier, ValType}
 use Rattle.definition.specs.Reader.{Step, got, fault, Reader, onward}
 use Rattle.definition.specs.Token.{param, val_type}
 use Rattle.definition.specs.Types.{is_short, is_inline}
+use Rattle.syntax.specs.Reads.{Read}
 use Rattle.syntax.specs.Tokens.{byte_at}
-use Rattle.syntax.specs.declared.ByteAt.{ByteAt}
-use Rattle.syntax.specs.declared.ByteAt.TheVariants as BA
+use Rattle.syntax.specs.declared.Fault.{Fault}
 use Rattle.syntax.specs.TypeUses.{local_at, on_step, elements, use_of}
 use Rattle.syntax.specs.declared.Local.{Local}
-use Rattle.syntax.specs.declared.LocalAt.{LocalAt}
-use Rattle.syntax.specs.declared.LocalAt.TheVariants as OA
 use Rattle.syntax.specs.declared.List as Code
 use Rattle.syntax.specs.declared.TypeUse.{TypeUse}
 use Rattle.type_table.specs.Table.{types_of, typed, types_next, Left, both_next, Both}
-use Rattle.type_table.specs.declared.list.NextType.{NextType}
-use Rattle.type_table.specs.declared.list.NextType.TheVariants as N
 use Rattle.type_table.specs.declared.list.NextBoth.{NextBoth}
 use Rattle.type_table.specs.declared.list.NextBoth.TheVariants as B
 
@@ -39,28 +35,28 @@ elements_cons p s at zero h = absurd (h refl)
 elements_cons p s at (suc n) h = let e : suc n - 1 ≡ n = omega arith in rw e
 
 module _ (s : Bytes) (at left : ℕ) (named : Bool) where
-  pub next_zero : left ≡ 0 → elements (typed named) s at left ≡ types_next named left s N.End
+  pub next_zero : left ≡ 0 → elements (typed named) s at left ≡ types_next named left s None
   unfolding elements
   next_zero e = rw e
 
   module _ (h : left ≡ 0 → ⊥) where
-    pub next_param : (r : LocalAt) (l : Local) (q : ℕ) → named ≡ true → param s at ≡ local_at s r → r ≡ OA.Got l q → elements (typed named) s at left ≡ types_next named left s (N.Type l.value q)
+    pub next_param : (r : Read Local) (l : Local) (q : ℕ) → named ≡ true → param s at ≡ local_at s r → r ≡ Ok (l, q) → elements (typed named) s at left ≡ types_next named left s (Some (l.value, q))
     next_param r l q d e f = elements_cons (typed named) s at left h ∙ rw (d, e, f)
 
-    pub next_no_param : (r : LocalAt) (n : ℕ) → named ≡ true → param s at ≡ local_at s r → r ≡ OA.Fault n → elements (typed named) s at left ≡ types_next named left s N.End
+    pub next_no_param : (r : Read Local) (n : Fault) → named ≡ true → param s at ≡ local_at s r → r ≡ Err n → elements (typed named) s at left ≡ types_next named left s None
     next_no_param r n d e f = elements_cons (typed named) s at left h ∙ rw (d, e, f)
 
-    pub next-type : (r : ByteAt) (t q : ℕ) → named ≡ false → val_type s at ≡ byte_at r → r ≡ BA.Got t q → elements (typed named) s at left ≡ types_next named left s (N.Type t q)
+    pub next-type : (r : Read ℕ) (t q : ℕ) → named ≡ false → val_type s at ≡ byte_at r → r ≡ Ok (t, q) → elements (typed named) s at left ≡ types_next named left s (Some (t, q))
     next-type r t q d e f = elements_cons (typed named) s at left h ∙ rw (d, e, f)
 
-    pub next_no_type : (r : ByteAt) (n : ℕ) → named ≡ false → val_type s at ≡ byte_at r → r ≡ BA.Fault n → elements (typed named) s at left ≡ types_next named left s N.End
+    pub next_no_type : (r : Read ℕ) (n : Fault) → named ≡ false → val_type s at ≡ byte_at r → r ≡ Err n → elements (typed named) s at left ≡ types_next named left s None
     next_no_type r n d e f = elements_cons (typed named) s at left h ∙ rw (d, e, f)
 
 pub ruleset nexts = (next_zero, next_param, next_no_param, next-type, next_no_type)
 
-module _ (s : Bytes) (at left : ℕ) (named : Bool) (r : NextType) (told : elements (typed named) s at left ≡ types_next named left s r) where
+module _ (s : Bytes) (at left : ℕ) (named : Bool) (r : Option (ℕ × ℕ)) (told : elements (typed named) s at left ≡ types_next named left s r) where
   -- a type was read: one was left
-  pub next-some : (t q : ℕ) → r ≡ N.Type t q → 1 ≤ left
+  pub next-some : (t q : ℕ) → r ≡ Some (t, q) → 1 ≤ left
   unfolding elements
   next-some t q d = go left (told ∙ ap (types_next named left s) d)
     where
@@ -68,7 +64,7 @@ module _ (s : Bytes) (at left : ℕ) (named : Bool) (r : NextType) (told : eleme
       go zero e = let z : ◌≡◌ {A = ℕ} 0 1 = cc in absurd (omega arith)
       go (suc n) e = omega arith
 
-  pub next_less : (t q : ℕ) → r ≡ N.Type t q → left - 1 < left
+  pub next_less : (t q : ℕ) → r ≡ Some (t, q) → left - 1 < left
   next_less t q d = let h = next-some t q d in omega arith
 
 -- ## A list is its types one by one
@@ -91,30 +87,30 @@ types_are false s l = refl
 -- ## Two lists
 
 -- a type that was read was left
-pub next-left : (s : Bytes) (named : Bool) (l : Code.List) (m : NextType) → elements (typed named) s l.at l.count ≡ types_next named l.count s m → Left l m
+pub next-left : (s : Bytes) (named : Bool) (l : Code.List) (m : Option (ℕ × ℕ)) → elements (typed named) s l.at l.count ≡ types_next named l.count s m → Left l m
 next-left s named l m told = record { some = next-some s l.at l.count named m told }
 
-pub left-some : (l : Code.List) (m : NextType) → Left l m → (t q : ℕ) → m ≡ N.Type t q → 1 ≤ l.count
+pub left-some : (l : Code.List) (m : Option (ℕ × ℕ)) → Left l m → (t q : ℕ) → m ≡ Some (t, q) → 1 ≤ l.count
 left-some l m v t q d = v.some t q d
 
-module _ (a : Code.List) (m : NextType) (b : Code.List) (n : NextType) where
+module _ (a : Code.List) (m : Option (ℕ × ℕ)) (b : Code.List) (n : Option (ℕ × ℕ)) where
   -- both have ended
-  pub step_end : m ≡ N.End → n ≡ N.End → B.End ≡ both_next a m b n
+  pub step_end : m ≡ None → n ≡ None → B.End ≡ both_next a m b n
   unfolding both_next
   step_end d e = rw (d, e)
 
   -- only the first has
-  pub step_long : (y h : ℕ) → m ≡ N.End → n ≡ N.Type y h → B.Differ ≡ both_next a m b n
+  pub step_long : (y h : ℕ) → m ≡ None → n ≡ Some (y, h) → B.Differ ≡ both_next a m b n
   unfolding both_next
   step_long y h d e = rw (d, e)
 
-  module _ (x k : ℕ) (d : m ≡ N.Type x k) where
+  module _ (x k : ℕ) (d : m ≡ Some (x, k)) where
     -- only the other has
-    pub step_short : n ≡ N.End → B.Differ ≡ both_next a m b n
+    pub step_short : n ≡ None → B.Differ ≡ both_next a m b n
     unfolding both_next
     step_short e = rw (d, e)
 
-    module _ (y h : ℕ) (e : n ≡ N.Type y h) where
+    module _ (y h : ℕ) (e : n ≡ Some (y, h)) where
       -- a type that differs
       pub step_differ : (x ≡ y → ⊥) → B.Differ ≡ both_next a m b n
       unfolding both_next
@@ -129,23 +125,23 @@ pub ruleset steps = (step_end, step_long, step_short, step_differ, step_same)
 
 -- what the comparison tells
 module _ (s : Bytes) (named : Bool) (a : Code.List) (other : Bool) (b : Code.List) where
-  both_of : (m n : NextType) → elements (typed named) s a.at a.count ≡ types_next named a.count s m
+  both_of : (m n : Option (ℕ × ℕ)) → elements (typed named) s a.at a.count ≡ types_next named a.count s m
       → elements (typed other) s b.at b.count ≡ types_next other b.count s n → Both s named a other b (both_next a m b n)
   unfolding both_next same_bytes same
-  both_of (N.Type x k) (N.Type y h) p q = go (eqb x y) (rw (types_are named s a, types_are other s b, p, q))
+  both_of (Some (x, k)) (Some (y, h)) p q = go (eqb x y) (rw (types_are named s a, types_are other s b, p, q))
     where
       go : (t : Bool) → same_bytes (types_of named s a) (types_of other s b) ≡ (t && same_bytes (elements (typed named) s k (a.count - 1)) (elements (typed other) s h (b.count - 1)))
           → Both s named a other b (if t then B.Same (record { at = k; count = a.count - 1 }) (record { at = h; count = b.count - 1 }) else B.Differ)
       go true e = record {
         same = e ∙ rw (types_are named s (record { at = k; count = a.count - 1 }), types_are other s (record { at = h; count = b.count - 1 }));
-        fewer = next_less s a.at a.count named (N.Type x k) p x k refl;
+        fewer = next_less s a.at a.count named (Some (x, k)) p x k refl;
       }
       go false e = record { same = e; fewer = tt }
-  both_of (N.Type x k) N.End p q = record { same = rw (types_are named s a, types_are other s b, p, q); fewer = tt }
-  both_of N.End (N.Type y h) p q = record { same = rw (types_are named s a, types_are other s b, p, q); fewer = tt }
-  both_of N.End N.End p q = record { same = rw (types_are named s a, types_are other s b, p, q); fewer = tt }
+  both_of (Some (x, k)) None p q = record { same = rw (types_are named s a, types_are other s b, p, q); fewer = tt }
+  both_of None (Some (y, h)) p q = record { same = rw (types_are named s a, types_are other s b, p, q); fewer = tt }
+  both_of None None p q = record { same = rw (types_are named s a, types_are other s b, p, q); fewer = tt }
 
-  pub both_told : (m n : NextType) (r : NextBoth) → elements (typed named) s a.at a.count ≡ types_next named a.count s m
+  pub both_told : (m n : Option (ℕ × ℕ)) (r : NextBoth) → elements (typed named) s a.at a.count ≡ types_next named a.count s m
       → elements (typed other) s b.at b.count ≡ types_next other b.count s n → r ≡ both_next a m b n → Both s named a other b r
   both_told m n r p q e = rw e (both_of m n p q)
 
@@ -179,19 +175,19 @@ pub count-begin : (s : Bytes) (named : Bool) (a c : ℕ) → Counting s named a 
 count-begin s named a c = record { sum = omega arith; same = omega arith }
 
 module _ (s : Bytes) (named : Bool) (a c at left n : ℕ) (v : Counting s named a c at left n)
-    (r : NextType) (told : elements (typed named) s at left ≡ types_next named left s r) where
-  pub count_again : (t q : ℕ) → r ≡ N.Type t q → Counting s named a c q (left - 1) (n + 1)
+    (r : Option (ℕ × ℕ)) (told : elements (typed named) s at left ≡ types_next named left s r) where
+  pub count_again : (t q : ℕ) → r ≡ Some (t, q) → Counting s named a c q (left - 1) (n + 1)
   count_again t q d =
       let h = next-some s at left named r told t q d in
       let e : length (elements (typed named) s at left) ≡ suc (length (elements (typed named) s q (left - 1))) = ap length (told ∙ ap (types_next named left s) d) in
       record { sum = omega (arith, v.sum); same = omega (arith, v.same) }
 
-  pub count_fits : (t q : ℕ) → r ≡ N.Type t q → Fits w32 c → Fits w32 (n + 1)
+  pub count_fits : (t q : ℕ) → r ≡ Some (t, q) → Fits w32 c → Fits w32 (n + 1)
   count_fits t q d f = let h = next-some s at left named r told t q d in let g = f.fits in record { fits = omega (arith, v.sum) }
 
 module _ (s : Bytes) (named : Bool) (l : Code.List) (at left n : ℕ) (v : Counting s named l.at l.count at left n)
-    (r : NextType) (told : elements (typed named) s at left ≡ types_next named left s r) where
-  pub count-done : r ≡ N.End → n ≡ length (types_of named s l)
+    (r : Option (ℕ × ℕ)) (told : elements (typed named) s at left ≡ types_next named left s r) where
+  pub count-done : r ≡ None → n ≡ length (types_of named s l)
   count-done d =
       let e : length (elements (typed named) s at left) ≡ 0 = ap length (told ∙ ap (types_next named left s) d) in
       let f : length (types_of named s l) ≡ length (elements (typed named) s l.at l.count) = ap length (types_are named s l) in
@@ -199,12 +195,12 @@ module _ (s : Bytes) (named : Bool) (l : Code.List) (at left n : ℕ) (v : Count
 
 -- ## Any type
 
-module _ (s : Bytes) (named : Bool) (l : Code.List) (r : NextType) (told : elements (typed named) s l.at l.count ≡ types_next named l.count s r) where
-  pub any_yes : (t q : ℕ) → r ≡ N.Type t q → true ≡ ltb 0 (length (types_of named s l))
+module _ (s : Bytes) (named : Bool) (l : Code.List) (r : Option (ℕ × ℕ)) (told : elements (typed named) s l.at l.count ≡ types_next named l.count s r) where
+  pub any_yes : (t q : ℕ) → r ≡ Some (t, q) → true ≡ ltb 0 (length (types_of named s l))
   any_yes t q e =
       sym (ap (λ (z : List ValType). ltb 0 (length z)) (types_are named s l ∙ told ∙ ap (types_next named l.count s) e) ∙ lt-ltb 0 (suc (length (elements (typed named) s q (l.count - 1)))) (omega arith))
 
-  pub any_no : r ≡ N.End → false ≡ ltb 0 (length (types_of named s l))
+  pub any_no : r ≡ None → false ≡ ltb 0 (length (types_of named s l))
   any_no e = sym (ap (λ (z : List ValType). ltb 0 (length z)) (types_are named s l ∙ told) ∙ rw e)
 
 -- ## What the counts tell of a type use

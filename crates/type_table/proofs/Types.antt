@@ -1,4 +1,5 @@
 -- Plain mathematics of the table of types: found, added, taken.
+use Rattle.std.specs.Prelude.{Ok, Err, Option as Optional, Some}
 use Rattle.std.specs.Prelude.{if◌then◌else◌}
 use Prim.Native.Nat.{ℕ, zero, suc, ◌+◌, ◌-◌, ◌*◌, ◌≤◌, ◌<◌, min}
 use mathlib.Core.Path.{◌≡◌, refl, sym, ◌∙◌, ap}
@@ -13,6 +14,7 @@ use Rattle.definition.specs.Syntax.{Bytes, FuncType}
 use Rattle.definition.specs.Types.{same_type, type_at, signature}
 use Rattle.definition.specs.Names.{param_count}
 use Rattle.syntax.specs.Refusals.{refusal}
+use Rattle.syntax.specs.declared.Fault.TheVariants as F
 use Rattle.area.specs.Layout.{NAMED, TOTAL, TYPES, USES}
 use Rattle.syntax.specs.TypeUses.{use_of}
 use Rattle.syntax.specs.declared.TypeUse.{TypeUse}
@@ -21,9 +23,6 @@ use Rattle.area.proofs.Kept.{kept_word}
 use Rattle.type_table.specs.Table.{types_of, signature_of, of_use, entry_in, type_table, types_in, number_of, agreeing, type_words, Indexed, Fresh, Adds, Interns}
 use Rattle.type_table.specs.declared.entry.Signature.{Signature}
 use Rattle.type_table.specs.declared.index.Hashed.{Hashed}
-use Rattle.type_table.specs.declared.table.TypeFound.{TypeFound}
-use Rattle.type_table.specs.declared.table.TypeFound.TheVariants as T
-use Rattle.type_table.specs.declared.table.Interned.TheVariants as I
 use Rattle.type_table.specs.declared.table.Agreement.TheVariants as A
 use Rattle.type_table.proofs.Entries.{use_signature, inside-same, entry_kept, type-inside, type-written}
 use Rattle.syntax.specs.declared.Refusal.{Refusal}
@@ -108,11 +107,11 @@ pub new_number : (ts : List FuncType) (t : FuncType) → type_at t ts ≡ none �
 unfolding type_at same_type
 new_number ts t e = first_new (same_type t) ts t e (rw (same_bytes_lem t.params, same_bytes_lem t.results))
 
-module _ (s w : List ℕ) (count : ℕ) (t : TypeUse) (r : ℕ) (x : Signature) (q : TypeFound) (of : x ≡ of_use t) (told : type_at (signature_of s x) (type_table count s w TYPES) ≡ number_of q) where
+module _ (s w : List ℕ) (count : ℕ) (t : TypeUse) (r : ℕ) (x : Signature) (q : Optional ℕ) (of : x ≡ of_use t) (told : type_at (signature_of s x) (type_table count s w TYPES) ≡ number_of q) where
   used : type_at (signature (use_of s t)) (type_table count s w TYPES) ≡ number_of q
   used = ap (λ z. type_at z (type_table count s w TYPES)) (sym (ap (signature_of s) of ∙ use_signature s t)) ∙ told
 
-  pub intern_takes : (n : ℕ) → q ≡ T.Number n → Indexed s w count → Interns s w count t r (I.Number n count) w
+  pub intern_takes : (n : ℕ) → q ≡ Some n → Indexed s w count → Interns s w count t r (Ok (n, count)) w
   unfolding Interns
   intern_takes n d h = record {
     types = rw (used, d);
@@ -125,7 +124,7 @@ module _ (s w : List ℕ) (count : ℕ) (t : TypeUse) (r : ℕ) (h : Hashed) (fr
   unused : type_at (signature (use_of s t)) (type_table count s w TYPES) ≡ none
   unused = ap (λ z. type_at z (type_table count s w TYPES)) (sym (use_signature s t)) ∙ fresh.missing
 
-  pub intern_full : (z : Refusal) → 256 ≤ count → z ≡ refusal 12 r → Interns s w count t r (I.Refused z) w
+  pub intern_full : (z : Refusal) → 256 ≤ count → z ≡ refusal F.TooManyTypes r → Interns s w count t r (Err z) w
   unfolding Interns
   intern_full z k e = record { says = rw (unused, table-length count s w TYPES, le-leb 256 count k, e); area = refl }
 
@@ -133,7 +132,7 @@ module _ (s w : List ℕ) (count : ℕ) (t : TypeUse) (r : ℕ) (h : Hashed) (fr
   pub use_fresh : (x : Signature) → x ≡ of_use t → Fresh s w count x h
   use_fresh x e = rw e fresh
 
-  pub intern_adds : (x : Signature) (w' : List ℕ) → x ≡ of_use t → count < 256 → Adds s w count x w' → Interns s w count t r (I.Number count (count + 1)) w'
+  pub intern_adds : (x : Signature) (w' : List ℕ) → x ≡ of_use t → count < 256 → Adds s w count x w' → Interns s w count t r (Ok (count, (count + 1))) w'
   unfolding Interns
   intern_adds x w' of k a =
       let e : type_table (count + 1) s w' TYPES ≡ type_table count s w TYPES ++ (signature (use_of s t) ∷ []) =

@@ -1,11 +1,9 @@
 -- What is known to be readable: lists that were read before, of which the identifiers are passed by their lengths.
-use Rattle.std.specs.Prelude.{ℕ, ◌-◌, ◌≡◌, Bool, true, false}
+use Rattle.std.specs.Prelude.{ℕ, ◌-◌, ◌≡◌, Bool, true, false, Option, Some}
 use Rattle.definition.specs.Syntax.{Bytes}
 use Rattle.definition.specs.Reader.{many}
 use Rattle.definition.specs.Token.{param}
 use Rattle.token.specs.Known.{Gets}
-use Rattle.type_table.specs.declared.list.NextType.{NextType}
-use Rattle.type_table.specs.declared.list.NextType.TheVariants as N
 use Rattle.type_table.specs.declared.list.NextBoth.{NextBoth}
 use Rattle.type_table.specs.declared.list.NextBoth.TheVariants as B
 use Rattle.type_table.specs.declared.entry.Signature.{Signature}
@@ -20,8 +18,8 @@ pub record Passable (named : Bool) (s : Bytes) (at left : ℕ) : Type 0 where
   pub reads : Reads named s at left
 
 -- and so can the rest after its next type
-pub record Rest (named : Bool) (left : ℕ) (s : Bytes) (r : NextType) : Type 0 where
-  pub rest : (t q : ℕ) → r ≡ N.Type t q → Passable named s q (left - 1)
+pub record Rest (named : Bool) (left : ℕ) (s : Bytes) (r : Option (ℕ × ℕ)) : Type 0 where
+  pub rest : (t q : ℕ) → r ≡ Some (t, q) → Passable named s q (left - 1)
 
 -- the rests of two lists
 abbrev pub BothPassable : Bytes → Bool → Bool → NextBoth → Type 0

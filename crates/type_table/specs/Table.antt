@@ -1,5 +1,5 @@
 -- What the table of types says. Total, like the tables of names: a list ends where its count does, or at the first type that is not read.
-use Rattle.std.specs.Prelude.{ℕ, zero, suc, ◌+◌, ◌-◌, ◌*◌, ◌/◌, ◌%◌, ◌≤◌, ◌<◌, min, ◌≡◌, List, [], ◌∷◌, ◌++◌, map, Bool, true, false, ◌&&◌, length, get_or, set, drop, eqb, ltb, if◌then◌else◌}
+use Rattle.std.specs.Prelude.{ℕ, zero, suc, ◌+◌, ◌-◌, ◌*◌, ◌/◌, ◌%◌, ◌≤◌, ◌<◌, min, ◌≡◌, List, [], ◌∷◌, ◌++◌, map, Bool, true, false, ◌&&◌, length, get_or, set, drop, eqb, ltb, if◌then◌else◌, Option as Optional, Some, None, Ok, Err}
 use Rattle.std.proofs.Math.Option.{Option, none, some}
 use Rattle.definition.specs.Basic.{Answer, ok, same_bytes}
 use Rattle.definition.specs.Syntax.{Bytes, ValType, FuncType}
@@ -7,7 +7,8 @@ use Rattle.definition.specs.Reader.{Reader, ◌>>=◌, give}
 use Rattle.definition.specs.Token.{param, val_type}
 use Rattle.definition.specs.Binary.{types_size}
 use Rattle.definition.specs.Types.{Uses, take_or_add, type_at, type_number, same_type, signature}
-use Rattle.syntax.specs.Refusals.{refused_by}
+use Rattle.syntax.specs.Reads.{maybe, same}
+use Rattle.syntax.specs.Refusals.{Resolved, refused_by}
 use Rattle.syntax.specs.declared.Refusal.{Refusal}
 use Rattle.area.specs.Layout.{HASHES, HEADS, LINKS, SIZE, TOTAL, TYPES, USES}
 use Rattle.syntax.specs.TypeUses.{elements, list_of, use_of}
@@ -18,15 +19,9 @@ use Rattle.type_table.specs.Hash.{BUCKETS, HALF, bucket_of, hash_of}
 use Rattle.type_table.specs.Known.{BothPassable, ReadableSignature}
 use Rattle.type_table.specs.Size.{hashed}
 use Rattle.type_table.specs.declared.index.Hashed.{Hashed}
-use Rattle.type_table.specs.declared.list.NextType.{NextType}
-use Rattle.type_table.specs.declared.list.NextType.TheVariants as N
 use Rattle.type_table.specs.declared.list.NextBoth.{NextBoth}
 use Rattle.type_table.specs.declared.list.NextBoth.TheVariants as B
 use Rattle.type_table.specs.declared.entry.Signature.{Signature}
-use Rattle.type_table.specs.declared.table.TypeFound.{TypeFound}
-use Rattle.type_table.specs.declared.table.TypeFound.TheVariants as T
-use Rattle.type_table.specs.declared.table.Interned.{Interned}
-use Rattle.type_table.specs.declared.table.Interned.TheVariants as I
 use Rattle.type_table.specs.declared.table.Agreement.{Agreement}
 use Rattle.type_table.specs.declared.table.Agreement.TheVariants as A
 
@@ -43,9 +38,9 @@ typed true = param >>= λ p. give p.type
 typed false = val_type
 
 -- the types of which the next was read
-abbrev pub types_next : Bool → ℕ → Bytes → NextType → List ValType
-types_next named left s (N.Type t next) = t ∷ elements (typed named) s next (left - 1)
-types_next named left s N.End = []
+abbrev pub types_next : Bool → ℕ → Bytes → Optional (ℕ × ℕ) → List ValType
+types_next named left s (Some (t, next)) = t ∷ elements (typed named) s next (left - 1)
+types_next named left s None = []
 
 -- whether two lists are equal, after their next types were compared: what is left of both decides
 abbrev pub both_same : Bytes → Bool → Bool → NextBoth → Bool
@@ -54,15 +49,15 @@ both_same s named other B.Differ = false
 both_same s named other B.End = true
 
 -- a list whose next type was read has one left
-pub record Left (l : Code.List) (m : NextType) : Type 0 where
-  pub some : (t q : ℕ) → m ≡ N.Type t q → 1 ≤ l.count
+pub record Left (l : Code.List) (m : Optional (ℕ × ℕ)) : Type 0 where
+  pub some : (t q : ℕ) → m ≡ Some (t, q) → 1 ≤ l.count
 
 -- two lists, one type further, by the next type of each
-unfoldable pub both_next : Code.List → NextType → Code.List → NextType → NextBoth
-both_next a (N.Type x p) b (N.Type y q) = if eqb x y then B.Same (record { at = p; count = a.count - 1 }) (record { at = q; count = b.count - 1 }) else B.Differ
-both_next a (N.Type x p) b N.End = B.Differ
-both_next a N.End b (N.Type y q) = B.Differ
-both_next a N.End b N.End = B.End
+unfoldable pub both_next : Code.List → Optional (ℕ × ℕ) → Code.List → Optional (ℕ × ℕ) → NextBoth
+both_next a (Some (x, p)) b (Some (y, q)) = if eqb x y then B.Same (record { at = p; count = a.count - 1 }) (record { at = q; count = b.count - 1 }) else B.Differ
+both_next a (Some (x, p)) b None = B.Differ
+both_next a None b (Some (y, q)) = B.Differ
+both_next a None b None = B.End
 
 -- fewer types are left than so many
 abbrev pub BothFewer : NextBoth → ℕ → Type 0
@@ -106,9 +101,8 @@ type_table (suc n) s w at = signature_of s (entry_in w at) ∷ type_table n s w 
 unfoldable pub types_in : Bytes → List ℕ → List FuncType
 types_in s w = type_table (min (get_or w TOTAL 0) 256) s w TYPES
 
-abbrev pub number_of : TypeFound → Option ℕ
-number_of (T.Number n) = some n
-number_of T.Nothing = none
+abbrev pub number_of : Optional ℕ → Option ℕ
+number_of = maybe same
 
 -- what the comparison of a signature with the type that an index names says
 abbrev pub agreeing : FuncType → Option FuncType → Agreement
@@ -248,9 +242,9 @@ pub record Denied (s : Bytes) (w : List ℕ) (count : ℕ) (t : TypeUse) (r : �
   pub says : interning s w count t r ≡ refused_by q
   pub area : w' ≡ w
 
-unfoldable pub Interns : Bytes → List ℕ → ℕ → TypeUse → ℕ → Interned → List ℕ → Type 0
-Interns s w count t r (I.Number n k) w' = Taken s w count t r n k w'
-Interns s w count t r (I.Refused q) w' = Denied s w count t r q w'
+unfoldable pub Interns : Bytes → List ℕ → ℕ → TypeUse → ℕ → Resolved (ℕ × ℕ) → List ℕ → Type 0
+Interns s w count t r (Ok (n, k)) w' = Taken s w count t r n k w'
+Interns s w count t r (Err q) w' = Denied s w count t r q w'
 
 -- ## Numbers of uses
 

@@ -9,7 +9,7 @@ ghost use Rattle.type_table.specs.Size.{hashed};
 ghost use Rattle.type_table.specs.Table.{types_of, signature_of, head_of, branch_of, link_at, hash_is, hash_words, bare_words, free_place, tree_words, HeadsEmptied, Emptied};
 
 use crate::entry::Signature;
-use crate::list::{NextType, known_type};
+use crate::list::known_type;
 use syntax::List;
 
 const BUCKETS: u64 = 256;
@@ -50,12 +50,12 @@ fn hash_list(s: &[u8], named: bool, l: List, start: u64) -> HashedList
     let mut h = start;
     loop {
         match known_type(s, at, left, named) {
-            NextType::Type(t, next) => {
+            Some((t, next)) => {
                 h = mix(h, t);
                 at = next;
                 left -= 1;
             }
-            NextType::End => {
+            None => {
                 return HashedList {
                     hash: h,
                     count: l.count - left,

@@ -12,6 +12,4 @@ pub mod table;
 pub use entry::{Signature, put_type, type_at};
 pub use index::clear_index;
 pub use list::{is_inline, is_short};
-pub use table::{
-    Agreement, Interned, TypeFound, agrees, declare_type, find_type, intern_use, param_count, total,
-};
+pub use table::{Agreement, agrees, declare_type, find_type, intern_use, param_count, total};

@@ -6,46 +6,39 @@ ghost use Rattle.syntax.specs.TypeUses.{elements, use_of};
 ghost use Rattle.type_table.specs.Known.{Passable, Rest};
 ghost use Rattle.type_table.specs.Table.{typed, types_next, types_of, both_next, Left, KnownBoth};
 
-use syntax::{ByteAt, List, LocalAt, TypeUse};
-
-// A value type and the place after it.
-#[derive(Clone, Copy)]
-pub enum NextType {
-    Type(u8, usize),
-    End,
-}
+use syntax::{List, TypeUse};
 
 // The next of the types that are left; the list ends where none is read.
-pub fn next_type(s: &[u8], at: usize, left: u32, named: bool) -> NextType
+pub fn next_type(s: &[u8], at: usize, left: u32, named: bool) -> Option<(u8, usize)>
     ensures { elements (typed named) s.now at left ≡ types_next named left s.now result }
 {
     if left == 0 {
-        return NextType::End;
+        return None;
     }
     if named {
         return match typeuse::read_local(s, at) {
-            LocalAt::Got(l, next) => NextType::Type(l.value, next),
-            LocalAt::Fault(_) => NextType::End,
+            Ok((l, next)) => Some((l.value, next)),
+            Err(_) => None,
         };
     }
     match coretypes::val_type(s, at) {
-        ByteAt::Got(value, next) => NextType::Type(value, next),
-        ByteAt::Fault(_) => NextType::End,
+        Ok((value, next)) => Some((value, next)),
+        Err(_) => None,
     }
 }
 
 // The same of types that are known to be readable: an identifier was checked, and is passed by its length.
-pub fn known_type(s: &[u8], at: usize, left: u32, named: bool) -> NextType
+pub fn known_type(s: &[u8], at: usize, left: u32, named: bool) -> Option<(u8, usize)>
     requires { Passable named s.now at left }
     ensures { (elements (typed named) s.now at left ≡ types_next named left s.now result) × Rest named left s.now result }
 {
     if left == 0 {
-        return NextType::End;
+        return None;
     }
     if named {
         return match typeuse::known_local(s, at) {
-            LocalAt::Got(l, next) => NextType::Type(l.value, next),
-            LocalAt::Fault(_) => NextType::End,
+            Ok((l, next)) => Some((l.value, next)),
+            Err(_) => None,
         };
     }
     next_type(s, at, left, named)
@@ -60,13 +53,13 @@ pub enum NextBoth {
 }
 
 // Two lists, one type further in step, by the next type of each.
-fn step(a: List, m: NextType, b: List, n: NextType) -> NextBoth
+fn step(a: List, m: Option<(u8, usize)>, b: List, n: Option<(u8, usize)>) -> NextBoth
     requires { Left a m × Left b n }
     ensures { result ≡ both_next a m b n }
 {
     match m {
-        NextType::Type(x, p) => match n {
-            NextType::Type(y, q) => {
+        Some((x, p)) => match n {
+            Some((y, q)) => {
                 if x != y {
                     return NextBoth::Differ;
                 }
@@ -80,11 +73,11 @@ fn step(a: List, m: NextType, b: List, n: NextType) -> NextBoth
                 };
                 NextBoth::Same(first, second)
             }
-            NextType::End => NextBoth::Differ,
+            None => NextBoth::Differ,
         },
-        NextType::End => match n {
-            NextType::Type(_, _) => NextBoth::Differ,
-            NextType::End => NextBoth::End,
+        None => match n {
+            Some((_, _)) => NextBoth::Differ,
+            None => NextBoth::End,
         },
     }
 }
@@ -132,12 +125,12 @@ pub fn count_types(s: &[u8], named: bool, l: List) -> u32
     let mut n: u32 = 0;
     loop {
         match next_type(s, at, left, named) {
-            NextType::Type(_, next) => {
+            Some((_, next)) => {
                 at = next;
                 left -= 1;
                 n += 1;
             }
-            NextType::End => {
+            None => {
                 return n;
             }
         }
@@ -149,8 +142,8 @@ fn any_type(s: &[u8], named: bool, l: List) -> bool
     ensures { result ≡ ltb 0 (length (types_of named s.now l)) }
 {
     match next_type(s, l.at, l.count, named) {
-        NextType::Type(_, _) => true,
-        NextType::End => false,
+        Some((_, _)) => true,
+        None => false,
     }
 }
 

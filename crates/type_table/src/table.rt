@@ -16,17 +16,11 @@ use crate::index::{
 };
 use crate::list::{NextBoth, next_both, same_list};
 use crate::size::put_size;
-use syntax::{Refusal, TypeUse};
-
-#[derive(Clone, Copy)]
-pub enum TypeFound {
-    Number(u32),
-    Nothing,
-}
+use syntax::{Fault, Resolved, TypeUse};
 
 // The first of count types that is equal to a signature with this hash: each on the hash's way that has the hash is walked in step with
 // the signature, over the parameters and then over the results, and left at the first difference.
-pub fn find_type(s: &[u8], work: &[u32], count: u32, x: Signature, h: u64) -> TypeFound
+pub fn find_type(s: &[u8], work: &[u32], count: u32, x: Signature, h: u64) -> Option<u32>
     requires { (USES ≤ length work.now) × Indexed s.now work.now count × ReadableSignature s.now x × (h ≡ hash_of (signature_of s.now x)) }
     ensures { Types.type_at (signature_of s.now x) (type_table count s.now work.now TYPES) ≡ number_of result }
 {
@@ -35,7 +29,7 @@ pub fn find_type(s: &[u8], work: &[u32], count: u32, x: Signature, h: u64) -> Ty
     'types: loop {
         let link = link_at(work, place);
         if link == 0 {
-            return TypeFound::Nothing;
+            return None;
         }
         let this = link - 1;
         place = branch_place(this, bits);
@@ -57,7 +51,7 @@ pub fn find_type(s: &[u8], work: &[u32], count: u32, x: Signature, h: u64) -> Ty
                 }
                 NextBoth::End => {
                     if same_list(s, false, x.results, false, y.results) {
-                        return TypeFound::Number(this);
+                        return Some(this);
                     }
                     continue 'types;
                 }
@@ -103,40 +97,46 @@ pub fn declare_type(s: &[u8], work: &mut [u32], count: u32, x: Signature)
 {
     let h = hash_of(s, x);
     match find_type(s, work, count, x, h.hash) {
-        TypeFound::Number(_) => add_again(s, work, count, x, h),
-        TypeFound::Nothing => add_type(s, work, count, x, h),
+        Some(_) => add_again(s, work, count, x, h),
+        None => add_type(s, work, count, x, h),
     }
 }
 
-// The number of a use's type and how many types there are now, or a refusal's number and record.
-#[derive(Clone, Copy)]
-pub enum Interned {
-    Number(u32, u32),
-    Refused(Refusal),
-}
-
 // A use that no type is equal to adds one at the end.
-fn add_use(s: &[u8], work: &mut [u32], count: u32, t: TypeUse, h: Hashed, rec: u32) -> Interned
+fn add_use(
+    s: &[u8],
+    work: &mut [u32],
+    count: u32,
+    t: TypeUse,
+    h: Hashed,
+    rec: u32,
+) -> Resolved<(u32, u32)>
     requires { (length s.now ≤ BYTES) × (USES ≤ length work.old) × Fresh s.now work.old count (of_use t) h }
     ensures { Interns s.now work.old count t rec result work.new }
 {
     if 256 <= count {
-        return Interned::Refused(syntax::refusal_at(12, rec));
+        return Err(syntax::refusal_at(Fault::TooManyTypes, rec));
     }
     add_type(s, work, count, of_use(t), h);
-    Interned::Number(count, count + 1)
+    Ok((count, count + 1))
 }
 
 // A use takes the first equal signature, or adds one at the end.
-pub fn intern_use(s: &[u8], work: &mut [u32], count: u32, t: TypeUse, rec: u32) -> Interned
+pub fn intern_use(
+    s: &[u8],
+    work: &mut [u32],
+    count: u32,
+    t: TypeUse,
+    rec: u32,
+) -> Resolved<(u32, u32)>
     requires { (length s.now ≤ BYTES) × (USES ≤ length work.old) × Indexed s.now work.old count × Readable s.now t.params }
     ensures { Interns s.now work.old count t rec result work.new }
 {
     let x = of_use(t);
     let h = hash_of(s, x);
     match find_type(s, work, count, x, h.hash) {
-        TypeFound::Number(n) => Interned::Number(n, count),
-        TypeFound::Nothing => add_use(s, work, count, t, h, rec),
+        Some(n) => Ok((n, count)),
+        None => add_use(s, work, count, t, h, rec),
     }
 }
 

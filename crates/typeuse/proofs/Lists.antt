@@ -1,14 +1,12 @@
 -- A list that was passed over is the list of its elements.
-use mathlib.Core.Path.{◌≡◌, refl, ap, ◌∙◌}
+use mathlib.Core.Path.{◌≡◌, ap}
 use mathlib.Core.List.{List, [], ◌∷◌}
 use Prim.Native.Nat.{ℕ, zero, suc}
 use native.Mathlib.Omega.{arith}
 use Rattle.definition.specs.Syntax.{Bytes}
 use Rattle.definition.specs.Reader.{Step, got, fault, Reader, onward, many}
 use Rattle.laws.specs.Steps.{stops}
-use Rattle.syntax.specs.Tokens.{skip}
-use Rattle.syntax.specs.declared.Skip.{Skip}
-use Rattle.syntax.specs.declared.Skip.TheVariants as S
+use Rattle.token.proofs.Skips.{gave_at, stopped_at}
 use Rattle.syntax.specs.TypeUses.{on_step, elements}
 
 -- where many are read, the elements are they
@@ -27,19 +25,11 @@ elements_are {A = A} p (suc n) s at xs q e = go (λ next ys z. elements_are p n 
     go f (got x next) e = last x next (many n p s next) (λ ys z. f next ys z) e
     go f (fault k) e = let z : ◌≡◌ {A = ℕ} 0 1 = cc in absurd (omega arith)
 
-module _ {A : Type 0} (x : Step (List A)) (p : Reader A) (n : ℕ) (s : Bytes) (at : ℕ) (r : Skip) (told : stops (many n p s at) ≡ skip r) where
-  pub many-past : (q : ℕ) → r ≡ S.Past q → got (elements p s at n) q ≡ x → many n p s at ≡ x
-  many-past q d h = go (many n p s at) refl (told ∙ ap skip d) h
-    where
-      go : (st : Step (List A)) → many n p s at ≡ st → stops st ≡ got tt q → got (elements p s at n) q ≡ x → st ≡ x
-      go (got a q') m z h = let y : q' ≡ q = cc in let l : elements p s at n ≡ a = elements_are p n s at a q' m in rw (y, ← l) h
-      go (fault f) m z h = let y : ◌≡◌ {A = ℕ} 0 1 = cc in absurd (omega arith)
+module _ {A : Type 0} (p : Reader A) (n : ℕ) (s : Bytes) (at : ℕ) where
+  pub many_past : (q : ℕ) → stops (many n p s at) ≡ got tt q → many n p s at ≡ got (elements p s at n) q
+  many_past q e = let g = gave_at (many n p s at) q e in rw (elements_are p n s at g.value q g.is) g.is
 
-  pub many-stops : (e : ℕ) → r ≡ S.Fault e → fault e ≡ x → many n p s at ≡ x
-  many-stops e d h = go (many n p s at) (told ∙ ap skip d)
-    where
-      go : (st : Step (List A)) → stops st ≡ fault e → st ≡ x
-      go (got a q) z = let y : ◌≡◌ {A = ℕ} 0 1 = cc in absurd (omega arith)
-      go (fault f) z = let y : f ≡ e = cc in rw y h
+  pub many_stops : (k : ℕ) → stops (many n p s at) ≡ fault k → many n p s at ≡ fault k
+  many_stops k e = stopped_at (many n p s at) k e
 
-pub ruleset lists = (many-past, many-stops)
+pub ruleset lists = (many_past, many_stops)

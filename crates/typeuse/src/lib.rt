@@ -11,103 +11,81 @@ ghost use Rattle.syntax.specs.Tokens.{skip};
 ghost use Rattle.syntax.specs.TypeUses.{local_at, elem, list_at, use_at};
 
 pub use known::{known_local, known_local_list, known_strings, known_type_list, known_type_use};
-use syntax::{
-    ByteAt, Elem, Index, IndexAt, List, ListAt, Local, LocalAt, PartAt, Skip, TypeUse, U32, UseAt,
-};
+use syntax::{Elem, Fault, Index, List, Local, Pass, Read, TypeUse};
 
-pub fn read_local(s: &[u8], at: usize) -> LocalAt
+#[tactic(auto, using(syntax::proofs::Ways::reads), unfolding(definition::specs::Token::param))]
+pub fn read_local(s: &[u8], at: usize) -> Read<Local>
     ensures { Token.param s.now at ≡ local_at s.now result }
 {
-    match token::read_identifier(s, at) {
-        PartAt::Got(id, a) => match coretypes::val_type(s, a) {
-            ByteAt::Got(value, b) => LocalAt::Got(Local { id, value }, b),
-            ByteAt::Fault(e) => LocalAt::Fault(e),
-        },
-        PartAt::Fault(e) => LocalAt::Fault(e),
-    }
+    let (id, a) = token::read_identifier(s, at)?;
+    let (value, b) = coretypes::val_type(s, a)?;
+    Ok((Local { id, value }, b))
 }
 
-fn pass_type(s: &[u8], at: usize) -> Skip
+#[tactic(auto, using(crate::proofs::Ways::passed_over))]
+fn pass_type(s: &[u8], at: usize) -> Pass
     ensures { stops (Token.val_type s.now at) ≡ skip result }
 {
-    match coretypes::val_type(s, at) {
-        ByteAt::Got(_, next) => Skip::Past(next),
-        ByteAt::Fault(e) => Skip::Fault(e),
-    }
+    let (_, next) = coretypes::val_type(s, at)?;
+    Ok(next)
 }
 
-fn pass_local(s: &[u8], at: usize) -> Skip
+#[tactic(auto, using(crate::proofs::Ways::passed_over))]
+fn pass_local(s: &[u8], at: usize) -> Pass
     ensures { stops (Token.param s.now at) ≡ skip result }
 {
-    match token::pass_identifier(s, at) {
-        Skip::Past(next) => pass_type(s, next),
-        Skip::Fault(e) => Skip::Fault(e),
-    }
+    let next = token::pass_identifier(s, at)?;
+    pass_type(s, next)
 }
 
-fn pass_one(s: &[u8], at: usize, what: Elem) -> Skip
+#[tactic(auto, using(crate::proofs::Ways::passed_over))]
+fn pass_one(s: &[u8], at: usize, what: Elem) -> Pass
     ensures { stops (elem what s.now at) ≡ skip result }
 {
     match what {
         Elem::Local => pass_local(s, at),
         Elem::Type => pass_type(s, at),
-        Elem::String => match token::read_string(s, at) {
-            PartAt::Got(_, next) => Skip::Past(next),
-            PartAt::Fault(e) => Skip::Fault(e),
-        },
+        Elem::String => {
+            let (_, next) = token::read_string(s, at)?;
+            Ok(next)
+        }
         Elem::Index => token::pass_present(s, at),
     }
 }
 
-fn pass_many(s: &[u8], at: usize, n: u32, what: Elem) -> Skip
+#[tactic(auto, using(token::proofs::Counts::counts))]
+fn pass_many(s: &[u8], at: usize, n: u32, what: Elem) -> Pass
     ensures { stops (Reader.many n (elem what) s.now at) ≡ skip result }
 {
-    let mut left = n;
     let mut here = at;
-    while 0 < left {
-        match pass_one(s, here, what) {
-            Skip::Past(next) => {
-                here = next;
-            }
-            Skip::Fault(e) => {
-                return Skip::Fault(e);
-            }
-        }
-        left -= 1;
+    for _ in 0..n {
+        here = pass_one(s, here, what)?;
     }
-    Skip::Past(here)
+    Ok(here)
 }
 
-pub fn read_list(s: &[u8], at: usize, ceiling: u32, what: Elem) -> ListAt
+#[tactic(auto, using(syntax::proofs::Ways::reads, crate::proofs::Lists::lists), unfolding(definition::specs::Token::counted))]
+pub fn read_list(s: &[u8], at: usize, ceiling: u32, what: Elem) -> Read<List>
     ensures { Token.counted ceiling (elem what) s.now at ≡ list_at (elem what) s.now result }
 {
-    match token::up_to(s, at, 7, ceiling) {
-        U32::Got(count, next) => match pass_many(s, next, count, what) {
-            Skip::Past(after) => ListAt::Got(List { at: next, count }, after),
-            Skip::Fault(e) => ListAt::Fault(e),
-        },
-        U32::Fault(e) => ListAt::Fault(e),
-    }
+    let (count, next) = token::up_to(s, at, Fault::TooMany, ceiling)?;
+    let after = pass_many(s, next, count, what)?;
+    Ok((List { at: next, count }, after))
 }
 
-pub fn read_type_use(s: &[u8], at: usize) -> UseAt
+#[tactic(auto, using(syntax::proofs::Ways::reads), unfolding(definition::specs::Token::type_use))]
+pub fn read_type_use(s: &[u8], at: usize) -> Read<TypeUse>
     ensures { Token.type_use s.now at ≡ use_at s.now result }
 {
-    match token::read_optional(s, at) {
-        IndexAt::Got(index, a) => match read_list(s, a, 64, Elem::Local) {
-            ListAt::Got(params, b) => match read_list(s, b, 16, Elem::Type) {
-                ListAt::Got(results, c) => UseAt::Got(
-                    TypeUse {
-                        index,
-                        params,
-                        results,
-                    },
-                    c,
-                ),
-                ListAt::Fault(e) => UseAt::Fault(e),
-            },
-            ListAt::Fault(e) => UseAt::Fault(e),
+    let (index, a) = token::read_optional(s, at)?;
+    let (params, b) = read_list(s, a, 64, Elem::Local)?;
+    let (results, c) = read_list(s, b, 16, Elem::Type)?;
+    Ok((
+        TypeUse {
+            index,
+            params,
+            results,
         },
-        IndexAt::Fault(e) => UseAt::Fault(e),
-    }
+        c,
+    ))
 }

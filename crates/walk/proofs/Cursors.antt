@@ -1,10 +1,11 @@
 -- Where the walk goes on by the work area is where the model goes on.
+use Rattle.std.specs.Prelude.{Ok, Err}
+use Rattle.syntax.specs.Reads.{Read}
 use mathlib.Core.Path.{◌≡◌, refl, ap, sym, ◌∙◌, subst}
 use Prim.Native.Nat.{ℕ, zero, suc, ◌+◌, ◌-◌, ◌≤◌, ◌<◌}
 use mathlib.Core.Bool.{Bool, true, false}
 use mathlib.Core.List.{List, [], ◌∷◌, ◌++◌}
 use mathlib.Core.Option.{none, some}
-use lib.Dec.{leb}
 use lib.ListN.{length, take, drop, get_or, length-take, length-drop}
 use lib.Seq.{get_or-take, get_or-drop}
 use borrow.Author.Tests.{lt-leb, le-leb}
@@ -18,41 +19,28 @@ use Rattle.definition.specs.Records.{field_rec}
 use Rattle.definition.specs.Spaces.{brings, source_space, segments}
 use Rattle.definition.specs.Read.{field_body, source_body, own_body, is_start}
 use Rattle.area.specs.Layout.{MARK, STRICT, end_at}
-use Rattle.syntax.specs.Items.{room_of, source_of, none_seen}
+use Rattle.syntax.specs.Items.{room_of, source_of}
 use Rattle.syntax.specs.declared.Seen.{Seen}
 use Rattle.syntax.specs.declared.Own.TheVariants as O
 use Rattle.syntax.specs.declared.Source.{Source}
 use Rattle.syntax.specs.declared.Source.TheVariants as S
 use Rattle.reread.specs.Known.{ReadableHead, ReadableField}
 use Rattle.syntax.specs.Fields.{field_of, field_at}
+use Rattle.syntax.specs.declared.Fault.{Fault}
 use Rattle.syntax.specs.declared.Field.{Field}
 use Rattle.syntax.specs.declared.Field.TheVariants as F
-use Rattle.syntax.specs.declared.FieldAt.{FieldAt}
-use Rattle.syntax.specs.declared.FieldAt.TheVariants as FA
 use Rattle.next_record.specs.Uses.{any_use, end_word}
 use Rattle.syntax.specs.Marks.{no_marks, inside_of, marks_in}
 use Rattle.next_record.specs.Places.{body_of}
 use Rattle.counting.specs.Counting.{one_more, source_brings, field_seen}
 use Rattle.next_record.specs.Answers.{field_depth}
 use Rattle.counting.proofs.Counts.{extern_brings_lem, own-brings}
-use Rattle.walk.specs.Walk.{begin, on_visit, body_in, after_field, counting, seen_with, cursor_after, visit_at, visit_in, end_of, end_here, ends_from, Ahead, end_record, end_in, uses_in, stop_in, cursor_in}
+use Rattle.walk.specs.Walk.{on_visit, body_in, after_field, counting, seen_with, cursor_after, visit_at, visit_in, end_of, end_here, ends_from, Ahead, end_record, end_in, stop_in, cursor_in}
 use Rattle.instr.proofs.Stretches.{body_reach}
 use Rattle.walk.specs.declared.Cursor.{Cursor}
 use Rattle.walk.specs.declared.Stop.{Stop}
 
 -- ## The small steps of the code
-
-pub start_is : (seen : Seen) → seen ≡ none_seen → ◌≡◌ {A = Cursor} (record { at = 0; rec = 0; own = 0; left = 4096; seen = seen }) begin
-unfolding begin
-start_is seen e = rw e
-
-pub end_is : (w : List ℕ) (n a x r : ℕ) → a ≡ get_or w (end_at n) 0 → x ≡ get_or w (end_at n + 1) 0 → r ≡ end_record x → ◌≡◌ {A = Stop} (record { at = a; rec = r }) (end_in w n)
-unfolding end_in
-end_is w n a x r e d g = rw (e, g, d)
-
-pub uses-is : (w : List ℕ) (n r : ℕ) → r ≡ get_or w (end_at n + 1) 0 → leb MARK r ≡ uses_in w n
-unfolding uses_in
-uses-is w n r e = rw e
 
 -- the walk goes on right there
 pub stop_here : (w : List ℕ) (c : Cursor) (d here : ℕ) → d < 1 → ◌≡◌ {A = Stop} (record { at = here; rec = c.rec + 1 }) (stop_in d w c here)
@@ -64,10 +52,7 @@ pub stop_end : (w : List ℕ) (c : Cursor) (r : Stop) (d here : ℕ) → 1 ≤ d
 stop_end w c r zero here h e = absurd (omega arith)
 stop_end w c r (suc d) here h e = e
 
-pub next-is : (w : List ℕ) (c : Cursor) (f : Field) (here d : ℕ) (stop : Stop) (seen : Seen) → d ≡ field_depth f → stop ≡ stop_in d w c here → seen ≡ field_seen c.seen f
-    → ◌≡◌ {A = Cursor} (record { at = stop.at; rec = stop.rec; own = c.own + d; left = c.left - 1; seen = seen }) (cursor_in w c f here)
-unfolding cursor_in
-next-is w c f here d stop seen e g k = rw (g, k, e)
+pub ruleset stops = (stop_here, stop_end)
 
 -- ## What a field brings
 
@@ -109,6 +94,8 @@ depth-few (F.Data i m d) = omega arith
 -- one own function more fits a word
 pub own-fits : (c : Cursor) (f : Field) (d : ℕ) → d ≡ field_depth f → 1 ≤ c.left → c.own + c.left ≤ 4096 → Fits w32 (c.own + d)
 own-fits c f d e h g = let k = depth-few f in record { fits = omega arith }
+
+pub ruleset depths = (own-fits)
 
 body_is : (s : Bytes) (f : Field) → field_body (field_of s f) ≡ body_of (field_depth f) no_marks
 unfolding field_body source_body own_body inside_of marks_in
@@ -199,14 +186,14 @@ module _ (s : Bytes) (c : Cursor) where
   unfolding visit_at
   visit_end l h g = some_left l ∙ rw (lt-leb _ _ h, le-leb _ _ g)
 
-  module _ (l : 1 ≤ c.left) (h : c.rec < 4096) (g : c.at < length s) (r : FieldAt) (e : field_rec (room_of c.seen) s c.at ≡ field_at s r) where
+  module _ (l : 1 ≤ c.left) (h : c.rec < 4096) (g : c.at < length s) (r : Read Field) (e : field_rec (room_of c.seen) s c.at ≡ field_at s r) where
     -- no field is read
-    pub visit_fault : (n : ℕ) → r ≡ FA.Fault n → visit_in c.left c s ≡ none
+    pub visit_fault : (n : Fault) → r ≡ Err n → visit_in c.left c s ≡ none
     unfolding visit_at
     visit_fault n d = some_left l ∙ rw (lt-leb _ _ h, lt-leb _ _ g, e, d)
 
     -- one is
-    pub visit_got : (w : List ℕ) (f : Field) (here : ℕ) (next : Cursor) → Ahead s w c → r ≡ FA.Got f here → next ≡ cursor_in w c f here
+    pub visit_got : (w : List ℕ) (f : Field) (here : ℕ) (next : Cursor) → Ahead s w c → r ≡ Ok (f, here) → next ≡ cursor_in w c f here
         → visit_in c.left c s ≡ some (record { field = field_of s f; head_end = here; next = next })
     unfolding visit_at
     visit_got w f here next v d k =
@@ -218,5 +205,5 @@ module _ (s : Bytes) (c : Cursor) where
 pub ruleset visit-ways = (visit_none, visit_full, visit_end, visit_fault, visit_got)
 
 -- the lists of the head that was read can be read again
-pub visit_head : (s : Bytes) (r : FieldAt) (f : Field) (here : ℕ) → r ≡ FA.Got f here → ReadableField s r → ReadableHead s f
+pub visit_head : (s : Bytes) (r : Read Field) (f : Field) (here : ℕ) → r ≡ Ok (f, here) → ReadableField s r → ReadableHead s f
 visit_head s r f here d v = subst (ReadableField s) d v

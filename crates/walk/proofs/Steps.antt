@@ -1,4 +1,5 @@
 -- What a visit tells a caller. `told` is the visit's promise, and `is` is what a match on the answer gives.
+use Rattle.std.specs.Prelude.{Some, None}
 use Rattle.std.specs.Prelude.{if◌then◌else◌}
 use mathlib.Core.Path.{◌≡◌, refl, ap, sym, ◌∙◌, subst}
 use Prim.Native.Nat.{ℕ, zero, suc, ◌+◌, ◌-◌, ◌≤◌, ◌<◌}
@@ -38,7 +39,6 @@ use Rattle.area.specs.Kept.{Kept}
 use Rattle.walk.specs.Walk.{on_visit, body_in, bodies, cursor_after, whole_field, on_field, sound, Visited, visit_step, visit_at, visit_in, visit_of, ReadableMet, met_of, fields_here, fields_from, fields_ahead, end_of, end_here, ends_from, Ahead, uses_in}
 use Rattle.walk.specs.declared.Cursor.{Cursor}
 use Rattle.walk.specs.declared.Met.{Met}
-use Rattle.walk.specs.declared.What.TheVariants as W
 use Rattle.walk.proofs.Cursors.{end_words_lem}
 use Rattle.area.proofs.Kept.{kept_less}
 use Rattle.area.proofs.Flags.{flag-kept}
@@ -140,7 +140,7 @@ unused ((r, x) ∷ xs) e = go (may_use x) refl e (unused xs)
 
 module _ (s : Bytes) (c : Cursor) (r : Met) (told : visit_in c.left c s ≡ visit_of s r) where
   -- the walk is over
-  pub visit_done : r.what ≡ W.Done → fields_ahead c s ≡ []
+  pub visit_done : r.what ≡ None → fields_ahead c s ≡ []
   unfolding fields_ahead fields_from
   visit_done is = go c.left (told ∙ ap (λ z. met_of s z r.next) is)
     where
@@ -148,7 +148,7 @@ module _ (s : Bytes) (c : Cursor) (r : Met) (told : visit_in c.left c s ≡ visi
       go zero e = refl
       go (suc n) e = ap (λ z. on_visit z (λ v. fields_here c s v ++ fields_from n v.next s) []) e
 
-  module _ (f : Field) (here : ℕ) (is : r.what ≡ W.Field f here) where
+  module _ (f : Field) (here : ℕ) (is : r.what ≡ Some (f, here)) where
     at_met : (1 ≤ c.left) × (visit_at c s ≡ some (record { field = field_of s f; head_end = here; next = r.next }))
     at_met = some_visit s c (record { field = field_of s f; head_end = here; next = r.next }) (told ∙ ap (λ z. met_of s z r.next) is)
 
@@ -268,7 +268,7 @@ module _ (s : Bytes) (c : Cursor) (r : Met) (told : visit_in c.left c s ≡ visi
             }
 
 -- the lists of a function's head that was met can be read again
-pub visit_readable : (s : Bytes) (r : Met) (f : Field) (here : ℕ) → r.what ≡ W.Field f here → ReadableMet s r.what → ReadableHead s f
+pub visit_readable : (s : Bytes) (r : Met) (f : Field) (here : ℕ) → r.what ≡ Some (f, here) → ReadableMet s r.what → ReadableHead s f
 visit_readable s r f here is v = subst (ReadableMet s) is v
 
 -- ## The work area

@@ -1,4 +1,5 @@
 -- The fields of a stream as the later passes meet them: total, whatever the stream is. On an accepted stream they are the definition's.
+use Rattle.std.specs.Prelude.{Option as Optional, Some, None}
 use Rattle.std.specs.Prelude.{ℕ, zero, suc, ◌+◌, ◌-◌, ◌≤◌, ◌≡◌, Bool, true, false, ◌&&◌, ◌||◌, List, [], ◌∷◌, ◌++◌, map, leb, length, take, drop, get_or, if◌then◌else◌}
 use Rattle.std.proofs.Math.Option.{Option, none, some}
 use Rattle.definition.specs.Basic.{any}
@@ -24,8 +25,6 @@ use Rattle.instr.specs.Bodies.{body_from}
 use Rattle.walk.specs.declared.Cursor.{Cursor}
 use Rattle.walk.specs.declared.Stop.{Stop}
 use Rattle.walk.specs.declared.Met.{Met}
-use Rattle.walk.specs.declared.What.{What}
-use Rattle.walk.specs.declared.What.TheVariants as W
 
 -- ## Bodies
 
@@ -107,17 +106,17 @@ abbrev pub visit_in : ℕ → Cursor → Bytes → Option Visited
 visit_in zero c s = none
 visit_in (suc left) c s = visit_at c s
 
-abbrev pub met_of : Bytes → What → Cursor → Option Visited
-met_of s (W.Field f here) next = some (record { field = field_of s f; head_end = here; next = next })
-met_of s W.Done next = none
+abbrev pub met_of : Bytes → Optional (Field × ℕ) → Cursor → Option Visited
+met_of s (Some (f, here)) next = some (record { field = field_of s f; head_end = here; next = next })
+met_of s None next = none
 
 abbrev pub visit_of : Bytes → Met → Option Visited
 visit_of s m = met_of s m.what m.next
 
 -- the lists of a function's head that was met can be read again
-abbrev pub ReadableMet : Bytes → What → Type 0
-ReadableMet s (W.Field f here) = ReadableHead s f
-ReadableMet s W.Done = Unit {0}
+abbrev pub ReadableMet : Bytes → Optional (Field × ℕ) → Type 0
+ReadableMet s (Some (f, here)) = ReadableHead s f
+ReadableMet s None = Unit {0}
 
 -- ## All fields
 

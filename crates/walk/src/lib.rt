@@ -4,7 +4,7 @@
 ghost use Rattle.std.specs.Prelude.{◌≡◌, ◌+◌, ◌≤◌, ◌<◌};
 ghost use Rattle.walk.specs.Walk.{Ahead, visit_in, visit_of, ReadableMet, begin, end_record, end_in, uses_in, stop_in, cursor_in};
 
-use syntax::{Field, FieldAt, Seen};
+use syntax::{Field, Seen};
 
 // Where a walk stands: the byte and the number of the next record, how many own functions came before it, how many fields it may
 // still visit, and what the fields before have brought.
@@ -24,21 +24,15 @@ pub struct Stop {
     pub rec: u32,
 }
 
-#[derive(Clone, Copy)]
-pub enum What {
-    // a field, and the place after it (of an own function: where its body begins)
-    Field(Field, usize),
-    Done,
-}
-
 // What a walk meets, and where it goes on.
 #[derive(Clone, Copy)]
 pub struct Met {
-    pub what: What,
+    pub what: Option<(Field, usize)>,
     pub next: Cursor,
 }
 
 // Before the first field.
+#[tactic(auto, unfolding(crate::specs::Walk::begin))]
 pub fn start() -> Cursor
     ensures { result ≡ begin }
 {
@@ -52,6 +46,7 @@ pub fn start() -> Cursor
 }
 
 // The record in the second word of a body's end.
+#[tactic(auto, using(laws::proofs::Exits::exits), unfolding(crate::specs::Walk::end_record))]
 fn end_record(x: u32) -> u32
     ensures { result ≡ end_record x }
 {
@@ -62,6 +57,7 @@ fn end_record(x: u32) -> u32
 }
 
 // Where the n-th body ended.
+#[tactic(auto, unfolding(crate::specs::Walk::end_in))]
 fn body_end(work: &[u32], n: u32) -> Stop
     ensures { result ≡ end_in work.now n }
 {
@@ -75,6 +71,7 @@ fn body_end(work: &[u32], n: u32) -> Stop
 }
 
 // May the n-th body use a type? If not, interning has nothing to do there.
+#[tactic(auto, unfolding(crate::specs::Walk::uses_in))]
 pub fn body_uses(work: &[u32], n: u32) -> bool
     ensures { result ≡ uses_in work.now n }
 {
@@ -83,6 +80,7 @@ pub fn body_uses(work: &[u32], n: u32) -> bool
 }
 
 // Where the walk goes on after a field whose head ends at `here`: after the body of an own function, or right there.
+#[tactic(auto, using(crate::proofs::Cursors::stops))]
 fn next_stop(work: &[u32], c: Cursor, depth: u32, here: usize) -> Stop
     requires { c.rec < 4096 }
     ensures { result ≡ stop_in depth work.now c here }
@@ -96,6 +94,7 @@ fn next_stop(work: &[u32], c: Cursor, depth: u32, here: usize) -> Stop
     body_end(work, c.own)
 }
 
+#[tactic(auto, using(crate::proofs::Cursors::depths), unfolding(crate::specs::Walk::cursor_in))]
 fn next_cursor(work: &[u32], c: Cursor, f: Field, here: usize) -> Cursor
     requires { (c.rec < 4096) × (1 ≤ c.left) × (c.own + c.left ≤ 4096) }
     ensures { result ≡ cursor_in work.now c f here }
@@ -119,35 +118,30 @@ pub fn visit(s: &[u8], work: &[u32], c: Cursor) -> Met
 {
     if c.left < 1 {
         return Met {
-            what: What::Done,
+            what: None,
             next: c,
         };
     }
     if 4096 <= c.rec {
         return Met {
-            what: What::Done,
+            what: None,
             next: c,
         };
     }
     if s.len() <= c.at {
         return Met {
-            what: What::Done,
+            what: None,
             next: c,
         };
     }
     match reread::known_field(s, c.at, c.seen) {
-        FieldAt::Got(f, here) => {
-            let next = next_cursor(work, c, f, here);
-            return Met {
-                what: What::Field(f, here),
-                next,
-            };
-        }
-        FieldAt::Fault(_) => {
-            return Met {
-                what: What::Done,
-                next: c,
-            };
-        }
+        Ok((f, here)) => Met {
+            what: Some((f, here)),
+            next: next_cursor(work, c, f, here),
+        },
+        Err(_) => Met {
+            what: None,
+            next: c,
+        },
     }
 }

@@ -1,4 +1,3 @@
-use Prim.Native.Nat.{◌-◌}
 use Rattle.counting.proofs.Words.{counting-begin, counting_again, counting-done, counting-long}
 use borrow.Author.Rules.{rules}
 use Rattle.counting.proofs.put_counts.Goals as goal

@@ -3,34 +3,34 @@ use borrow.Author.Rules.{rules}
 use Rattle.entries.proofs.emit_other.Goals as goal
 
 pub returns-in-Nothing : goal.returns-in-Nothing
-returns-in-Nothing c = search arm_nothing
+returns-in-Nothing c = search (arm_nothing, rules)
 
-pub emit_import-r-requires : goal.emit_import-r-requires
-emit_import-r-requires c = search uses_import
+pub emit_import-requires : goal.emit_import-requires
+emit_import-requires c = search (uses_import, rules)
 
 pub returns-in-Import : goal.returns-in-Import
-returns-in-Import c = search arm_import
+returns-in-Import c = search (arm_import, rules)
 
-pub emit_type_no-r-requires : goal.emit_type_no-r-requires
-emit_type_no-r-requires c = search uses-func
+pub emit_type_no-requires : goal.emit_type_no-requires
+emit_type_no-requires c = search (uses-func, rules)
 
 pub returns-in-Func : goal.returns-in-Func
-returns-in-Func c = search arm_func
+returns-in-Func c = search (arm_func, rules)
 
 pub returns-in-Table : goal.returns-in-Table
-returns-in-Table c = search arm_table
+returns-in-Table c = search (arm_table, rules)
 
 pub returns-in-InlineTable : goal.returns-in-InlineTable
-returns-in-InlineTable c = search arm_inline_table
+returns-in-InlineTable c = search (arm_inline_table, rules)
 
 pub returns-in-Mem : goal.returns-in-Mem
-returns-in-Mem c = search arm_mem
+returns-in-Mem c = search (arm_mem, rules)
 
 pub returns-in-InlineMem : goal.returns-in-InlineMem
-returns-in-InlineMem c = search arm_inline_mem
+returns-in-InlineMem c = search (arm_inline_mem, rules)
 
 pub returns-in-Global : goal.returns-in-Global
-returns-in-Global c = search arm_global
+returns-in-Global c = search (arm_global, rules)
 
 pub emit_late-requires : goal.emit_late-requires
 emit_late-requires c =

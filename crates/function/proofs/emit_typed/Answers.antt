@@ -3,10 +3,10 @@ use borrow.Author.Rules.{rules}
 use Rattle.function.proofs.emit_typed.Goals as goal
 
 pub emit_sized-requires : goal.emit_sized-requires
-emit_sized-requires c = (search (typed_long, rules), search typed-few, search rules, search typed-resolvable, search rules)
+emit_sized-requires c = (search (typed_long, rules), search (typed-few, rules), search rules, search (typed-resolvable, rules), search rules)
 
-pub returns-in-Set : goal.returns-in-Set
-returns-in-Set c = search typed_to
+pub returns : goal.returns
+returns c = typed_to _ _ _ _ _ _ _ _ _ c.in_ok-l.ensures _ _ _ _ _ c.emit_sized.ensures
 
-pub returns-in-Refused : goal.returns-in-Refused
-returns-in-Refused c = search typed_not
+pub returns-in_err-l : goal.returns-in_err-l
+returns-in_err-l c = typed_not _ _ _ _ _ _ _ _ _ _ _ _ c.in_err-l.ensures c.from_residual.ensures.0 c.from_residual.ensures.1

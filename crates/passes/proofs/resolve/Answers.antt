@@ -1,8 +1,9 @@
 use Rattle.passes.proofs.Stages.{resolve-done, resolve_not}
+use borrow.Author.Rules.{rules}
 use Rattle.passes.proofs.resolve.Goals as goal
 
-pub returns-in-Fine : goal.returns-in-Fine
-returns-in-Fine c = search resolve-done
+pub returns : goal.returns
+returns c = resolve-done _ _ _ _ _ _ _ c.in_ok-tally.ensures (search rules)
 
-pub returns-in-Refused : goal.returns-in-Refused
-returns-in-Refused c = search resolve_not
+pub returns-in_err-tally : goal.returns-in_err-tally
+returns-in_err-tally c = search (resolve_not, rules)

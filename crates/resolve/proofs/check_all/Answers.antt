@@ -1,44 +1,28 @@
-use Rattle.resolve.proofs.Sweep.{sweep_begin, sweep_long, sweep_ahead, sweep_slots, sweep_ready, sweep_again, sweep_length, sweep_bytes, sweep_sizes, sweep_counts, swept, stopped}
+use mathlib.Core.Path.{refl}
+use Rattle.resolve.proofs.Sweep.{sweep_begin, sweep_long, sweep_ahead, sweep_ready, sweep_again, swept, stopped}
 use Rattle.walk.proofs.Steps.{visit_less, visit_few}
 use borrow.Author.Rules.{rules}
 use Rattle.resolve.proofs.check_all.Goals as goal
 
 pub loop-f-init : goal.loop-f-init
-loop-f-init c = search sweep_begin
+loop-f-init c = search (sweep_begin, rules)
 
 pub visit-m-requires : goal.visit-m-requires
-visit-m-requires c = search sweep_ahead
+visit-m-requires c = search (sweep_ahead, rules)
 
 pub check_field-requires : goal.check_field-requires
 check_field-requires c =
-    (record { lent = record { stream = search rules; area = search (sweep_long, rules) }; few = search visit_few }, search sweep_ready, search sweep_slots)
+    (record { lent = record { stream = search rules; area = search (sweep_long, rules) }; few = search (visit_few, rules) }, search (sweep_ready, rules))
 
 pub loop-f-smaller : goal.loop-f-smaller
-loop-f-smaller c = search visit_less
+loop-f-smaller c = visit_less _ _ _ c.visit-m.ensures.0 _ _ c.in-Some.is
 
 pub loop-f-preserved : goal.loop-f-preserved
-loop-f-preserved c = search sweep_again
+loop-f-preserved c = search (sweep_again, rules)
 
-pub shape_of-work-in-Refused : goal.shape_of-work-in-Refused
-shape_of-work-in-Refused c = search sweep_length
+pub returns-in-None : goal.returns-in-None
+returns-in-None c = search (swept, rules)
 
-pub shape_of-kept-in-Refused : goal.shape_of-kept-in-Refused
-shape_of-kept-in-Refused c = search sweep_bytes
-
-pub shape_of-sizes-in-Refused : goal.shape_of-sizes-in-Refused
-shape_of-sizes-in-Refused c = search sweep_sizes
-
-pub shape_of-counts-in-Refused : goal.shape_of-counts-in-Refused
-shape_of-counts-in-Refused c = search sweep_counts
-
-pub returns-in-Refused : goal.returns-in-Refused
-returns-in-Refused c = search stopped
-
-pub shape_of-sizes-in-Done : goal.shape_of-sizes-in-Done
-shape_of-sizes-in-Done c = search sweep_sizes
-
-pub shape_of-counts-in-Done : goal.shape_of-counts-in-Done
-shape_of-counts-in-Done c = search sweep_counts
-
-pub returns-in-Done : goal.returns-in-Done
-returns-in-Done c = search swept
+pub returns-in_err-check_field-in-Some : goal.returns-in_err-check_field-in-Some
+returns-in_err-check_field-in-Some c =
+    stopped _ _ _ _ _ _ _ _ c.loop-f.invariant _ c.visit-m.ensures.0 _ _ _ _ _ _ _ _ c.in_err-check_field-in-Some.ensures c.in-Some.is refl c.from_residual.ensures.0 c.from_residual.ensures.1

@@ -1,15 +1,15 @@
-use Rattle.resolve.proofs.Checking.{after_slots, long_after, field-first, field-second, field-third, field_then, field_not}
+use Rattle.resolve.proofs.Checking.{long_after, field-first, field-second, field-third, field_then, field_not}
 use borrow.Author.Rules.{rules}
 use Rattle.resolve.proofs.check_field.Goals as goal
 
 pub check_entry-requires : goal.check_entry-requires
-check_entry-requires c = (search rules, search field-first, search rules)
+check_entry-requires c = (search rules, search (field-first, rules))
 
 pub check_rest-requires : goal.check_rest-requires
-check_rest-requires c = (search (long_after, rules), search field-second, search field-third, search after_slots)
+check_rest-requires c = (search (long_after, rules), search (field-second, rules), search (field-third, rules))
 
-pub returns-in-Fine : goal.returns-in-Fine
-returns-in-Fine c = search field_then
+pub returns : goal.returns
+returns c = field_then _ _ _ _ _ _ _ _ _ _ _ c.first_of-first.ensures _ _ _ _ c.in_ok-check_entry.ensures c.check_rest.ensures
 
-pub returns-in-Refused : goal.returns-in-Refused
-returns-in-Refused c = search field_not
+pub returns-in_err-check_entry : goal.returns-in_err-check_entry
+returns-in_err-check_entry c = search (field_not, rules)

@@ -5,22 +5,22 @@ use Rattle.survey.proofs.Surveying.{surveying_begin, surveying_done, surveying_s
 use Rattle.survey.proofs.survey_fields.Goals as goal
 
 pub loop-f-init : goal.loop-f-init
-loop-f-init c = search surveying_begin
+loop-f-init c = search (surveying_begin, rules)
 
-pub returns-in-Late : goal.returns-in-Late
-returns-in-Late c = search (reaches_so, surveying_late)
+pub returns-in_default-late_after : goal.returns-in_default-late_after
+returns-in_default-late_after c = search (reaches_so, surveying_late, rules)
 
 pub take_field-took-requires : goal.take_field-took-requires
-take_field-took-requires c = (search rules, search rules, search visit_few, search surveying_skips, search surveying_whole, search visit_readable, search registering_fit)
+take_field-took-requires c = (search rules, search rules, search (visit_few, rules), search (surveying_skips, rules), search (surveying_whole, rules), search (visit_readable, rules), search (registering_fit, rules))
 
 pub loop-f-smaller : goal.loop-f-smaller
-loop-f-smaller c = search visit_less
+loop-f-smaller c = search (visit_less, rules)
 
 pub loop-f-preserved : goal.loop-f-preserved
-loop-f-preserved c = search (surveying_again, surveying_order)
+loop-f-preserved c = search (surveying_again, surveying_order, rules)
+
+pub returns-in_default-took : goal.returns-in_default-took
+returns-in_default-took c = search (reaches_so, surveying_stops, surveying_order, rules)
 
 pub returns-in_default : goal.returns-in_default
-returns-in_default c = search (reaches_so, surveying_stops, surveying_order)
-
-pub returns-in-Done : goal.returns-in-Done
-returns-in-Done c = search (reaches_so, surveying_done)
+returns-in_default c = search (reaches_so, surveying_done, rules)

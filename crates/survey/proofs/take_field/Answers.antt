@@ -1,11 +1,12 @@
+use borrow.Author.Rules.{rules}
 use Rattle.survey.proofs.Surveying.{take-stops, take_done, take-refused}
 use Rattle.survey.proofs.take_field.Goals as goal
 
-pub returns-in-Done : goal.returns-in-Done
-returns-in-Done c = search take_done
+pub returns-in-Ok-register_field : goal.returns-in-Ok-register_field
+returns-in-Ok-register_field c = search (take_done, rules)
 
-pub returns-in-Refused-register_field : goal.returns-in-Refused-register_field
-returns-in-Refused-register_field c = search take-refused
+pub returns-in-Err-register_field : goal.returns-in-Err-register_field
+returns-in-Err-register_field c = search (take-refused, rules)
 
-pub returns-in-Refused : goal.returns-in-Refused
-returns-in-Refused c = search take-stops
+pub returns-in-Err : goal.returns-in-Err
+returns-in-Err c = search (take-stops, rules)

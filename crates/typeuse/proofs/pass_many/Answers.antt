@@ -1,15 +1,9 @@
-use Rattle.laws.proofs.Passing.{pass-begin, passes}
-use Rattle.typeuse.proofs.Ways.{skip-past, skip-stops}
+use Rattle.std.proofs.Common.{rules}
+use Rattle.definition.specs.Reader.{many}
+use Rattle.token.proofs.Counts.{counts}
+use Rattle.token.proofs.Skips.{skip_fails}
 use Rattle.typeuse.proofs.pass_many.Goals as goal
 
-pub loop-left-init : goal.loop-left-init
-loop-left-init c = search pass-begin
-
-pub returns-in-Fault : goal.returns-in-Fault
-returns-in-Fault c = search (passes, skip-stops)
-
-pub loop-left-preserved : goal.loop-left-preserved
-loop-left-preserved c = search (passes, skip-past)
-
-pub returns : goal.returns
-returns c = search passes
+pub returns-in_err-here : goal.returns-in_err-here
+unfolding many
+returns-in_err-here c = search (skip_fails, counts, rules)

@@ -15,8 +15,8 @@ returns-then-s-c c = search visit-ways
 pub known_field-requires : goal.known_field-requires
 known_field-requires c = search (visit_sound, rules)
 
-pub returns-in-Got : goal.returns-in-Got
-returns-in-Got c = (search visit-ways, search visit_head)
+pub returns-in-Ok : goal.returns-in-Ok
+returns-in-Ok c = (search visit-ways, search visit_head)
 
-pub returns-in-Fault : goal.returns-in-Fault
-returns-in-Fault c = search visit-ways
+pub returns-in-Err : goal.returns-in-Err
+returns-in-Err c = search visit-ways

@@ -9,10 +9,10 @@ pub plain_record-requires : goal.plain_record-requires
 plain_record-requires c = search (operator-plain_gets, rules)
 
 pub returns-in-Calling : goal.returns-in-Calling
-returns-in-Calling c = search (operators) depth 12
+returns-in-Calling c = search (operators, rules) depth 12
 
 pub returns-in-Operands : goal.returns-in-Operands
-returns-in-Operands c = search (operators) depth 12
+returns-in-Operands c = search (operators, rules) depth 12
 
 pub returns-in_default : goal.returns-in_default
-returns-in_default c = search (operators) depth 12
+returns-in_default c = search (operators, rules) depth 12

@@ -1,5 +1,6 @@
 use borrow.Author.Rules.{rules}
-use Rattle.frames.proofs.Entries.{putting_begin, putting_readable, putting_long, putting_area, putting_room, puttings}
+use Rattle.syntax.proofs.Ways.{handed}
+use Rattle.frames.proofs.Entries.{putting_begin, putting_readable, putting_area, putting_room, puttings}
 use Rattle.frames.proofs.locals.put_locals.Goals as goal
 
 pub loop-left-init : goal.loop-left-init
@@ -12,22 +13,13 @@ pub put_local-requires : goal.put_local-requires
 put_local-requires c = search (putting_room, putting_area, rules)
 
 pub loop-left-preserved : goal.loop-left-preserved
-loop-left-preserved c = search (puttings) depth 12
+loop-left-preserved c = search (puttings, c.in_ok-more-in-Ok.ensures) depth 12
 
-pub shape_of-work-in-Refused : goal.shape_of-work-in-Refused
-shape_of-work-in-Refused c = search (putting_long, rules)
+pub returns-in_err-more-in-Ok : goal.returns-in_err-more-in-Ok
+returns-in_err-more-in-Ok c = rw (handed _ _ c.from_residual.ensures.0 c.from_residual.ensures.1) (search (puttings, c.in_err-more-in-Ok.ensures) depth 12)
 
-pub returns-in-Refused : goal.returns-in-Refused
-returns-in-Refused c = search (puttings) depth 12
-
-pub shape_of-work-in-Fault : goal.shape_of-work-in-Fault
-shape_of-work-in-Fault c = search (putting_long, rules)
-
-pub returns-in-Fault : goal.returns-in-Fault
-returns-in-Fault c = search (puttings) depth 12
-
-pub shape_of-work : goal.shape_of-work
-shape_of-work c = search (putting_long, rules)
+pub returns-in-Err : goal.returns-in-Err
+returns-in-Err c = search (puttings) depth 12
 
 pub returns : goal.returns
 returns c = search (puttings) depth 12

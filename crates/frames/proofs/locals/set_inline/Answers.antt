@@ -1,15 +1,16 @@
-use Rattle.frames.proofs.Distinct.{inlines, inline_area, inline_room}
 use borrow.Author.Rules.{rules}
+use Rattle.syntax.proofs.Ways.{handed}
+use Rattle.frames.proofs.Distinct.{inlines, inline_area, inline_room}
 use Rattle.frames.proofs.locals.set_inline.Goals as goal
 
-pub put_locals-requires-in-Now : goal.put_locals-requires-in-Now
-put_locals-requires-in-Now c = search (inline_room, inline_area, rules)
+pub put_locals-requires-2 : goal.put_locals-requires-2
+put_locals-requires-2 c = search (inline_room, inline_area, rules, c.in_ok-n.ensures)
 
-pub returns-in-Now-put_locals : goal.returns-in-Now-put_locals
-returns-in-Now-put_locals c = search (inlines) depth 12
+pub returns : goal.returns
+returns c = search (inlines, c.in_ok-n.ensures, c.in_ok-count.ensures) depth 12
 
-pub returns-in-Refused-put_locals : goal.returns-in-Refused-put_locals
-returns-in-Refused-put_locals c = search (inlines) depth 12
+pub returns-in_err-count : goal.returns-in_err-count
+returns-in_err-count c = rw (handed _ _ c.from_residual-in_err-count.ensures.0 c.from_residual-in_err-count.ensures.1) (search (inlines, c.in_ok-n.ensures, c.in_err-count.ensures) depth 12)
 
-pub returns-in-Refused : goal.returns-in-Refused
-returns-in-Refused c = search (inlines) depth 12
+pub returns-in_err-n : goal.returns-in_err-n
+returns-in_err-n c = rw (handed _ _ c.from_residual.ensures.0 c.from_residual.ensures.1) (search (inlines, c.in_err-n.ensures) depth 12)

@@ -1,16 +1,18 @@
-use Rattle.interning.proofs.Handled.{handles_indexed}
+use Rattle.interning.proofs.Handled.{handles_indexed, handing}
 use Rattle.interning.proofs.Bodies.{func-body, func_skips, func-refused}
+use native.Mathlib.Omega.{arith}
+use mathlib.Core.Path.{refl}
 use borrow.Author.Rules.{rules}
 use Rattle.interning.proofs.body.use_func.Goals as goal
 
 pub use_body-requires : goal.use_body-requires
-use_body-requires c = search (handles_indexed, rules)
+use_body-requires c = (search rules, handles_indexed _ _ _ _ _ _ _ _ c.use_type.ensures _ c.in_ok-k.was, omega (arith, c.requires.2), search rules)
 
 pub returns-then-looks : goal.returns-then-looks
-returns-then-looks c = search func-body
+returns-then-looks c = search (func-body, refl, rules)
 
-pub returns-else-looks : goal.returns-else-looks
-returns-else-looks c = search func_skips
+pub returns : goal.returns
+returns c = search (func_skips, refl, rules)
 
-pub returns-in-Refused : goal.returns-in-Refused
-returns-in-Refused c = search func-refused
+pub returns-in_err-k : goal.returns-in_err-k
+returns-in_err-k c = search (func-refused, handing, rules)

@@ -15,8 +15,8 @@ loop-count-smaller c = search visit_less
 pub loop-count-preserved : goal.loop-count-preserved
 loop-count-preserved c = search declaring_again
 
-pub returns-in-Done : goal.returns-in-Done
-returns-in-Done c = search declaring_done
+pub returns-in-None : goal.returns-in-None
+returns-in-None c = search declaring_done
 
 pub returns : goal.returns
 returns c = search (declaring_found, rules)

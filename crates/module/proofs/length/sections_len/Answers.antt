@@ -1,4 +1,3 @@
-use Prim.Native.Nat.{◌-◌}
 use Rattle.module.proofs.Counting.{adding_begin, adding_again, adding_done, adding_few}
 use Rattle.module.proofs.length.sections_len.Goals as goal
 

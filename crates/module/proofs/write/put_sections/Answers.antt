@@ -1,4 +1,3 @@
-use Prim.Native.Nat.{◌-◌}
 use Rattle.module.proofs.Counting.{adding_few}
 use Rattle.module.proofs.Sections.{sections-begin, sections_again, sections-done, sections-long, sections-area}
 use Rattle.module.proofs.write.put_sections.Goals as goal

@@ -15,8 +15,8 @@ loop-f-smaller c = search visit_less
 pub loop-f-preserved : goal.loop-f-preserved
 loop-f-preserved c = search walking_again
 
-pub shape_of-out-in-Done : goal.shape_of-out-in-Done
-shape_of-out-in-Done c = search walking_long
+pub shape_of-out-in-None : goal.shape_of-out-in-None
+shape_of-out-in-None c = search walking_long
 
-pub returns-in-Done : goal.returns-in-Done
-returns-in-Done c = search walking_done
+pub returns-in-None : goal.returns-in-None
+returns-in-None c = search walking_done

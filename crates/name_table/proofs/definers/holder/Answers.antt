@@ -10,8 +10,8 @@ find_name-requires c = search held-table
 pub overflow_add-definers_base : goal.overflow_add-definers_base
 overflow_add-definers_base c = search held_place
 
-pub returns-in-At : goal.returns-in-At
-returns-in-At c = search (helds) depth 12
+pub returns-in-Some : goal.returns-in-Some
+returns-in-Some c = search (helds) depth 12
 
-pub returns-in-Nothing : goal.returns-in-Nothing
-returns-in-Nothing c = search (helds) depth 12
+pub returns-in-None : goal.returns-in-None
+returns-in-None c = search (helds) depth 12

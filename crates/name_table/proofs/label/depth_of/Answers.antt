@@ -10,8 +10,8 @@ returns-in-Absent c = search (numbers) depth 8
 pub returns-in-Number : goal.returns-in-Number
 returns-in-Number c = search (numbers) depth 8
 
-pub returns-in-At : goal.returns-in-At
-returns-in-At c = search (numbers) depth 8
+pub returns-in-Some : goal.returns-in-Some
+returns-in-Some c = search (numbers) depth 8
 
-pub returns-in-Nothing : goal.returns-in-Nothing
-returns-in-Nothing c = search (numbers) depth 8
+pub returns-in-None : goal.returns-in-None
+returns-in-None c = search (numbers) depth 8

@@ -1,11 +1,12 @@
+use Rattle.std.proofs.Common.{rules}
 use Rattle.next_record.proofs.Skims.{skims}
 use Rattle.next_record.proofs.skim.ends.Goals as goal
 
 pub returns-then-p-lt2 : goal.returns-then-p-lt2
-returns-then-p-lt2 c = search skims depth 8
+returns-then-p-lt2 c = search (rules, skims) depth 10
 
-pub returns-in-Past : goal.returns-in-Past
-returns-in-Past c = search skims depth 8
+pub returns-in_err-next : goal.returns-in_err-next
+returns-in_err-next c = search (rules, skims) depth 10
 
-pub returns-in-Fault : goal.returns-in-Fault
-returns-in-Fault c = search skims depth 8
+pub returns : goal.returns
+returns c = search (rules, skims) depth 10

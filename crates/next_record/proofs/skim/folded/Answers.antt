@@ -1,8 +1,9 @@
-use Rattle.next_record.proofs.Skims.{folded-ways}
+use Rattle.std.proofs.Common.{rules}
+use Rattle.next_record.proofs.Skims.{folded-refused, folded-ways}
 use Rattle.next_record.proofs.skim.folded.Goals as goal
 
-pub returns-in-Past : goal.returns-in-Past
-returns-in-Past c = search folded-ways depth 8
+pub returns-in_err-does : goal.returns-in_err-does
+returns-in_err-does c = folded-refused _ _ _ _ c.in_err-does.ensures c.from_residual.ensures.0 c.from_residual.ensures.1
 
-pub returns-in-Refused : goal.returns-in-Refused
-returns-in-Refused c = search folded-ways depth 8
+pub returns : goal.returns
+returns c = search (rules, folded-ways) depth 10

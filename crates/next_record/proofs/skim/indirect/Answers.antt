@@ -1,11 +1,12 @@
+use Rattle.std.proofs.Common.{rules}
 use Rattle.next_record.proofs.Skims.{skims}
 use Rattle.next_record.proofs.skim.indirect.Goals as goal
 
-pub returns-in-Got : goal.returns-in-Got
-returns-in-Got c = search skims depth 8
+pub returns-in_err-a : goal.returns-in_err-a
+returns-in_err-a c = search (rules, skims) depth 10
 
-pub returns-in-Fault-read_type_use : goal.returns-in-Fault-read_type_use
-returns-in-Fault-read_type_use c = search skims depth 8
+pub returns-in_err-next : goal.returns-in_err-next
+returns-in_err-next c = search (rules, skims) depth 10
 
-pub returns-in-Fault : goal.returns-in-Fault
-returns-in-Fault c = search skims depth 8
+pub returns : goal.returns
+returns c = search (rules, skims) depth 10

@@ -1,27 +1,18 @@
-use borrow.Author.Rules.{rules}
-use Rattle.operands.proofs.Turns.{each-begin, each_again, each_halts, each-fault, each-done, each_long}
+use Rattle.syntax.proofs.Ways.{handed}
+use Rattle.operands.proofs.Turns.{each-begin, each_again, each_halts, each-fault, each-done}
 use Rattle.operands.proofs.indices.emit_each.Goals as goal
 
 pub loop-left-init : goal.loop-left-init
 loop-left-init c = search each-begin
 
 pub loop-left-preserved : goal.loop-left-preserved
-loop-left-preserved c = search each_again
+loop-left-preserved c = search (each_again, c.in_ok-a-in-Ok.was)
 
-pub shape_of-out-in-Refused : goal.shape_of-out-in-Refused
-shape_of-out-in-Refused c = search (each_long, rules)
+pub returns-in_err-a-in-Ok : goal.returns-in_err-a-in-Ok
+returns-in_err-a-in-Ok c = rw (handed _ _ c.from_residual.ensures.0 c.from_residual.ensures.1) (search (each_halts, c.in_err-a-in-Ok.was))
 
-pub returns-in-Refused : goal.returns-in-Refused
-returns-in-Refused c = search each_halts
-
-pub shape_of-out-in-Fault : goal.shape_of-out-in-Fault
-shape_of-out-in-Fault c = search each_long
-
-pub returns-in-Fault : goal.returns-in-Fault
-returns-in-Fault c = search each-fault
-
-pub shape_of-out : goal.shape_of-out
-shape_of-out c = search each_long
+pub returns-in-Err : goal.returns-in-Err
+returns-in-Err c = search each-fault
 
 pub returns : goal.returns
 returns c = search each-done

@@ -1,8 +1,9 @@
+use Rattle.syntax.proofs.Ways.{handed}
 use Rattle.operands.proofs.Operands.{local_to, local_not}
 use Rattle.operands.proofs.operand.emit_local.Goals as goal
 
-pub returns-in-To : goal.returns-in-To
-returns-in-To c = search (local_to, local_not) depth 12
+pub returns : goal.returns
+returns c = search (local_to, c.in_ok-n.was) depth 12
 
-pub returns-in-Refused : goal.returns-in-Refused
-returns-in-Refused c = search (local_to, local_not) depth 12
+pub returns-in_err-n : goal.returns-in_err-n
+returns-in_err-n c = rw (handed _ _ c.from_residual.ensures.0 c.from_residual.ensures.1) (search (local_not, c.in_err-n.was) depth 12)

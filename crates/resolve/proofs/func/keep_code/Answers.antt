@@ -13,7 +13,7 @@ pub slice_bounds-emit_typed-end : goal.slice_bounds-emit_typed-end
 slice_bounds-emit_typed-end c = search (part-within, rules)
 
 pub emit_typed-requires : goal.emit_typed-requires
-emit_typed-requires c = (search rules, search own_body, search own-head)
+emit_typed-requires c = (search rules, search (own_body, rules), search (own-head, rules))
 
 pub returns : goal.returns
-returns c = search code-kept
+returns c = search (code-kept, rules)

@@ -13,4 +13,4 @@ pub slice_bounds-put_type_no-end : goal.slice_bounds-put_type_no-end
 slice_bounds-put_type_no-end c = search (part-within, rules)
 
 pub returns : goal.returns
-returns c = search number-kept
+returns c = search (number-kept, rules)

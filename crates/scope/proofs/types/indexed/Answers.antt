@@ -1,8 +1,9 @@
+use borrow.Author.Rules.{rules}
 use Rattle.scope.proofs.Numbers.{indexes}
 use Rattle.scope.proofs.types.indexed.Goals as goal
 
-pub returns-in-To : goal.returns-in-To
-returns-in-To c = search (indexes) depth 8
+pub returns : goal.returns
+returns c = search (rules, indexes) depth 8
 
-pub returns-in-Refused : goal.returns-in-Refused
-returns-in-Refused c = search (indexes) depth 8
+pub returns-in_err-n : goal.returns-in_err-n
+returns-in_err-n c = search (rules, indexes) depth 8

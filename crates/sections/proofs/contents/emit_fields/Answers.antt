@@ -23,11 +23,11 @@ loop-o-smaller c = search visit_less
 pub loop-o-preserved : goal.loop-o-preserved
 loop-o-preserved c = search emitting_again
 
-pub shape_of-work-in-Done : goal.shape_of-work-in-Done
-shape_of-work-in-Done c = search (emitting_long, emitting_area)
+pub shape_of-work-in-None : goal.shape_of-work-in-None
+shape_of-work-in-None c = search (emitting_long, emitting_area)
 
-pub shape_of-out-in-Done : goal.shape_of-out-in-Done
-shape_of-out-in-Done c = search (emitting_long, emitting_area)
+pub shape_of-out-in-None : goal.shape_of-out-in-None
+shape_of-out-in-None c = search (emitting_long, emitting_area)
 
-pub returns-in-Done : goal.returns-in-Done
-returns-in-Done c = search emitting_done
+pub returns-in-None : goal.returns-in-None
+returns-in-None c = search emitting_done

@@ -4,8 +4,8 @@ use Rattle.sections.proofs.contents.emit_rest.Goals as goal
 pub emit_item-requires : goal.emit_item-requires
 emit_item-requires c = (search rest-second, search rest-third)
 
-pub returns-in-Item : goal.returns-in-Item
-returns-in-Item c = search rest-item
+pub returns-in-Some : goal.returns-in-Some
+returns-in-Some c = search rest-item
 
-pub returns-in-Other : goal.returns-in-Other
-returns-in-Other c = search rest-none
+pub returns-in-None : goal.returns-in-None
+returns-in-None c = search rest-none

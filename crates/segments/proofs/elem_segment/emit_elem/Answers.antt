@@ -1,8 +1,9 @@
+use Rattle.syntax.proofs.Ways.{handed}
 use Rattle.segments.proofs.Segments.{elem_to, elem_not}
 use Rattle.segments.proofs.elem_segment.emit_elem.Goals as goal
 
-pub returns-in-To : goal.returns-in-To
-returns-in-To c = search (elem_to, elem_not) depth 12
+pub returns : goal.returns
+returns c = search (elem_to, c.in_ok-a.was) depth 12
 
-pub returns-in-Refused : goal.returns-in-Refused
-returns-in-Refused c = search (elem_to, elem_not) depth 12
+pub returns-in_err-a : goal.returns-in_err-a
+returns-in_err-a c = rw (handed _ _ c.from_residual.ensures.0 c.from_residual.ensures.1) (search (elem_not, c.in_err-a.was) depth 12)

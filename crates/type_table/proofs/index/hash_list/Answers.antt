@@ -19,5 +19,5 @@ loop-t-preserved c = search hash_again
 pub overflow_sub-result : goal.overflow_sub-result
 overflow_sub-result c = search (hash_low, rules)
 
-pub returns-in-End : goal.returns-in-End
-returns-in-End c = search hash_done
+pub returns-in-None : goal.returns-in-None
+returns-in-None c = search hash_done

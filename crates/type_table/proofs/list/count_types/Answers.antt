@@ -17,5 +17,5 @@ loop-next-smaller c = search next_less
 pub loop-next-preserved : goal.loop-next-preserved
 loop-next-preserved c = search count_again
 
-pub returns-in-End : goal.returns-in-End
-returns-in-End c = search count-done
+pub returns-in-None : goal.returns-in-None
+returns-in-None c = search count-done

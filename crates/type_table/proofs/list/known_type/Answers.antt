@@ -8,11 +8,11 @@ returns-then-left-eq0 c = search (nexts, rests) depth 8
 pub known_local-requires : goal.known_local-requires
 known_local-requires c = search next_gets
 
-pub returns-in-Got : goal.returns-in-Got
-returns-in-Got c = search (nexts, rests) depth 8
+pub returns-in-Ok : goal.returns-in-Ok
+returns-in-Ok c = search (nexts, rests) depth 8
 
-pub returns-in-Fault : goal.returns-in-Fault
-returns-in-Fault c = search (nexts, rests) depth 8
+pub returns-in-Err : goal.returns-in-Err
+returns-in-Err c = search (nexts, rests) depth 8
 
 pub returns : goal.returns
 returns c = search rests

@@ -14,11 +14,11 @@ overflow_sub-second c = search (left-some, rules)
 pub returns-else-x-y : goal.returns-else-x-y
 returns-else-x-y c = search (steps) depth 8
 
-pub returns-in-End-n : goal.returns-in-End-n
-returns-in-End-n c = search (steps) depth 8
+pub returns-in-None-n : goal.returns-in-None-n
+returns-in-None-n c = search (steps) depth 8
 
-pub returns-in-Type-n-2 : goal.returns-in-Type-n-2
-returns-in-Type-n-2 c = search (steps) depth 8
+pub returns-in-Some-n-2 : goal.returns-in-Some-n-2
+returns-in-Some-n-2 c = search (steps) depth 8
 
-pub returns-in-End-n-2 : goal.returns-in-End-n-2
-returns-in-End-n-2 c = search (steps) depth 8
+pub returns-in-None-n-2 : goal.returns-in-None-n-2
+returns-in-None-n-2 c = search (steps) depth 8

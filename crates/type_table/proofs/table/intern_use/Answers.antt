@@ -14,5 +14,5 @@ find_type-requires c = search (hash_told, use_readable, rules)
 pub add_use-requires : goal.add_use-requires
 add_use-requires c = (search rules, search rules, search (none-used, use_readable))
 
-pub returns-in-Number : goal.returns-in-Number
-returns-in-Number c = search intern_takes
+pub returns-in-Some : goal.returns-in-Some
+returns-in-Some c = search intern_takes

@@ -1,19 +1,19 @@
-use Rattle.laws.proofs.Passing.{passes}
-use Rattle.typeuse.proofs.Gets.{know_begin, know_string, know_again}
-use Rattle.typeuse.proofs.Ways.{part-past, part-stops}
+use Rattle.std.proofs.Common.{rules, refl, ap}
+use Rattle.definition.specs.Reader.{many}
+use Rattle.laws.specs.Steps.{stops}
+use Rattle.token.proofs.Counts.{one_not}
+use Rattle.token.proofs.Skips.{skip_fails, stops_read}
+use Rattle.typeuse.proofs.Gets.{knows}
 use Rattle.typeuse.proofs.known.pass_strings.Goals as goal
 
-pub loop-left-init : goal.loop-left-init
-loop-left-init c = search know_begin
-
 pub known_string-requires : goal.known_string-requires
-known_string-requires c = search know_string
+known_string-requires c = search knows
 
-pub returns-in-Fault : goal.returns-in-Fault
-returns-in-Fault c = search (passes, part-stops)
+pub returns-in_err-next : goal.returns-in_err-next
+returns-in_err-next c =
+    let stopped = one_not _ _ _ _ _ _ c.loop.invariant.passing _ (search rules) (ap stops c.in_err-next.ensures) in
+    skip_fails _ _ _ stopped c.from_residual.ensures.0 c.from_residual.ensures.1
 
-pub loop-left-preserved : goal.loop-left-preserved
-loop-left-preserved c = search (know_again, part-past)
-
-pub returns : goal.returns
-returns c = search passes
+pub loop-preserved : goal.loop-preserved
+unfolding many
+loop-preserved c = search (knows, stops_read, refl, rules)

@@ -1,9 +1,7 @@
+use Rattle.std.proofs.Common.{◌-◌}
 use Rattle.definition.specs.Token.{string}
 use Rattle.typeuse.proofs.Gets.{Knowing}
 use Rattle.typeuse.proofs.known.pass_strings.Given as goal
 
-abbrev pub invariant-loop-left : goal.invariant-loop-left
-invariant-loop-left l = Knowing string l.n l.s l.at l.left l.here
-
-abbrev pub decreases-loop-left : goal.decreases-loop-left
-decreases-loop-left l = l.left
+abbrev pub invariant-loop : goal.invariant-loop
+invariant-loop l = Knowing string l.n l.s l.at (l.n - l.counter) l.here

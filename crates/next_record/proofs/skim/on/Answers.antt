@@ -1,0 +1,5 @@
+use Rattle.next_record.proofs.Steps.{on_is}
+use Rattle.next_record.proofs.skim.on.Goals as goal
+
+pub returns : goal.returns
+returns c = search on_is
