@@ -96,6 +96,8 @@ def point4(tree):
     """Equality, copying, conversion and printing by hand: functions that only compare, cast, name or print."""
     for path, text in sources(tree):
         for name, line, head, body in functions(text):
+            if name == "from":
+                continue
             flat = re.sub(r"\s+", " ", re.sub(r"//.*", "", body)).strip()
             if re.fullmatch(rf"\w+(?:\.\w+)? as {NUMBER}", flat):
                 yield path, line, f"{name} is a cast"

@@ -281,10 +281,10 @@ pub record Operating (s w : List ℕ) (l : Locals) (depth left n r here : ℕ) (
   pub room : length out ≡ length old
 
 -- none is done yet
-pub operating_begin : (s w : List ℕ) (l : Locals) (left n : ℕ) (old : List ℕ) (at : ℕ) (p : Place) → length old * 1 < 2 ^ 63 → Within p
-    → Resolvable s w (operands_by (tree_at left s) n p.rec p.at) → Operating s w l p.depth left n p.rec p.at old at old at p n
+pub operating_begin : (s w : List ℕ) (l : Locals) (left n : ℕ) (old : List ℕ) (at : ℕ) (p : Place) (due : ℕ) → length old * 1 < 2 ^ 63 → Within p
+    → Resolvable s w (operands_by (tree_at left s) n p.rec p.at) → due ≡ n → Operating s w l p.depth left n p.rec p.at old at old at p due
 unfolding concat_map
-operating_begin s w l left n old at p h v r = record {
+operating_begin s w l left n old at p due h v r e = rw e (record {
   done = [];
   so_far = put-none at (omega arith);
   same = all_after (stretch_answer s w l p.depth (operands_by (tree_at left s) n p.rec p.at));
@@ -294,7 +294,7 @@ operating_begin s w l left n old at p h v r = record {
   within = v;
   level = refl;
   room = refl;
-}
+})
 
 module _ {s w : List ℕ} {l : Locals} {depth left n r here : ℕ} {old : List ℕ} {at : ℕ} {out : List ℕ} {o : ℕ} {p : Place} {due : ℕ} (v : Operating s w l depth left n r here old at out o p due) where
   pub operating_within : Within p
@@ -379,12 +379,10 @@ module _ {s w : List ℕ} {l : Locals} {depth left n r here : ℕ} {old : List �
             room = put-length z.put ∙ v.room;
           }
 
-pub ruleset operatings = (operating_again, operating_done)
-
 -- ## `operands_or_none`
 
 -- none, and so nothing is written
 pub operands-absent : (s w : List ℕ) (l : Locals) (left n : ℕ) (old : List ℕ) (at : ℕ) (p : Place) → length old * 1 < 2 ^ 63 → Within p
     → Resolvable s w (operands_by (tree_at left s) n p.rec p.at) → n ≡ 0
     → StretchTurned s w l p.depth (operands_by (tree_at left s) n p.rec p.at) old at (Ok (Some (at, (record { at = p.at; rec = p.rec; depth = p.depth })))) old
-operands-absent s w l left n old at p h v r e = operating_done (operating_begin s w l left n old at p h v r) (omega arith)
+operands-absent s w l left n old at p h v r e = operating_done (operating_begin s w l left n old at p n h v r refl) (omega arith)

@@ -153,23 +153,17 @@ pub fn emit_operands(
 {
     let mut o = at;
     let mut q = p;
-    let mut due = n;
-    while 0 < due {
-        match emit_folded(s, work, out, o, q, l, left)? {
-            Some((b, end)) => {
-                o = b;
-                // by its fields: a copy of the whole waits for all three to be stored
-                q = Place {
-                    at: end.at,
-                    rec: end.rec,
-                    depth: end.depth,
-                };
-            }
-            None => {
-                return Ok(None);
-            }
-        }
-        due -= 1;
+    for _ in 0..n {
+        let Some((b, end)) = emit_folded(s, work, out, o, q, l, left)? else {
+            return Ok(None);
+        };
+        o = b;
+        // by its fields: a copy of the whole waits for all three to be stored
+        q = Place {
+            at: end.at,
+            rec: end.rec,
+            depth: end.depth,
+        };
     }
     Ok(Some((o, q)))
 }

@@ -95,19 +95,15 @@ pub record Putting (s w₀ : List ℕ) (from place n : ℕ) (w : List ℕ) (here
   pub kept : Kept LOCALS w₀ w
   pub readable : Gets (many left param s here)
 
-pub putting_begin : (s w : List ℕ) (from place n : ℕ) → from + length (elements param s place n) ≤ 128 → Gets (many n param s place) → Putting s w from place n w place n from
-putting_begin s w from place n h g = record { same = refl; all = refl; sum = refl; low = (let e = ids_length s place n in omega arith); kept = kept_same LOCALS w; readable = g }
+putting_start : (s w : List ℕ) (from place n m : ℕ) → m ≡ n → from + length (elements param s place n) ≤ 128 → Gets (many n param s place) → Putting s w from place n w place m from
+putting_start s w from place n m q h g = rw q (record { same = refl; all = refl; sum = refl; low = (let e = ids_length s place n in omega arith); kept = kept_same LOCALS w; readable = g })
+
+pub putting_begin : (s w : List ℕ) (from place n : ℕ) → from + length (elements param s place n) ≤ 128 → Gets (many n param s place) → Putting s w from place n w place (n - 0) from
+putting_begin s w from place n h g = putting_start s w from place n (n - 0) (omega arith) h g
 
 module _ {s w₀ : List ℕ} {from place n : ℕ} {w : List ℕ} {here left count : ℕ} (v : Putting s w₀ from place n w here left count) where
-  pub putting_long : length w ≡ length w₀
-  putting_long = v.kept.long
-
   pub putting_area : WORDS ≤ length w₀ → WORDS ≤ length w
   putting_area h = omega (arith, v.kept.long)
-
-  -- the next one can be read
-  pub putting_readable : 0 < left → Gets (param s here)
-  putting_readable h = first-readable s here left v.readable h
 
   -- none is left
   putting_end : (rec : ℕ) → ids_at s here left ≡ [] → PutsAll s w₀ from place n rec (Ok count) w
@@ -119,34 +115,43 @@ module _ {s w₀ : List ℕ} {from place n : ℕ} {w : List ℕ} {here left coun
     kept = v.kept;
   }
 
-  pub putting_done : (rec : ℕ) → left ≤ 0 → PutsAll s w₀ from place n rec (Ok count) w
-  putting_done rec h = putting_end rec (ids_none s here left h)
+  -- the list ends where one is not read
+  pub putting_fault : (r : Read Local) → param s here ≡ local_at s r → (rec : ℕ) (k : Fault) → r ≡ Err k → PutsAll s w₀ from place n rec (Ok count) w
+  putting_fault r told rec k d = putting_end rec (ids_fault s here r told left k d)
+
+-- `i` of the list are put
+module _ {s w₀ : List ℕ} {from place n : ℕ} {w : List ℕ} {here i count : ℕ} (v : Putting s w₀ from place n w here (n - i) count) where
+  -- the next one can be read
+  pub putting_readable : i < n → Gets (param s here)
+  putting_readable h = first-readable s here (n - i) v.readable (omega arith)
+
+  pub putting_done : (rec : ℕ) → n ≤ i → PutsAll s w₀ from place n rec (Ok count) w
+  putting_done rec h = putting_end v rec (ids_none s here (n - i) (omega arith))
 
   module _ (r : Read Local) (told : param s here ≡ local_at s r) where
-    -- the list ends where one is not read
-    pub putting_fault : (rec : ℕ) (k : Fault) → r ≡ Err k → PutsAll s w₀ from place n rec (Ok count) w
-    putting_fault rec k d = putting_end rec (ids_fault s here r told left k d)
+    module _ (x : Local) (next : ℕ) (h : i < n) (d : r ≡ Ok (x, next)) where
+      rest : n - (i + 1) ≡ n - i - 1
+      rest = omega arith
 
-    module _ (x : Local) (next : ℕ) (h : 0 < left) (d : r ≡ Ok (x, next)) where
-      ids : ids_at s here left ≡ id_of s x.id ∷ ids_at s next (left - 1)
-      ids = ids_cons s here r told left x next h d
+      ids : ids_at s here (n - i) ≡ id_of s x.id ∷ ids_at s next (n - (i + 1))
+      ids = rw rest (ids_cons s here r told (n - i) x next (omega arith) d)
 
       -- there is room for one more
       pub putting_room : count < 128
       putting_room = (let e = ap length ids in let a = v.sum in let b = v.low in omega arith)
 
       module _ (rec : ℕ) (w' : List ℕ) where
-        pub putting_again : (m : ℕ) → PutsOne s w count x.id rec (Ok m) w' → Putting s w₀ from place n w' next (left - 1) m
+        pub putting_again : (m : ℕ) → PutsOne s w count x.id rec (Ok m) w' → Putting s w₀ from place n w' next (n - (i + 1)) m
         unfolding PutsOne distinct
         putting_again m put =
             let o : More s w count (id_of s x.id) m w' = put in
             record {
               same = rw o.entries (sym (rw (ids, o.free) refl) ∙ v.same);
-              all = rw o.entries (append_assoc (names count s w LOCALS) (id_of s x.id ∷ []) (ids_at s next (left - 1)) ∙ sym (rw ids refl) ∙ v.all);
+              all = rw o.entries (append_assoc (names count s w LOCALS) (id_of s x.id ∷ []) (ids_at s next (n - (i + 1))) ∙ sym (rw ids refl) ∙ v.all);
               sum = (let e = ap length ids in let a = v.sum in let b = o.one in omega arith);
               low = v.low;
               kept = kept_then v.kept o.kept;
-              readable = rest-readable s here left v.readable r told x next h d;
+              readable = rw rest (rest-readable s here (n - i) v.readable r told x next (omega arith) d);
             }
 
         pub putting_stops : (j : Refusal) → PutsOne s w count x.id rec (Err j) w' → PutsAll s w₀ from place n rec (Err j) w'

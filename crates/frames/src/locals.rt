@@ -32,20 +32,13 @@ fn put_locals(s: &[u8], work: &mut [u32], from: u32, l: List, rec: u32) -> Resol
     ensures { PutsAll s.now work.old from l.at l.count rec result work.new }
 {
     let mut at = l.at;
-    let mut left = l.count;
     let mut count = from;
-    while 0 < left {
-        match typeuse::known_local(s, at) {
-            Ok((x, next)) => {
-                let more = put_local(s, work, count, x.id, rec)?;
-                at = next;
-                count = more;
-                left -= 1;
-            }
-            Err(_) => {
-                return Ok(count);
-            }
-        }
+    for _ in 0..l.count {
+        let Ok((x, next)) = typeuse::known_local(s, at) else {
+            return Ok(count);
+        };
+        count = put_local(s, work, count, x.id, rec)?;
+        at = next;
     }
     Ok(count)
 }

@@ -59,47 +59,50 @@ global-is Γ rec t c old at o mid q new p w = put-emits const_bytes entry_of (λ
 
 -- ## `put_exports`
 
--- some are put and counted, and so many are left
-pub record Exporting (s : Bytes) (at count : ℕ) (k : Space) (n : ℕ) (old : List ℕ) (place o c here left : ℕ) (out : List ℕ) : Type 0 where
+-- `i` of them are put
+pub record Exporting (s : Bytes) (at n : ℕ) (k : Space) (x : ℕ) (old : List ℕ) (place o i here : ℕ) (out : List ℕ) : Type 0 where
   pub done : List Bytes
   pub so_far : Put old place (joined done) o out
-  pub number : c ≡ length done
-  pub few : c + left ≤ count
-  pub same : export_entries k n (elements string s at count) ≡ done ++ export_entries k n (elements string s here left)
+  pub number : i ≡ length done
+  pub few : i ≤ n
+  pub same : export_entries k x (elements string s at n) ≡ done ++ export_entries k x (elements string s here (n - i))
 
-pub export_begin : (s : Bytes) (at count : ℕ) (k : Space) (n : ℕ) (old : List ℕ) (place : ℕ) → length old * 1 < 2 ^ 63 → Exporting s at count k n old place place 0 at count old
+pub export_begin : (s : Bytes) (at n : ℕ) (k : Space) (x : ℕ) (old : List ℕ) (place : ℕ) → length old * 1 < 2 ^ 63 → Exporting s at n k x old place place 0 at old
 unfolding joined concat_map
-export_begin s at count k n old place h = record { done = []; so_far = put-none place (omega arith); number = refl; few = omega arith; same = refl }
+export_begin s at n k x old place h =
+    let e : n - 0 ≡ n = omega arith in
+    record { done = []; so_far = put-none place (omega arith); number = refl; few = omega arith; same = rw e refl }
 
-module _ {s : Bytes} {at count : ℕ} {k : Space} {n : ℕ} {old : List ℕ} {place o c here left : ℕ} {out : List ℕ} (v : Exporting s at count k n old place o c here left out) where
-  abbrev Ended : Type 0
-  Ended = Lists (export_entries k n (elements string s at count)) old place (record { to = o; count = c }) out
+module _ {s : Bytes} {at n : ℕ} {k : Space} {x : ℕ} {old : List ℕ} {place o i here : ℕ} {out : List ℕ} (v : Exporting s at n k x old place o i here out) where
+  abbrev Ended : ℕ → Type 0
+  Ended c = Lists (export_entries k x (elements string s at n)) old place (record { to = o; count = c }) out
 
-  none_left : elements string s here left ≡ [] → Ended
+  none_left : elements string s here (n - i) ≡ [] → Ended i
   unfolding export_entries
   none_left e =
-      let f : export_entries k n (elements string s at count) ≡ v.done = v.same ∙ rw e (append-nil v.done) in
+      let f : export_entries k x (elements string s at n) ≡ v.done = v.same ∙ rw e (append-nil v.done) in
       rw f (record { put = v.so_far; number = v.number })
 
-  pub export_done : left ≤ 0 → Ended
-  export_done h = none_left (elements-none string s here left h)
-
-  -- the buffer keeps its length
-  pub export_long : length out ≡ length old
-  export_long = v.so_far.long
+  pub export_done : n ≤ i → Ended n
+  export_done h = counted n (omega (arith, v.few)) (none_left (elements-none string s here (n - i) (omega arith)))
+    where
+      counted : (c : ℕ) → c ≡ i → Ended i → Ended c
+      counted c e l = rw e l
 
   module _ (q : Read Part) (told : string s here ≡ part_at s q) where
-    pub export_fault : (m : Fault) → q ≡ Err m → Ended
-    export_fault m d = none_left (elements-fault string s here left (number m) (told ∙ ap (part_at s) d))
+    pub export_fault : (m : Fault) → q ≡ Err m → Ended i
+    export_fault m d = none_left (elements-fault string s here (n - i) (number m) (told ∙ ap (part_at s) d))
 
-    pub export_again : (e : Part) (next r : ℕ) (new : List ℕ) → 0 < left → q ≡ Ok (e, next) → Put out o (sized (part_of s e) ++ (code k ∷ u n)) r new → Exporting s at count k n old place r (c + 1) next (left - 1) new
+    pub export_again : (e : Part) (next r : ℕ) (new : List ℕ) → i < n → q ≡ Ok (e, next) → Put out o (sized (part_of s e) ++ (code k ∷ u x)) r new → Exporting s at n k x old place r (i + 1) next new
     unfolding joined export_entries
     export_again e next r new h d p = record {
-      done = v.done ++ ((sized (part_of s e) ++ (code k ∷ u n)) ∷ []);
-      so_far = put_is (put_then v.so_far p) (sym (concat_snoc (λ (x : Bytes). x) v.done (sized (part_of s e) ++ (code k ∷ u n))));
-      number = omega (arith, v.number, length-append v.done ((sized (part_of s e) ++ (code k ∷ u n)) ∷ []));
-      few = omega (arith, v.few);
+      done = v.done ++ ((sized (part_of s e) ++ (code k ∷ u x)) ∷ []);
+      so_far = put_is (put_then v.so_far p) (sym (concat_snoc (λ (y : Bytes). y) v.done (sized (part_of s e) ++ (code k ∷ u x))));
+      number = omega (arith, v.number, length-append v.done ((sized (part_of s e) ++ (code k ∷ u x)) ∷ []));
+      few = omega arith;
       same = v.same ∙
-          (let f : elements string s here left ≡ part_of s e ∷ elements string s next (left - 1) = elements-more string s here left (part_of s e) next h (told ∙ ap (part_at s) d) in
-          rw f (sym (append_assoc v.done ((sized (part_of s e) ++ (code k ∷ u n)) ∷ []) (export_entries k n (elements string s next (left - 1))))));
+          (let m : n - (i + 1) ≡ n - i - 1 = omega arith in
+          let f : elements string s here (n - i) ≡ part_of s e ∷ elements string s next (n - (i + 1)) =
+          rw m (elements-more string s here (n - i) (part_of s e) next (omega arith) (told ∙ ap (part_at s) d)) in
+          rw f (sym (append_assoc v.done ((sized (part_of s e) ++ (code k ∷ u x)) ∷ []) (export_entries k x (elements string s next (n - (i + 1)))))));
     }

@@ -1,7 +1,8 @@
 -- Laws of lists of value types.
 use Rattle.std.specs.Prelude.{Ok, Err}
 use Rattle.syntax.specs.Reads.{Read}
-use Prim.Native.Nat.{ℕ, ◌-◌, ◌≤◌, ◌<◌}
+use Prim.Native.Nat.{ℕ, ◌+◌, ◌-◌, ◌*◌, ◌^◌, ◌≤◌, ◌<◌}
+use native.Mathlib.Omega.{arith}
 use mathlib.Core.Path.{◌≡◌, refl, sym, ◌∙◌, ap}
 use mathlib.Core.Bool.{Bool, false}
 use mathlib.Core.List.{List, [], ◌∷◌}
@@ -19,25 +20,35 @@ use Rattle.syntax.specs.declared.Fault.{Fault}
 use Rattle.type_table.specs.Table.{typed, types_of, signature_of}
 use Rattle.type_table.specs.declared.entry.Signature.{Signature}
 use Rattle.type_table.proofs.Lists.{types_are}
-use Rattle.binary.proofs.Putting.{Putting, putting_more, putting_done}
+use Rattle.binary.proofs.Putting.{Putting, putting_begin, putting_more, putting_done}
 use Rattle.operands.proofs.Elements.{elements-none, elements-more, elements-fault}
 
 -- ## `put_each_type`
 
--- some are put, and so many are left
-module _ (s : Bytes) (named : Bool) (here left : ℕ) {old : List ℕ} {place : ℕ} {all : List ℕ} {o : ℕ} {out : List ℕ} (v : Putting old place all (elements (typed named) s here left) o out) where
-  pub types_again : (q : Read ℕ) → typed named s here ≡ byte_at q → (t next r : ℕ) (new : List ℕ) → 0 < left → q ≡ Ok (t, next) → Put out o (t ∷ []) r new → Putting old place all (elements (typed named) s next (left - 1)) r new
-  types_again q told t next r new h d p = putting_more v (t ∷ []) (elements (typed named) s next (left - 1)) r new (elements-more (typed named) s here left t next h (told ∙ ap byte_at d)) p
+module _ (s : Bytes) (named : Bool) (place n : ℕ) where
+  pub types_begin : (old : List ℕ) (at : ℕ) → length old * 1 < 2 ^ 63 → Putting old at (elements (typed named) s place n) (elements (typed named) s place (n - 0)) at old
+  types_begin old at h =
+      let e : n - 0 ≡ n = omega arith in
+      putting_begin old at (elements (typed named) s place n) (elements (typed named) s place (n - 0)) h (ap (elements (typed named) s place) e)
 
-module _ (s : Bytes) (named : Bool) (l : Code.List) (here left : ℕ) {old : List ℕ} {place o : ℕ} {out : List ℕ} (v : Putting old place (elements (typed named) s l.at l.count) (elements (typed named) s here left) o out) where
-  none_left : elements (typed named) s here left ≡ [] → Put old place (types_of named s l) o out
+-- `i` of them are put
+module _ (s : Bytes) (named : Bool) (n i here : ℕ) {old : List ℕ} {at : ℕ} {all : List ℕ} {o : ℕ} {out : List ℕ} (v : Putting old at all (elements (typed named) s here (n - i)) o out) where
+  pub types_again : (q : Read ℕ) → typed named s here ≡ byte_at q → (t next r : ℕ) (new : List ℕ) → i < n → q ≡ Ok (t, next) → Put out o (t ∷ []) r new
+      → Putting old at all (elements (typed named) s next (n - (i + 1))) r new
+  types_again q told t next r new h d p =
+      let m : n - (i + 1) ≡ n - i - 1 = omega arith in
+      putting_more v (t ∷ []) (elements (typed named) s next (n - (i + 1))) r new
+      (rw m (elements-more (typed named) s here (n - i) t next (omega arith) (told ∙ ap byte_at d))) p
+
+module _ (s : Bytes) (named : Bool) (l : Code.List) (here i : ℕ) {old : List ℕ} {at o : ℕ} {out : List ℕ} (v : Putting old at (elements (typed named) s l.at l.count) (elements (typed named) s here (l.count - i)) o out) where
+  none_left : elements (typed named) s here (l.count - i) ≡ [] → Put old at (types_of named s l) o out
   none_left e = put_is (putting_done v e) (sym (types_are named s l))
 
-  pub types-done : left ≤ 0 → Put old place (types_of named s l) o out
-  types-done h = none_left (elements-none (typed named) s here left h)
+  pub types_done : l.count ≤ i → Put old at (types_of named s l) o out
+  types_done h = none_left (elements-none (typed named) s here (l.count - i) (omega arith))
 
-  pub types-fault : (q : Read ℕ) (n : Fault) → typed named s here ≡ byte_at q → q ≡ Err n → Put old place (types_of named s l) o out
-  types-fault q n told d = none_left (elements-fault (typed named) s here left (number n) (told ∙ ap byte_at d))
+  pub types_fault : (q : Read ℕ) (k : Fault) → typed named s here ≡ byte_at q → q ≡ Err k → Put old at (types_of named s l) o out
+  types_fault q k told d = none_left (elements-fault (typed named) s here (l.count - i) (number k) (told ∙ ap byte_at d))
 
 -- ## After their count
 

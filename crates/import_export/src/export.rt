@@ -41,23 +41,21 @@ pub fn put_exports(s: &[u8], out: &mut [u8], at: usize, exports: List, k: Space,
     ensures { Lists (export_entries (space_of k) n (list_of Token.string s.now exports)) out.old at result out.new }
 {
     let mut to = at;
-    let mut count: u64 = 0;
     let mut here = exports.at;
-    let mut left = exports.count;
-    while 0 < left {
-        match token::read_string(s, here) {
-            Ok((name, next)) => {
-                to = binary::put_export(s, out, to, name, k, n);
-                count += 1;
-                here = next;
-                left -= 1;
-            }
-            Err(_) => {
-                return Ends { to, count };
-            }
-        }
+    for i in 0..exports.count {
+        let Ok((name, next)) = token::read_string(s, here) else {
+            return Ends {
+                to,
+                count: i as u64,
+            };
+        };
+        to = binary::put_export(s, out, to, name, k, n);
+        here = next;
     }
-    Ends { to, count }
+    Ends {
+        to,
+        count: exports.count as u64,
+    }
 }
 
 pub fn emit_start(

@@ -25,18 +25,12 @@ fn put_each_type(s: &[u8], out: &mut [u8], at: usize, named: bool, l: List) -> u
 {
     let mut o = at;
     let mut here = l.at;
-    let mut left = l.count;
-    while 0 < left {
-        match read_type(s, here, named) {
-            Ok((value, next)) => {
-                o = emit::put(out, o, value);
-                here = next;
-                left -= 1;
-            }
-            Err(_) => {
-                return o;
-            }
-        }
+    for _ in 0..l.count {
+        let Ok((value, next)) = read_type(s, here, named) else {
+            return o;
+        };
+        o = emit::put(out, o, value);
+        here = next;
     }
     o
 }

@@ -35,27 +35,30 @@ use Rattle.operands.proofs.Elements.{elements-none, elements-more, elements-faul
 
 -- ## `count_indices`
 
--- n are counted, and so many are left
-pub record Counting (s : Bytes) (at count n here left : ℕ) : Type 0 where
-  pub few : n + left ≤ count
-  pub same : length (elements present s at count) ≡ n + length (elements present s here left)
+-- n are counted, and the others are left
+pub record Counting (s : Bytes) (at count n here : ℕ) : Type 0 where
+  pub few : n ≤ count
+  pub same : length (elements present s at count) ≡ n + length (elements present s here (count - n))
 
-pub count-begin : (s : Bytes) (at count : ℕ) → Counting s at count 0 at count
-count-begin s at count = record { few = omega arith; same = omega arith }
+pub count-begin : (s : Bytes) (at count : ℕ) → Counting s at count 0 at
+count-begin s at count = let m : count - 0 ≡ count = omega arith in record { few = omega arith; same = rw m (omega arith) }
 
-module _ {s : Bytes} {at count n here left : ℕ} (v : Counting s at count n here left) where
+module _ {s : Bytes} {at count n here : ℕ} (v : Counting s at count n here) where
   module _ (q : Read Index) (told : present s here ≡ index_at s q) where
-    pub count_again : (x : Index) (next : ℕ) → 0 < left → q ≡ Ok (x, next) → Counting s at count (n + 1) next (left - 1)
+    pub count_again : (x : Index) (next : ℕ) → n < count → q ≡ Ok (x, next) → Counting s at count (n + 1) next
     count_again x next h d = record {
-      few = omega (arith, v.few);
-      same = v.same ∙ (let e : elements present s here left ≡ index_of s x ∷ elements present s next (left - 1) = elements-more present s here left (index_of s x) next h (told ∙ ap (index_at s) d) in rw e (omega arith));
+      few = omega arith;
+      same = v.same ∙ (
+          let e : elements present s here (count - n) ≡ index_of s x ∷ elements present s next (count - n - 1) = elements-more present s here (count - n) (index_of s x) next (omega arith) (told ∙ ap (index_at s) d) in
+          let m : count - n - 1 ≡ count - (n + 1) = omega arith in
+          rw (e, m) (omega arith));
     }
 
     pub count-fault : (k : Fault) → q ≡ Err k → n ≡ length (elements present s at count)
-    count-fault k d = (let e : elements present s here left ≡ [] = elements-fault present s here left (number k) (told ∙ ap (index_at s) d) in omega (arith, rw e at v.same))
+    count-fault k d = (let e : elements present s here (count - n) ≡ [] = elements-fault present s here (count - n) (number k) (told ∙ ap (index_at s) d) in omega (arith, rw e at v.same))
 
-  pub count-done : left ≤ 0 → n ≡ length (elements present s at count)
-  count-done h = (let e : elements present s here left ≡ [] = elements-none present s here left h in omega (arith, rw e at v.same))
+  pub count-done : count ≤ n → count ≡ length (elements present s at count)
+  count-done h = (let e : elements present s here (count - n) ≡ [] = elements-none present s here (count - n) (omega arith) in omega (arith, v.few, rw e at v.same))
 
 -- ## Each in its turn: f resolves an index, and g is the bytes of what it means
 
@@ -66,9 +69,9 @@ pub record Resolving {A : Type 0} (f : Syntax.Index Identifier → Answer A) (g 
   pub same : each f (elements present s at count) ≡ (each f (elements present s here left) >>= after done)
 
 module _ {A : Type 0} (f : Syntax.Index Identifier → Answer A) (g : A → Bytes) (s : Bytes) (at count : ℕ) (old : Bytes) (place : ℕ) where
-  pub each-begin : length old * 1 < 2 ^ 63 → Resolving f g s at count old place at count place old
+  pub each-begin : length old * 1 < 2 ^ 63 → Resolving f g s at count old place at (count - 0) place old
   unfolding concat_map
-  each-begin h = record { done = []; so_far = put-none place (omega arith); same = each_all f (elements present s at count) }
+  each-begin h = let m : count - 0 ≡ count = omega arith in rw m (record { done = []; so_far = put-none place (omega arith); same = each_all f (elements present s at count) })
 
 module _ {A : Type 0} {f : Syntax.Index Identifier → Answer A} {g : A → Bytes} {s : Bytes} {at count : ℕ} {old : Bytes} {place here left o : ℕ} {out : Bytes} (v : Resolving f g s at count old place here left o out) where
   abbrev Ended : ℕ → Bytes → Type 0
@@ -102,8 +105,8 @@ module _ {A : Type 0} {f : Syntax.Index Identifier → Answer A} {g : A → Byte
       stop : (new : Bytes) (r : Refusal) → f (index_of s x) ≡ refused_by r → Emits (concat_map g) (each f (elements present s at count)) old place (Err r) new
       stop new r e = halts (concat_map g) (each f (elements present s at count)) old place new r (v.same ∙ rw more (each_not f (index_of s x) (elements present s next (left - 1)) v.done r e))
 
-      pub each_again : (y : Resolved ℕ) (r : ℕ) (new : Bytes) → Emits g (f (index_of s x)) out o y new → y ≡ Ok r → Resolving f g s at count old place next (left - 1) r new
-      each_again y r new w e = let z : Wrote g (f (index_of s x)) out o r new = was_wrote g (f (index_of s x)) out o new y r w e in turn z.value r new z.is z.put
+      pub each_again : (y : Resolved ℕ) (r : ℕ) (new : Bytes) (k : ℕ) → Emits g (f (index_of s x)) out o y new → y ≡ Ok r → k ≡ left - 1 → Resolving f g s at count old place next k r new
+      each_again y r new k w e m = let z : Wrote g (f (index_of s x)) out o r new = was_wrote g (f (index_of s x)) out o new y r w e in rw m (turn z.value r new z.is z.put)
 
       pub each_halts : (y : Resolved ℕ) (r : Refusal) (new : Bytes) → Emits g (f (index_of s x)) out o y new → y ≡ Err r → Emits (concat_map g) (each f (elements present s at count)) old place (Err r) new
       each_halts y r new w e = stop new r (has_halted g (f (index_of s x)) out o new y r w e)

@@ -18,22 +18,14 @@ use syntax::{Index, List, Resolved, Space};
 pub fn count_indices(s: &[u8], l: List) -> u64
     ensures { result ≡ length (list_of Token.present s.now l) }
 {
-    let mut n: u64 = 0;
     let mut here = l.at;
-    let mut left = l.count;
-    while 0 < left {
-        match token::read_present(s, here) {
-            Ok((_, next)) => {
-                n += 1;
-                here = next;
-                left -= 1;
-            }
-            Err(_) => {
-                return n;
-            }
-        }
+    for i in 0..l.count {
+        let Ok((_, next)) = token::read_present(s, here) else {
+            return i as u64;
+        };
+        here = next;
     }
-    n
+    l.count as u64
 }
 
 // An item's number.
@@ -110,19 +102,12 @@ fn emit_each(
 {
     let mut o = at;
     let mut here = l.at;
-    let mut left = l.count;
-    while 0 < left {
-        match token::read_present(s, here) {
-            Ok((x, next)) => {
-                let a = emit_index(s, work, out, o, to, x, rec)?;
-                o = a;
-                here = next;
-                left -= 1;
-            }
-            Err(_) => {
-                return Ok(o);
-            }
-        }
+    for _ in 0..l.count {
+        let Ok((x, next)) = token::read_present(s, here) else {
+            return Ok(o);
+        };
+        o = emit_index(s, work, out, o, to, x, rec)?;
+        here = next;
     }
     Ok(o)
 }

@@ -94,49 +94,51 @@ rest-readable s at n g q told l next h d = (know_again n s at n at param (know_b
 
 -- ## `run_from`
 
--- n of the type are counted, and so many locals are left, which can be read
-pub record Running (s : Bytes) (at count value n here left : ℕ) : Type 0 where
-  pub one : 0 < n
-  pub sum : n + left ≡ count + 1
-  pub same : runs (value ∷ local_types s at count) ≡ pending n value (runs (local_types s here left))
-  pub readable : Gets (many left param s here)
+-- after `i` of the locals: `i + 1` of the type are counted, and the other locals can be read
+pub record Running (s : Bytes) (at count value i here : ℕ) : Type 0 where
+  pub some : i ≤ count
+  pub same : runs (value ∷ local_types s at count) ≡ pending (i + 1) value (runs (local_types s here (count - i)))
+  pub readable : Gets (many (count - i) param s here)
 
-pub run-begin : (s : Bytes) (at count value : ℕ) → Gets (many count param s at) → Running s at count value 1 at count
+pub run-begin : (s : Bytes) (at count value : ℕ) → Gets (many count param s at) → Running s at count value 0 at
 unfolding runs
-run-begin s at count value g = record { one = omega arith; sum = omega arith; same = sym (pending_one value (runs (local_types s at count))); readable = g }
+run-begin s at count value g = (let m : count - 0 ≡ count = omega arith in
+    record { some = omega arith; same = rw m (sym (pending_one value (runs (local_types s at count)))); readable = rw m g })
 
-module _ {s : Bytes} {at count value n here left : ℕ} (v : Running s at count value n here left) where
+module _ {s : Bytes} {at count value i here : ℕ} (v : Running s at count value i here) where
   abbrev Ended : Type 0
-  Ended = RunIs s at count value (record { count = n; value = value; next = here; left = left })
-
-  -- no local is left
-  none_left : local_types s here left ≡ [] → Ended
-  unfolding runs pending
-  none_left e = record { first = v.same ∙ rw e; fewer = omega (arith, v.sum, v.one); readable = v.readable }
+  Ended = RunIs s at count value (record { count = i + 1; value = value; next = here; left = count - i })
 
   -- the next local can be read
-  pub run-readable : 0 < left → Gets (param s here)
-  run-readable h = first-readable s here left v.readable h
+  pub run-readable : i < count → Gets (param s here)
+  run-readable h = first-readable s here (count - i) v.readable (omega (arith, h))
 
-  pub run-done : left ≤ 0 → Ended
-  run-done h = none_left (types-none s here left (omega arith))
+  -- no local is left
+  pub run-done : count ≤ i → RunIs s at count value (record { count = count + 1; value = value; next = here; left = 0 })
+  unfolding runs pending
+  run-done h = (let k : i ≡ count = omega (arith, v.some, h) in let m : count - count ≡ 0 = omega arith in let e : local_types s here (count - i) ≡ [] = types-none s here (count - i) (omega (arith, h)) in
+      record { first = v.same ∙ rw (e, k, types-none s here 0 refl); fewer = omega arith; readable = rw (k, m) at v.readable })
 
   module _ (q : Read Local) (told : param s here ≡ local_at s q) where
     pub run-fault : (k : Fault) → q ≡ Err k → Ended
-    run-fault k d = none_left (types-fault s here left q told k d)
+    unfolding runs pending
+    run-fault k d = (let e : local_types s here (count - i) ≡ [] = types-fault s here (count - i) q told k d in
+        record { first = v.same ∙ rw e; fewer = omega arith; readable = v.readable })
 
-    module _ (l : Local) (next : ℕ) (h : 0 < left) (d : q ≡ Ok (l, next)) where
+    module _ (l : Local) (next : ℕ) (h : i < count) (d : q ≡ Ok (l, next)) where
+      others : local_types s here (count - i) ≡ l.value ∷ local_types s next (count - (i + 1))
+      others = let m : count - (i + 1) ≡ count - i - 1 = omega arith in rw m (types_cons s here (count - i) q told l next (omega (arith, h)) d)
+
       -- a local of another type
       pub run-other : (l.value ≡ value → ⊥) → Ended
       unfolding runs
-      run-other g = (let e : local_types s here left ≡ l.value ∷ local_types s next (left - 1) = types_cons s here left q told l next h d in
-          record { first = v.same ∙ rw e (pending_ends n value l.value (runs (local_types s next (left - 1))) g); fewer = omega (arith, v.sum, v.one); readable = v.readable })
+      run-other g = record { first = v.same ∙ rw others (pending_ends (i + 1) value l.value (runs (local_types s next (count - (i + 1)))) g); fewer = omega arith; readable = v.readable }
 
       -- one more of the same
-      pub run_again : l.value ≡ value → Running s at count value (n + 1) next (left - 1)
+      pub run_again : l.value ≡ value → Running s at count value (i + 1) next
       unfolding runs
-      run_again g = (let e : local_types s here left ≡ l.value ∷ local_types s next (left - 1) = types_cons s here left q told l next h d in
-          record { one = omega arith; sum = omega (arith, v.sum); same = v.same ∙ rw (e, g) (pending_more n value (runs (local_types s next (left - 1)))); readable = rest-readable s here left v.readable q told l next h d })
+      run_again g = (let m : count - (i + 1) ≡ count - i - 1 = omega arith in
+          record { some = omega (arith, h); same = v.same ∙ rw (others, g) (pending_more (i + 1) value (runs (local_types s next (count - (i + 1))))); readable = rw m (rest-readable s here (count - i) v.readable q told l next (omega (arith, h)) d) })
 
 -- ## `run_at`
 
@@ -164,7 +166,7 @@ module _ (s : Bytes) (at count : ℕ) (q : Read Local) (told : param s at ≡ lo
 pub ruleset run-ats = (no_locals_lem, no_local, first_run)
 
 -- fewer locals are left
-pub run-fewer : (s : Bytes) (at count : ℕ) (q : Option Run) (r : Run) → RunAtIs s at count q → q ≡ Some r → r.left < count
+run-fewer : (s : Bytes) (at count : ℕ) (q : Option Run) (r : Run) → RunAtIs s at count q → q ≡ Some r → r.left < count
 unfolding RunAtIs
 run-fewer s at count q r w d = (let v : FirstRun s at count r = rw d at w in v.fewer)
 
@@ -213,8 +215,9 @@ module _ {s : Bytes} {at count n here left : ℕ} (v : Counting s at count n her
   pub count-nothing : (q : Option Run) → RunAtIs s here left q → q ≡ None → n ≡ length (runs (local_types s at count))
   count-nothing q w d = (let e : runs (local_types s here left) ≡ [] = run-nothing s here left q w d in omega (arith, rw e at v.same))
 
-  pub count-done : left ≤ 0 → n ≡ length (runs (local_types s at count))
-  count-done h = (let e : runs (local_types s here left) ≡ [] = runs_none s here left h in omega (arith, rw e at v.same))
+  -- as many runs as locals
+  pub count-done : count ≤ n → count ≡ length (runs (local_types s at count))
+  count-done h = (let e : runs (local_types s here left) ≡ [] = runs_none s here left (omega (arith, v.few, h)) in omega (arith, v.few, h, rw e at v.same))
 
 -- ## `put_each_run`
 
@@ -231,5 +234,5 @@ module _ (s : Bytes) (here left : ℕ) {old : Bytes} {place : ℕ} {all : Bytes}
   pub put-nothing : (q : Option Run) → RunAtIs s here left q → q ≡ None → Put old place all o out
   put-nothing q w d = none_to_put (run-nothing s here left q w d)
 
-  pub put-done : left ≤ 0 → Put old place all o out
-  put-done h = none_to_put (runs_none s here left h)
+  pub put-done : {at count n : ℕ} → Counting s at count n here left → count ≤ n → Put old place all o out
+  put-done c h = none_to_put (runs_none s here left (omega (arith, c.few, h)))

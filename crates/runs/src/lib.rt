@@ -27,39 +27,31 @@ fn run_from(s: &[u8], at: usize, count: u32, value: u8) -> Run
     requires { Gets (many count Token.param s.now at) }
     ensures { RunIs s.now at count value result }
 {
-    let mut n: u64 = 1;
     let mut here = at;
-    let mut left = count;
-    while 0 < left {
-        match typeuse::known_local(s, here) {
-            Ok((l, next)) => {
-                if l.value != value {
-                    return Run {
-                        count: n,
-                        value,
-                        next: here,
-                        left,
-                    };
-                }
-                here = next;
-            }
-            Err(_) => {
-                return Run {
-                    count: n,
-                    value,
-                    next: here,
-                    left,
-                };
-            }
+    for i in 0..count {
+        let Ok((l, next)) = typeuse::known_local(s, here) else {
+            return Run {
+                count: i as u64 + 1,
+                value,
+                next: here,
+                left: count - i,
+            };
+        };
+        if l.value != value {
+            return Run {
+                count: i as u64 + 1,
+                value,
+                next: here,
+                left: count - i,
+            };
         }
-        n += 1;
-        left -= 1;
+        here = next;
     }
     Run {
-        count: n,
+        count: count as u64 + 1,
         value,
         next: here,
-        left,
+        left: 0,
     }
 }
 
@@ -77,26 +69,21 @@ fn run_at(s: &[u8], at: usize, count: u32) -> Option<Run>
     }
 }
 
+// A run has at least one local: so there are no more runs than locals.
 pub fn count_runs(s: &[u8], ls: List) -> u64
     requires { Readable s.now ls }
     ensures { result ≡ length (Binary.runs (local_types s.now ls.at ls.count)) }
 {
-    let mut n: u64 = 0;
     let mut here = ls.at;
     let mut left = ls.count;
-    while 0 < left {
-        match run_at(s, here, left) {
-            Some(r) => {
-                n += 1;
-                here = r.next;
-                left = r.left;
-            }
-            None => {
-                return n;
-            }
-        }
+    for n in 0..ls.count {
+        let Some(r) = run_at(s, here, left) else {
+            return n as u64;
+        };
+        here = r.next;
+        left = r.left;
     }
-    n
+    ls.count as u64
 }
 
 fn put_run(out: &mut [u8], at: usize, r: Run) -> usize
@@ -119,23 +106,23 @@ fn put_each_run(s: &[u8], out: &mut [u8], at: usize, ls: List) -> Runs
     ensures { (result.count ≤ ls.count) × (result.count ≡ length (Binary.runs (local_types s.now ls.at ls.count))) × Put out.old at (concat_map Binary.run (Binary.runs (local_types s.now ls.at ls.count))) result.next out.new }
 {
     let mut o = at;
-    let mut n: u64 = 0;
     let mut here = ls.at;
     let mut left = ls.count;
-    while 0 < left {
-        match run_at(s, here, left) {
-            Some(r) => {
-                o = put_run(out, o, r);
-                n += 1;
-                here = r.next;
-                left = r.left;
-            }
-            None => {
-                return Runs { count: n, next: o };
-            }
-        }
+    for n in 0..ls.count {
+        let Some(r) = run_at(s, here, left) else {
+            return Runs {
+                count: n as u64,
+                next: o,
+            };
+        };
+        o = put_run(out, o, r);
+        here = r.next;
+        left = r.left;
     }
-    Runs { count: n, next: o }
+    Runs {
+        count: ls.count as u64,
+        next: o,
+    }
 }
 
 // The runs after their count. Where that is one group, the runs are put first, after a place for it.

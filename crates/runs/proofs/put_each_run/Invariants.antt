@@ -5,8 +5,5 @@ use Rattle.definition.specs.Binary.{runs, run}
 use Rattle.runs.specs.Locals.{local_types}
 use Rattle.runs.proofs.put_each_run.Given as goal
 
-abbrev pub invariant-loop-left : goal.invariant-loop-left
-invariant-loop-left l = Counting l.s l.initial.here l.initial.left l.n l.here l.left × Putting l.initial.out l.at (concat_map run (runs (local_types l.s l.initial.here l.initial.left))) (concat_map run (runs (local_types l.s l.here l.left))) l.o l.out
-
-abbrev pub decreases-loop-left : goal.decreases-loop-left
-decreases-loop-left l = l.left
+abbrev pub invariant-loop-n : goal.invariant-loop-n
+invariant-loop-n l = Counting l.s l.initial.here l.initial.left l.n l.here l.left × Putting l.initial.out l.at (concat_map run (runs (local_types l.s l.initial.here l.initial.left))) (concat_map run (runs (local_types l.s l.here l.left))) l.o l.out

@@ -1,8 +1,5 @@
 use Rattle.runs.proofs.Running.{Running}
 use Rattle.runs.proofs.run_from.Given as goal
 
-abbrev pub invariant-loop-left : goal.invariant-loop-left
-invariant-loop-left l = Running l.s l.at l.count l.value l.n l.here l.left
-
-abbrev pub decreases-loop-left : goal.decreases-loop-left
-decreases-loop-left l = l.left
+abbrev pub invariant-loop-i : goal.invariant-loop-i
+invariant-loop-i l = Running l.s l.at l.count l.value l.i l.here

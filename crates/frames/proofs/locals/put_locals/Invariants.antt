@@ -1,8 +1,6 @@
+use Prim.Native.Nat.{◌-◌}
 use Rattle.frames.proofs.Entries.{Putting}
 use Rattle.frames.proofs.locals.put_locals.Given as goal
 
-abbrev pub invariant-loop-left : goal.invariant-loop-left
-invariant-loop-left l = Putting l.s l.initial.work l.from l.initial.at l.initial.left l.work l.at l.left l.count
-
-abbrev pub decreases-loop-left : goal.decreases-loop-left
-decreases-loop-left l = l.left
+abbrev pub invariant-loop : goal.invariant-loop
+invariant-loop x = Putting x.s x.initial.work x.from x.fn.l.at x.fn.l.count x.work x.at (x.fn.l.count - x.counter) x.count

@@ -1,15 +1,14 @@
-use Rattle.binary.proofs.Putting.{putting_begin}
-use Rattle.import_export.proofs.ValTypes.{types_again, types-fault, types-done}
+use Rattle.import_export.proofs.ValTypes.{types_begin, types_again, types_fault, types_done}
 use Rattle.import_export.proofs.types.put_each_type.Goals as goal
 
-pub loop-left-init : goal.loop-left-init
-loop-left-init c = search putting_begin
+pub loop-init : goal.loop-init
+loop-init c = search types_begin
 
-pub loop-left-preserved : goal.loop-left-preserved
-loop-left-preserved c = search types_again
+pub loop-preserved : goal.loop-preserved
+loop-preserved c = search types_again
 
-pub returns-in-Err : goal.returns-in-Err
-returns-in-Err c = search types-fault
+pub returns-in_default : goal.returns-in_default
+returns-in_default c = search types_fault
 
 pub returns : goal.returns
-returns c = search types-done
+returns c = search types_done
