@@ -27,6 +27,11 @@ use Rattle.next_record.specs.Places.{record_past, place_after}
 abbrev pub fault_at : {A : Type 0} → FaultAt → Answer A × Place
 fault_at e = (refused (number e.fault) e.place.rec, e.place)
 
+-- the answer of a reader that is lent its place, and the place that it leaves, as that of a reader by value
+abbrev pub with_place : {A : Type 0} → Result A Fault → Place → Result (A × Place) FaultAt
+with_place (Ok x) q = Ok (x, q)
+with_place (Err f) q = Err (record { fault = f; place = q })
+
 -- outside a body
 abbrev pub outside_answer : Bytes → Result (Field × Place) FaultAt → Answer (Rec Identifier) × Place
 outside_answer s (Ok x) = (ok (field (field_of s x.0)), x.1)

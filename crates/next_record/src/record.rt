@@ -8,7 +8,7 @@ ghost use Rattle.syntax.specs.Refusals.{number};
 ghost use Rattle.next_record.specs.Marks.{mark_of};
 ghost use Rattle.next_record.specs.Uses.{sort_names};
 ghost use Rattle.next_record.specs.Places.{body_of, record_past, field_record_at};
-ghost use Rattle.next_record.specs.Answers.{outside_answer, inside_answer, field_depth};
+ghost use Rattle.next_record.specs.Answers.{outside_answer, inside_answer, field_depth, on_past, refused_here};
 ghost use Rattle.next_record.specs.Folds.{turn_at};
 
 use crate::marks::Innermost;
@@ -145,6 +145,20 @@ pub fn field_record(s: &[u8], p: Place, seen: Seen) -> Result<(Field, Place), Fa
         place: p,
     })?;
     Ok((f, after_record(p, at, field_depth(f))))
+}
+
+// An instruction was passed, after which the place is so deep.
+pub fn on(p: Place, at: usize, depth: u32, what: Inside) -> Result<(Inside, Place), FaultAt>
+    requires { p.rec < 4096 }
+    ensures { result ≡ on_past p at depth what }
+{
+    Ok((what, after_record(p, at, depth)))
+}
+
+pub fn refused(p: Place, fault: Fault) -> FaultAt
+    ensures { result ≡ refused_here p fault }
+{
+    FaultAt { fault, place: p }
 }
 
 // A record of a body, and the place after it: the byte FF where no block is open, an instruction, or a folded record with all its operands. A fault

@@ -5,27 +5,13 @@ ghost use Rattle.definition.specs.Instructions as Instructions;
 ghost use Rattle.syntax.specs.Plain.{operands_is};
 ghost use Rattle.syntax.specs.Marks.{inside_of};
 ghost use Rattle.next_record.specs.Marks.{mark_of};
-ghost use Rattle.next_record.specs.Answers.{opens_in, elses_in, ends_in, plain_inside, kept_instr, inside_answer, on_past, refused_here};
+ghost use Rattle.next_record.specs.Answers.{opens_in, elses_in, ends_in, plain_inside, kept_instr, inside_answer};
 ghost use Rattle.next_record.specs.Folds.{none_do, folded_at, kept_fold};
 
 use crate::fold::read_operands;
 use crate::marks::{Innermost, may_else};
-use crate::record::{Does, FaultAt, Inside, after_record, names_data};
+use crate::record::{Does, FaultAt, Inside, names_data, on, refused};
 use syntax::{Fault, Form, Operands, Place};
-
-// An instruction was passed, after which the place is so deep.
-fn on(p: Place, at: usize, depth: u32, what: Inside) -> Result<(Inside, Place), FaultAt>
-    requires { p.rec < 4096 }
-    ensures { result ≡ on_past p at depth what }
-{
-    Ok((what, after_record(p, at, depth)))
-}
-
-fn refused(p: Place, fault: Fault) -> FaultAt
-    ensures { result ≡ refused_here p fault }
-{
-    FaultAt { fault, place: p }
-}
 
 // A block opens, where fewer than 128 are open.
 fn opens(s: &[u8], p: Place, at: usize, opcode: u8) -> Result<(Inside, Place), FaultAt>

@@ -1,5 +1,5 @@
 use Rattle.next_record.proofs.Steps.{on_is}
-use Rattle.next_record.proofs.skim.on.Goals as goal
+use Rattle.next_record.proofs.record.on.Goals as goal
 
 pub returns : goal.returns
 returns c = search on_is
