@@ -54,6 +54,11 @@ added_slots : (t : Tally) (k m n : ℕ) → Slots t → Slots (added t k m n)
 unfolding added
 added_slots t k m n h = record { sizes = length-set t.sizes k _ ∙ h.sizes; counts = length-set t.counts k _ ∙ h.counts }
 
+pub tallies_slots : (t : Tally) (es : Entries) → Slots t → Slots (tallies t es)
+unfolding tallies
+tallies_slots t [] h = h
+tallies_slots t ((k, b) ∷ es) h = tallies_slots (added t k (length b) 1) es (added_slots t k (length b) 1 h)
+
 joined_cons : (b : Bytes) (bs : List Bytes) → length (joined (b ∷ bs)) ≡ length b + length (joined bs)
 unfolding joined concat_map
 joined_cons b bs = length-append b (joined bs)

@@ -29,9 +29,9 @@ use Rattle.scope.proofs.Frames.{scope_kept, recalled-left, recalled_right, recal
 use Rattle.deinline.specs.Entry.{Entries, entries_of, both, three, three_in}
 use Rattle.deinline.proofs.Fields.{entries-append, entries-here}
 use Rattle.deinline.proofs.Uses.{recalled-here, head-here, whole_here}
-use Rattle.kept.specs.Tally.{tallies, tallied, no_tally, Keeps, Tallied, ReadyThree, ChecksIn}
+use Rattle.kept.specs.Tally.{tallies, tallied, no_tally, Slots, Keeps, Tallied, ReadyThree, ChecksIn}
 use Rattle.kept.specs.declared.tally.Tally.{Tally}
-use Rattle.kept.proofs.Tallies.{tallies-append}
+use Rattle.kept.proofs.Tallies.{tallies-append, tallies_slots}
 use Rattle.kept.proofs.Keeping.{keeps-none, keeps_then}
 use Rattle.resolve.proofs.Checking.{was_fine, was_not, area-long, kept-long, checks_fine, checks_not}
 
@@ -84,12 +84,18 @@ sweep_begin s w old c t e d f a h =
       recalled = rw e h;
     }
 
+none_slots : Slots no_tally
+none_slots = record { sizes = refl; counts = refl }
+
 module _ (s w₀ w : List ℕ) (old mid : Bytes) (c : Cursor) (t₀ t : Tally) (v : Sweeping s w₀ w old mid c t₀ t) where
   pub sweep_long : WORDS ≤ length w₀ → WORDS ≤ length w
   sweep_long h = rw v.kept.long h
 
   pub sweep_ahead : Ahead s w c
   sweep_ahead = v.ahead
+
+  pub sweep_slots : Slots t
+  sweep_slots = rw v.tally (tallies_slots no_tally v.done none_slots)
 
   module _ (m : Met) (told : visit_in c.left c s ≡ visit_of s m) where
     -- no field is left
