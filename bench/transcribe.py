@@ -31,7 +31,7 @@ def closing(text, at):
 
 def without_contracts(text):
     """A source as Rust."""
-    text = '\n'.join(line for line in text.split('\n') if not line.startswith('ghost '))
+    text = '\n'.join(line for line in text.split('\n') if not line.lstrip().startswith('ghost '))
     while True:
         clause = CLAUSE.search(text)
         if not clause:

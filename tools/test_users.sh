@@ -1,8 +1,8 @@
 #!/bin/sh
-# Tests what users meet: the example of docs/STREAM.md, the Rust crate with its
-# program, and the example in C. The parts that call the assembler need its
-# library (`tools/staticlib assembler`) and are left out, with a word, where it is
-# not there.
+# Tests what users meet: the example of docs/STREAM.md, the sources written as
+# Rust (bench/transcribe.py), the Rust crate with its program, and the example in
+# C. The parts that call the assembler need its library (`tools/staticlib
+# assembler`) and are left out, with a word, where it is not there.
 # usage: tools/test_users.sh [STREAMS]    how many are made by chance; 5,000
 set -eu
 cd "$(dirname "$0")/.."
@@ -11,6 +11,12 @@ crate=bindings/rust
 library=${BARRIZUPPA_STATICLIB:-target/staticlib}/libassembler.a
 
 python3 tools/compare/check_stream.py
+
+# what bench/transcribe.py writes is Rust
+written=$(mktemp -d)
+trap 'rm -rf "$written"' EXIT
+python3 bench/transcribe.py "$written"
+(cd "$written" && cargo build --quiet --offline)
 
 (
     cd $crate
