@@ -8,5 +8,3 @@ pub use instructions::{
     put_block_type, put_depth, put_indirect, put_local, put_memarg, put_type_no,
 };
 pub use names::{put_export, put_import_name, put_name, put_part};
-
-// Where an emitter that also resolves came to, or a refusal's number and record.

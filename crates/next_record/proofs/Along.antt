@@ -29,11 +29,11 @@ use Rattle.next_record.proofs.Heads.{head_few}
 -- ## One record
 
 module _ (left : ℕ) (s : Bytes) (does : Does) (p : Place) (due : ℕ) where
-  pub next-refused : (e : FaultAt) → L.stopped (number e.fault) e.place ≡ folded_at left s does p → NextAt left s does p due (Err e)
+  pub next-refused : (e : FaultAt Fault) → L.stopped (number e.fault) e.place ≡ folded_at left s does p → NextAt left s does p due (Err e)
   unfolding NextAt
   next-refused e h = sym h
 
-  pub next-handed : (r : Result (Optional Next.Due) FaultAt) (n : Fault) → r ≡ Err (refused_here p n) → L.stopped (number n) p ≡ folded_at left s does p → NextAt left s does p due r
+  pub next-handed : (r : Result (Optional Next.Due) (FaultAt Fault)) (n : Fault) → r ≡ Err (refused_here p n) → L.stopped (number n) p ≡ folded_at left s does p → NextAt left s does p due r
   unfolding NextAt
   next-handed r n e g = rw e (sym g)
 
@@ -269,7 +269,7 @@ module _ {nesting : ℕ} {s : Bytes} {p : Place} {n : ℕ} {does : Does} {at rec
     some-due = omega (arith, begun.is)
 
     -- a fault is handed on
-    stops-there : (r : Result (Does × Place) FaultAt) (e : FaultAt) → folded_at (left + zeros) s d Here ≡ L.stopped (number e.fault) e.place → IsErr r → IsErrAnd r (λ z. z ≡ e)
+    stops-there : (r : Result (Does × Place) (FaultAt Fault)) (e : FaultAt Fault) → folded_at (left + zeros) s d Here ≡ L.stopped (number e.fault) e.place → IsErr r → IsErrAnd r (λ z. z ≡ e)
         → fold_of r ≡ operands_by (folded_at nesting s) n does p
     stops-there r e g i h = fold_handed _ r e i h (sym (ap (λ y. on_fold y (λ o q. along s begun.rest (left + zeros) o q)) g) ∙ begun.same)
 
@@ -291,12 +291,12 @@ module _ {nesting : ℕ} {s : Bytes} {p : Place} {n : ℕ} {does : Does} {at rec
           shallow = v.shallow;
         }
 
-    pub due-refused : (r : Result (Does × Place) FaultAt) (e : FaultAt) → NextAt (left + zeros) s d Here (due / 2 ^ zeros) (Err e) → IsErr r → IsErrAnd r (λ z. z ≡ e)
+    pub due-refused : (r : Result (Does × Place) (FaultAt Fault)) (e : FaultAt Fault) → NextAt (left + zeros) s d Here (due / 2 ^ zeros) (Err e) → IsErr r → IsErrAnd r (λ z. z ≡ e)
         → fold_of r ≡ operands_by (folded_at nesting s) n does p
     unfolding NextAt
     due-refused r e told i h = stops-there r e told i h
 
-    pub full_refused : (r : Result (Does × Place) FaultAt) (e : FaultAt) → L.stopped (number e.fault) e.place ≡ folded_at (left + zeros) s d Here → IsErr r → IsErrAnd r (λ z. z ≡ e)
+    pub full_refused : (r : Result (Does × Place) (FaultAt Fault)) (e : FaultAt Fault) → L.stopped (number e.fault) e.place ≡ folded_at (left + zeros) s d Here → IsErr r → IsErrAnd r (λ z. z ≡ e)
         → fold_of r ≡ operands_by (folded_at nesting s) n does p
     full_refused r e is i h = stops-there r e (sym is) i h
 

@@ -214,11 +214,11 @@ module _ (left : ℕ) (s : Bytes) (does : Does) (p : Place) (x : Fold) where
           with_operands m n next o g j a = deeper (rw (g, ← j) a)
 
 -- the fault of a call is handed on
-pub fold_handed : (y : Fold) (r : Result (Does × Place) FaultAt) (e : FaultAt) → IsErr r → IsErrAnd r (λ z. z ≡ e) → L.stopped (number e.fault) e.place ≡ y → fold_of r ≡ y
+pub fold_handed : (y : Fold) (r : Result (Does × Place) (FaultAt Fault)) (e : FaultAt Fault) → IsErr r → IsErrAnd r (λ z. z ≡ e) → L.stopped (number e.fault) e.place ≡ y → fold_of r ≡ y
 fold_handed y (Ok x) e i h g = absurd h
 fold_handed y (Err z) e i h g = rw h g
 
-pub fold_refused : (r : Result (Does × Place) FaultAt) (p : Place) (n : Fault) → r ≡ Err (refused_here p n) → fold_of r ≡ L.stopped (number n) p
+pub fold_refused : (r : Result (Does × Place) (FaultAt Fault)) (p : Place) (n : Fault) → r ≡ Err (refused_here p n) → fold_of r ≡ L.stopped (number n) p
 fold_refused r p n e = rw e
 
 pub ruleset foldings = (no_byte, not_folded, one_too_many, too_deep, no_head, with_operands, fold_refused, handed_as, refl)

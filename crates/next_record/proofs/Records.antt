@@ -123,7 +123,7 @@ module _ (free : Room) (p : Place) (s : Bytes) where
   unfolding field_record_at place_after
   record_field f next d q g a l = rw (a, g, l, field-depth s f)
 
-  pub record_no_field : (n : Fault) (x : Result (Field × Place) FaultAt) → field_rec free s p.at ≡ fault (number n) → x ≡ Err (refused_here p n) → field_record_at free p s ≡ outside_answer s x
+  pub record_no_field : (n : Fault) (x : Result (Field × Place) (FaultAt Fault)) → field_rec free s p.at ≡ fault (number n) → x ≡ Err (refused_here p n) → field_record_at free p s ≡ outside_answer s x
   unfolding field_record_at
   record_no_field n x g a = rw (g, a)
 

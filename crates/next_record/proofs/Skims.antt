@@ -52,24 +52,24 @@ use Rattle.next_record.proofs.Steps.{handed_as}
 -- ## Instructions
 
 -- where none may come, and where there is no room for one more
-pub opens_full : (p : Place) (s : Bytes) (at op : ℕ) (e : FaultAt) → 128 < p.depth → e ≡ refused_here p F.TooMany → kept_instr p (opens_in (p.depth - 1) op s at) ≡ fault_at e
+pub opens_full : (p : Place) (s : Bytes) (at op : ℕ) (e : FaultAt Fault) → 128 < p.depth → e ≡ refused_here p F.TooMany → kept_instr p (opens_in (p.depth - 1) op s at) ≡ fault_at e
 unfolding opens_in
 opens_full p s at op e h a = rw (le-ltb (p.depth - 1) 128 (omega arith), a)
 
-pub elses-none : (p : Place) (s : Bytes) (at : ℕ) (m : Marks) (t : Bool) (e : FaultAt) → t ≡ may_else (inside_of (p.depth - 1) m).blocks → t ≡ false → e ≡ refused_here p F.BrokenBlocks
+pub elses-none : (p : Place) (s : Bytes) (at : ℕ) (m : Marks) (t : Bool) (e : FaultAt Fault) → t ≡ may_else (inside_of (p.depth - 1) m).blocks → t ≡ false → e ≡ refused_here p F.BrokenBlocks
     → kept_instr p (elses_in (p.depth - 1) m s at) ≡ fault_at e
 unfolding elses_in
 elses-none p s at m t e f h a = rw (sym f ∙ h, a)
 
-pub ends-none : (p : Place) (s : Bytes) (at : ℕ) (e : FaultAt) → p.depth < 2 → e ≡ refused_here p F.BrokenBlocks → kept_instr p (ends_in (p.depth - 1) s at) ≡ fault_at e
+pub ends-none : (p : Place) (s : Bytes) (at : ℕ) (e : FaultAt Fault) → p.depth < 2 → e ≡ refused_here p F.BrokenBlocks → kept_instr p (ends_in (p.depth - 1) s at) ≡ fault_at e
 unfolding ends_in
 ends-none p s at e h a = rw (le-ltb 0 (p.depth - 1) (omega arith), a)
 
-pub form_none : (p : Place) (m : Marks) (s : Bytes) (at op : ℕ) (r : Code.Form) (e : FaultAt) → form_of op ≡ form_is r → r ≡ FM.NoOpcode → e ≡ refused_here p F.UnknownByte
+pub form_none : (p : Place) (m : Marks) (s : Bytes) (at op : ℕ) (r : Code.Form) (e : FaultAt Fault) → form_of op ≡ form_is r → r ≡ FM.NoOpcode → e ≡ refused_here p F.UnknownByte
     → kept_instr p (formed (inside_of (p.depth - 1) m) op (form_of op) s at) ≡ fault_at e
 form_none p m s at op r e told d a = rw (told, d, a)
 
-module _ (p : Place) (s : Bytes) (at : ℕ) (o : 1 ≤ p.depth) (x : Result (Inside × Place) FaultAt) where
+module _ (p : Place) (s : Bytes) (at : ℕ) (o : 1 ≤ p.depth) (x : Result (Inside × Place) (FaultAt Fault)) where
   kept_on : (y : Syntax.Instr Identifier) (next d : ℕ) (v : Inside) → d ≡ depth_after y (p.depth - 1) + 1 → ((q : Place) → ◌≡◌ {A = Answer Kept × Place} (ok (kept_of (instr y)), q) (ok (inside_kept v), q))
       → x ≡ on_past p next d v → kept_instr p (got y next) ≡ inside_answer x
   unfolding place_after on_past
@@ -153,7 +153,7 @@ named-kept : (t : Bool) (q : Place) → ◌≡◌ {A = Answer Kept × Place} (ok
 named-kept true q = refl
 named-kept false q = refl
 
-module _ (p : Place) (m : Marks) (s : Bytes) (at op : ℕ) (o : 1 ≤ p.depth) (x : Result (Inside × Place) FaultAt) (r : Code.Form) (told : form_of op ≡ form_is r) where
+module _ (p : Place) (m : Marks) (s : Bytes) (at op : ℕ) (o : 1 ≤ p.depth) (x : Result (Inside × Place) (FaultAt Fault)) (r : Code.Form) (told : form_of op ≡ form_is r) where
   pub form_opening : r ≡ FM.Opening → kept_instr p (opens_in (p.depth - 1) op s at) ≡ inside_answer x → kept_instr p (formed (inside_of (p.depth - 1) m) op (form_of op) s at) ≡ inside_answer x
   unfolding opens_in admits
   form_opening d a = rw (told, d, inside-length (p.depth - 1) m) a
@@ -200,7 +200,7 @@ module _ (p : Place) (s : Bytes) where
       → kept_fold (folded_at 32 s none_do p) ≡ (ok (some_folded (record { uses = d.uses; names = d.names })), q)
   folded-past d q g = rw (← list_of-one (L.passed d q) g)
 
-  pub folded-refused : (r : Result (Inside × Place) FaultAt) (e : FaultAt) → L.stopped (number e.fault) e.place ≡ operands_by (folded_at 32 s) 1 none_do p → IsErr r → IsErrAnd r (λ z. z ≡ e)
+  pub folded-refused : (r : Result (Inside × Place) (FaultAt Fault)) (e : FaultAt Fault) → L.stopped (number e.fault) e.place ≡ operands_by (folded_at 32 s) 1 none_do p → IsErr r → IsErrAnd r (λ z. z ≡ e)
       → kept_fold (folded_at 32 s none_do p) ≡ inside_answer r
   folded-refused r e g i h = rw (← list_of-one (L.stopped (number e.fault) e.place) g, handed_as r e e i h refl)
 
@@ -226,7 +226,7 @@ byte-missing s at n e = go (ltb at (length s)) refl e
     go false d e = get_or_out s at (ltb-false at (length s) d)
 
 module _ (p : Place) (m : Marks) (s : Bytes) where
-  pub body-none : (n : Fault) (x : Result (Inside × Place) FaultAt) → byte s p.at ≡ fault (number n) → x ≡ Err (refused_here p n) → turn_at p m s ≡ inside_answer x
+  pub body-none : (n : Fault) (x : Result (Inside × Place) (FaultAt Fault)) → byte s p.at ≡ fault (number n) → x ≡ Err (refused_here p n) → turn_at p m s ≡ inside_answer x
   unfolding turn_at body_record_at body_rec
   body-none n x d a = rw (byte-missing s p.at (number n) d, d, a)
 

@@ -21,7 +21,7 @@ use Rattle.next_record.specs.Places.{body_of, record_past}
 use Rattle.next_record.specs.Answers.{own_depth, source_depth, field_depth, on_past}
 use Rattle.syntax.specs.Marks.{no_marks}
 use Rattle.syntax.specs.declared.Place.{Place}
-use Rattle.next_record.specs.declared.record.Inside.{Inside}
+use Rattle.syntax.specs.declared.Fault.{Fault}
 use Rattle.next_record.specs.declared.record.FaultAt.{FaultAt}
 
 -- ## Depths
@@ -69,13 +69,13 @@ mapped_err (Err e) d Q m k = k e refl m
 
 -- ## A fault that is handed on
 
-pub handed_as : {A : Type 0} (r : Result A FaultAt) (e q : FaultAt) → IsErr r → IsErrAnd r (λ z. z ≡ e) → e ≡ q → r ≡ Err q
+pub handed_as : {A : Type 0} (r : Result A (FaultAt Fault)) (e q : FaultAt Fault) → IsErr r → IsErrAnd r (λ z. z ≡ e) → e ≡ q → r ≡ Err q
 handed_as (Ok x) e q i h g = absurd h
 handed_as (Err z) e q i h g = ap Err (h ∙ g)
 
--- ## An instruction
+-- ## What was read
 
-pub on_is : (p q : Place) (next d : ℕ) (what : Inside) → q ≡ record_past p next d → ◌≡◌ {A = Result (Inside × Place) FaultAt} (Ok (what, q)) (on_past p next d what)
+pub on_is : {A : Type 0} (p q : Place) (next d : ℕ) (what : A) → q ≡ record_past p next d → ◌≡◌ {A = Result (A × Place) (FaultAt Fault)} (Ok (what, q)) (on_past p next d what)
 unfolding on_past
 on_is p q next d what e = rw e
 

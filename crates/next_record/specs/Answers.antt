@@ -24,16 +24,16 @@ use Rattle.next_record.specs.Uses.{may_use, operand_names, names_data, sort_name
 use Rattle.next_record.specs.Places.{record_past, place_after}
 
 -- a record's fault, and its place
-abbrev pub fault_at : {A : Type 0} → FaultAt → Answer A × Place
+abbrev pub fault_at : {A : Type 0} → FaultAt Fault → Answer A × Place
 fault_at e = (refused (number e.fault) e.place.rec, e.place)
 
 -- the answer of a reader that is lent its place, and the place that it leaves, as that of a reader by value
-abbrev pub with_place : {A : Type 0} → Result A Fault → Place → Result (A × Place) FaultAt
+abbrev pub with_place : {A : Type 0} → Result A Fault → Place → Result (A × Place) (FaultAt Fault)
 with_place (Ok x) q = Ok (x, q)
 with_place (Err f) q = Err (record { fault = f; place = q })
 
 -- outside a body
-abbrev pub outside_answer : Bytes → Result (Field × Place) FaultAt → Answer (Rec Identifier) × Place
+abbrev pub outside_answer : Bytes → Result (Field × Place) (FaultAt Fault) → Answer (Rec Identifier) × Place
 outside_answer s (Ok x) = (ok (field (field_of s x.0)), x.1)
 outside_answer s (Err e) = fault_at e
 
@@ -82,7 +82,7 @@ inside_kept N.Ends = an_instr false end_one
 inside_kept (N.Folded u n) = some_folded (record { uses = u; names = n })
 inside_kept N.End = an_end
 
-abbrev pub inside_answer : Result (Inside × Place) FaultAt → Answer Kept × Place
+abbrev pub inside_answer : Result (Inside × Place) (FaultAt Fault) → Answer Kept × Place
 inside_answer (Ok x) = (ok (inside_kept x.0), x.1)
 inside_answer (Err e) = fault_at e
 
@@ -105,11 +105,11 @@ ends_in k = require 8 (ltb 0 k) >> instruction 0x0B ending
 abbrev pub plain_inside : Operands → ℕ → Inside
 plain_inside w b = if sort_names w b then N.Data else N.On false
 
--- an instruction was passed, or refused
-unfoldable pub on_past : Place → ℕ → ℕ → Inside → Result (Inside × Place) FaultAt
+-- something was read, or refused
+unfoldable pub on_past : {A : Type 0} → Place → ℕ → ℕ → A → Result (A × Place) (FaultAt Fault)
 on_past p next depth what = Ok (what, record_past p next depth)
 
-abbrev pub refused_here : Place → Fault → FaultAt
+abbrev pub refused_here : {F : Type 0} → Place → F → FaultAt F
 refused_here p f = record { fault = f; place = p }
 
 -- how deep the place after a field stands: in the body of an own function, or outside

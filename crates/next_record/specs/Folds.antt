@@ -7,6 +7,7 @@ use Rattle.definition.specs.Reader.{Step, got, fault, byte}
 use Rattle.definition.specs.Instructions.{Form, opening, elsing, ending, calling, operands, form_of, fold}
 use Rattle.syntax.specs.declared.Marks.{Marks}
 use Rattle.syntax.specs.declared.Place.{Place}
+use Rattle.syntax.specs.declared.Fault.{Fault}
 use Rattle.next_record.specs.Uses.{may_use, names_data, sort_names}
 use Rattle.next_record.specs.Places.{record_past, body_record_at}
 use Rattle.next_record.specs.Answers.{Kept, some_folded, kept_at}
@@ -77,7 +78,7 @@ pub data Fold : Type 0 where
   stopped : ℕ → Place → Fold
 
 -- as the code answers
-abbrev pub fold_of : Result (Does × Place) FaultAt → Fold
+abbrev pub fold_of : Result (Does × Place) (FaultAt Fault) → Fold
 fold_of (Ok x) = passed x.0 x.1
 fold_of (Err e) = stopped (number e.fault) e.place
 
@@ -124,7 +125,7 @@ pub record PastAt (left : ℕ) (s : Bytes) (does : Does) (p : Place) (due : ℕ)
   pub most : q.rec ≤ 4096
   pub deep : q.depth ≡ p.depth
 
-unfoldable pub NextAt : ℕ → Bytes → Does → Place → ℕ → Result (Optional Due) FaultAt → Type 0
+unfoldable pub NextAt : ℕ → Bytes → Does → Place → ℕ → Result (Optional Due) (FaultAt Fault) → Type 0
 NextAt left s does p due (Ok (Some d)) = PastAt left s does p due d.does d.count d.place
 NextAt left s does p due (Ok None) = 1 ≤ left
 NextAt left s does p due (Err e) = folded_at left s does p ≡ stopped (number e.fault) e.place

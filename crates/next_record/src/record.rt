@@ -16,8 +16,8 @@ use syntax::{Fault, Field, Form, Operands, Own, Place, Seen, Source};
 
 // What a record has for a fault, and the record's place.
 #[derive(Clone, Copy)]
-pub struct FaultAt {
-    pub fault: Fault,
+pub struct FaultAt<F = Fault> {
+    pub fault: F,
     pub place: Place,
 }
 
@@ -147,15 +147,16 @@ pub fn field_record(s: &[u8], p: Place, seen: Seen) -> Result<(Field, Place), Fa
     Ok((f, after_record(p, at, field_depth(f))))
 }
 
-// An instruction was passed, after which the place is so deep.
-pub fn on(p: Place, at: usize, depth: u32, what: Inside) -> Result<(Inside, Place), FaultAt>
+// Something was read, after which the place is so deep.
+pub fn on<T>(p: Place, at: usize, depth: u32, what: T) -> Result<(T, Place), FaultAt>
     requires { p.rec < 4096 }
     ensures { result ≡ on_past p at depth what }
 {
     Ok((what, after_record(p, at, depth)))
 }
 
-pub fn refused(p: Place, fault: Fault) -> FaultAt
+// A fault of any type, at its record's place.
+pub fn refused<F>(p: Place, fault: F) -> FaultAt<F>
     ensures { result ≡ refused_here p fault }
 {
     FaultAt { fault, place: p }
@@ -167,7 +168,7 @@ pub fn body_record(s: &[u8], p: Place, last: Innermost) -> Result<(Inside, Place
     requires { (p.rec < 4096) × (1 ≤ p.depth) }
     ensures { turn_at p (mark_of last) s.now ≡ inside_answer result }
 {
-    let (b, at) = token::read_byte(s, p.at).map_err(|fault| FaultAt { fault, place: p })?;
+    let (b, at) = token::read_byte(s, p.at).map_err(|f| refused(p, f))?;
     if b == 0xF0 {
         return crate::skim::folded(s, p);
     }
@@ -175,10 +176,7 @@ pub fn body_record(s: &[u8], p: Place, last: Innermost) -> Result<(Inside, Place
         return crate::skim::pass_instr(s, p, last, at, b);
     }
     if 1 < p.depth {
-        return Err(FaultAt {
-            fault: Fault::BrokenBlocks,
-            place: p,
-        });
+        return Err(refused(p, Fault::BrokenBlocks));
     }
     Ok((Inside::End, after_record(p, at, 0)))
 }

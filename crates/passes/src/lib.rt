@@ -1,7 +1,6 @@
 // The passes in document 01's order, up to what a writer needs.
 #![tactic(auto)]
 
-ghost use Rattle.std.specs.Prelude.{◌≡◌};
 ghost use Rattle.area.specs.Flags.{strict_in};
 ghost use Rattle.walk.specs.Walk.{fields_in};
 ghost use Rattle.scope.specs.Scope.{scope_in};

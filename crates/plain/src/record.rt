@@ -14,7 +14,7 @@ ghost use Rattle.binary.specs.Emits.{Emits};
 ghost use Rattle.plain.specs.Turns.{InBody, plain_record, operand_to, indexed, StandsAfter, Turned};
 
 use scope::Locals;
-use syntax::{Index, Local, Operands, Place, Resolved, Space};
+use syntax::{Index, Operands, Place, Resolved, Space};
 
 // What an index refers to.
 #[derive(Clone, Copy)]

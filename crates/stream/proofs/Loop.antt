@@ -634,11 +634,11 @@ module _ (s : Bytes) (w₀ : List ℕ) (p : Place) (m : Marks) (c : Seen) (ended
           by_one a = one-refused d k (not_kept (body_record_at p m s).0 (ap (λ (x : Answer Kept × Place). x.0) a))
 
   -- the refusal is handed on
-  refused-by : (a : FaultAt) (b : Refusal) (r : Resolved ℕ) → b ≡ refusal a.fault a.place.rec → IsErr r → IsErrAnd r (λ z. z ≡ b) → Walks s w₀ (Err (refusal a.fault a.place.rec)) w
+  refused-by : (a : FaultAt Fault) (b : Refusal) (r : Resolved ℕ) → b ≡ refusal a.fault a.place.rec → IsErr r → IsErrAnd r (λ z. z ≡ b) → Walks s w₀ (Err (refusal a.fault a.place.rec)) w
       → Walks s w₀ r w
   refused-by a b r e i g x = rw (handed r b i g, e) x
 
-  module _ (l : p.rec < 4096) (a : FaultAt) (b : Refusal) (r : Resolved ℕ) (e : b ≡ refusal a.fault a.place.rec) (i : IsErr r) (g : IsErrAnd r (λ z. z ≡ b)) where
+  module _ (l : p.rec < 4096) (a : FaultAt Fault) (b : Refusal) (r : Resolved ℕ) (e : b ≡ refusal a.fault a.place.rec) (i : IsErr r) (g : IsErrAnd r (λ z. z ≡ b)) where
     pub refused-field : p.depth < 1 → field_record_at (room_of c) p s ≡ fault_at a → Walks s w₀ r w
     refused-field d x = refused-by a b r e i g (field-refused l a.place d a.fault x)
 

@@ -2,4 +2,4 @@ use Rattle.next_record.proofs.Steps.{on_is}
 use Rattle.next_record.proofs.record.on.Goals as goal
 
 pub returns : goal.returns
-returns c = search on_is
+returns g c = search on_is
